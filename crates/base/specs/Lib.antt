@@ -1,0 +1,6 @@
+pub mod Choice
+pub mod Check
+pub mod Lists
+pub mod Keys
+pub mod Walk
+pub mod Opened
