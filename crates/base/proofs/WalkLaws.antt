@@ -1,6 +1,6 @@
 -- The laws of a walk: it is its first step and then the walk from there; a walk that ends well is any other's that steps alike. Assumes nothing.
 use mathlib.Core.Path.{_≡_, refl, sym, ap, _∙_}
-use mathlib.Core.List.{List, [], _∷_}
+use mathlib.Core.List.{[]}
 use Prim.Native.Nat.{ℕ, zero, suc, _<_}
 use native.Mathlib.Omega.{arith}
 use Rattle.base.specs.Walk.{Step, more, over, Got, before, follow, steps, walk, Lower}

@@ -7,7 +7,7 @@ use Rattle.base.specs.Choice.{pick}
 use Rattle.base.specs.Check.{Check, ok, bind, refuse}
 use Rattle.forest.specs.Forest.{Forest, nil, tree, Tup, tuplesOf, valued, beside}
 use Rattle.forest.specs.Rule.{treeOf}
-use Rattle.forest.specs.Acts.{Act, insert, delete, modify, UTup, Acts, done, act, actsOf}
+use Rattle.forest.specs.Acts.{insert, delete, modify, UTup, Acts, done, act, actsOf}
 
 -- how many entries of a run have code c
 unfoldable pub count : ℕ → Forest → ℕ
