@@ -1,0 +1,3 @@
+pub mod Builders
+pub mod Samples
+pub mod Papers
