@@ -1,3 +1,5 @@
 pub mod Builders
 pub mod Samples
 pub mod Papers
+pub mod Neighbours
+pub mod Spelling

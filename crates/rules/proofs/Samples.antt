@@ -3,18 +3,16 @@ use mathlib.Core.Path.{_≡_}
 use mathlib.Core.List.{List, [], _∷_}
 use Prim.Native.Nat.{ℕ}
 use lib.IntN.{ℤ}
-use Rattle.base.specs.Check.{Check, ok, no, bind, Passed, passed}
+use Rattle.base.specs.Check.{Check, ok, no, Passed, passed}
 use Rattle.base.specs.Lists.{each}
 use Rattle.skeleton.specs.File.{Field}
 use Rattle.fields.specs.Bytes.{signed32}
-use Rattle.fields.specs.Values.{Val}
 use Rattle.forest.specs.Forest.{Tup, tuplesOf}
 use Rattle.rules.specs.Coordinates.{Coord, coordsIn}
 use Rattle.rules.specs.Grammar.{Mode, inDataset, inUpdate}
 use Rattle.rules.specs.Record.{Rec, datasetRecord, updateRecord}
-use Rattle.rules.specs.Written.{Dataset, writtenFields, writtenLength, number12}
+use Rattle.rules.specs.Written.{writtenFields, writtenLength, number12}
 use Rattle.rules.specs.Outcome.{Outcome, done, refused}
-use Rattle.rules.specs.File.{Sent}
 use Rattle.rules.specs.Update.{step, steps, updated}
 use Rattle.base.specs.Opened.{opened as baseOpened}
 use Rattle.skeleton.specs.Opened.{opened as skeletonOpened}
