@@ -1,5 +1,5 @@
 -- The tuples of a field one by one: a walk over them is its first tuple, and then the walk from there. Assumes nothing.
-use Prim.Native.Nat.{ℕ, zero, suc, _+_, _<_}
+use Prim.Native.Nat.{ℕ, suc, _+_, _<_}
 use mathlib.Core.Path.{_≡_, refl, ap, _∙_}
 use mathlib.Core.Bool.{Bool, true, false}
 use mathlib.Core.Option.{Option, none, some}
@@ -10,13 +10,12 @@ use lib.ListN.{length, drop, length-drop}
 use lib.Dec.{ltb, eqb}
 use Rattle.base.specs.Choice.{pick}
 use Rattle.base.specs.Lists.{empty}
-use Rattle.base.specs.Walk.{Step, more, over, follow, walk, Lower}
+use Rattle.base.specs.Walk.{more, over, follow, Lower}
 use Rattle.base.proofs.WalkLaws.{walk-step}
 use Rattle.fields.specs.Sizes.{onSize, sizes}
-use Rattle.fields.specs.Values.{Val, values}
+use Rattle.fields.specs.Values.{values}
 use Rattle.fields.specs.Content.{tupleStep, tuples, tallied, tally}
 use Rattle.fields.specs.declared.Sub.{Sub}
-use Rattle.fields.specs.declared.Tally.{Tally}
 use Rattle.fields.specs.declared.Tally.the-variants.{Whole, Short}
 
 -- each tuple leaves fewer bytes
