@@ -7,6 +7,7 @@ pub mod build;
 pub mod file;
 pub mod listing;
 pub mod model;
+pub mod samples;
 pub mod sent;
 pub mod skeleton;
 pub mod subfields;
