@@ -5,6 +5,7 @@ pub mod answer;
 pub mod batch;
 pub mod build;
 pub mod file;
+pub mod generate;
 pub mod listing;
 pub mod model;
 pub mod samples;
