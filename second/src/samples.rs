@@ -3,7 +3,7 @@
 use crate::answer::{self, Answered, WORKSPACE};
 use crate::batch::{framed, Case};
 use crate::build::{
-    attr, c2il, c2it, cocc, field, file, foid, frid, inas, irid, mrid, prid, spas, tuples, Field, Tuple,
+    attr, c2il, c2it, cocc, field, file, foid, frid, inas, irid, mrid, prid, spas, Field, Tuple,
 };
 
 /// A sample file: its name and its bytes.
@@ -265,6 +265,7 @@ pub fn samples() -> Vec<Sample> {
 #[cfg(test)]
 mod tests {
     use super::*;
+    use crate::build::tuples;
 
     fn numbers() -> Vec<String> {
         let files = samples();
