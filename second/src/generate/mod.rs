@@ -15,14 +15,14 @@ pub use scatter::{random_case, Scattered};
 use crate::batch::Case;
 use random::Random;
 
-/// A corpus of so many cases. The directed ones are at most a quarter of it, and those of many megabytes come only
+/// A corpus of so many cases. The directed ones are at most two fifths of it, and those of many megabytes come only
 /// where all the directed ones find room.
 pub fn corpus(seed: u64, count: usize) -> Vec<Case> {
     let mut random = Random::new(seed);
-    let whole = count / 4 >= directed::count();
-    let mut cases: Vec<Case> = if whole { directed::all() } else { directed::small() };
+    let share = count * 2 / 5;
+    let mut cases = if share >= directed::count() { directed::all() } else { directed::small() };
     random.shuffle(&mut cases);
-    cases.truncate(count / 4);
+    cases.truncate(share);
     cases.extend((cases.len()..count).map(|number| random_case(seed, number).case));
     random.shuffle(&mut cases);
     cases

@@ -11,6 +11,9 @@ use crate::batch::{Case, LISTING, READ, UPDATE, WRITE};
 /// The workspace that the updater asks for.
 const WORKSPACE: usize = 400_000;
 
+/// The longest input that the listing program reads.
+const LISTED: usize = 65_536;
+
 /// A random case, and the chart that its output says where it was made to be accepted.
 pub struct Scattered {
     pub case: Case,
@@ -53,7 +56,12 @@ fn single_case(random: &mut Random, operation: u8, chart: Chart) -> Scattered {
     let records = form::records(&chart, &mut Form::Free(random));
     let dataset = arrived(random, records, fate);
     let (out, roomy) = room(random, &chart);
-    let accepted = (fate == Fate::Whole && (roomy || operation == READ)).then_some(chart);
+    let fits = match operation {
+        READ => true,
+        WRITE => roomy,
+        _ => dataset.len() <= LISTED,
+    };
+    let accepted = (fate == Fate::Whole && fits).then_some(chart);
     let case = match operation {
         READ => Case::read(dataset),
         WRITE => Case::write(dataset, out),

@@ -109,7 +109,8 @@ fn entries_changed(table: &mut Table) {
     edited(table, "a value set below", &[(22, 1, 0, 3, ""), (25, 2, 1, 3, "z")], &[a, empty, b, (25, 2, 2, 1, "z"), complex, d, last]);
     edited(table, "a subtree deleted, with a value that is ignored", &[(22, 1, 0, 2, "any")], &[a, (22, 1, 0, 1, "")]);
     edited(table, "a first of its code deleted below", &[(22, 1, 0, 3, ""), (25, 1, 1, 2, "")], &[a, empty, (25, 1, 2, 1, "c"), (26, 1, 2, 1, ""), (27, 1, 4, 1, "d"), last]);
-    edited(table, "all deleted", &[(22, 2, 0, 2, ""), (22, 1, 0, 2, ""), (21, 1, 0, 2, "")], &[]);
+    let none = changed_in(after_with(FEATURE, feature(3, &[])), FEATURE, |f| drop(f.remove(2)));
+    table.acts_done("attributes: all deleted", &[edit(&[(22, 2, 0, 2, ""), (22, 1, 0, 2, ""), (21, 1, 0, 2, "")])], &none);
     let children_gone = [(22, 1, 0, 3, ""), (26, 1, 1, 3, ""), (27, 1, 2, 2, "")];
     edited(table, "a last child deleted: the parent stays", &children_gone, &[a, empty, b, c, complex, last]);
     let then_valued = [children_gone[0], children_gone[1], children_gone[2], (26, 1, 1, 3, "v")];

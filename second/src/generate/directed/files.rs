@@ -57,7 +57,8 @@ fn kinds(table: &mut Table) {
     for (earlier, first) in news.iter().enumerate() {
         for later in &news[earlier + 1..] {
             let records = [dataset()[..3].to_vec(), vec![later.clone(), first.clone()]].concat();
-            table.dataset("a kind after a later kind", &records, 4, 5);
+            let [first, later] = [first, later].map(|fields| String::from_utf8_lossy(&fields[0].tag));
+            table.dataset(&format!("{first} after {later}"), &records, 4, 5);
         }
     }
     let own_fault = [dataset(), vec![vec![irid(0, 1, 1, 1)]]].concat();

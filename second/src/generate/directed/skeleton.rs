@@ -63,7 +63,7 @@ fn ends(table: &mut Table) {
     both_files(table, "23 bytes that are no leader", 1, 0, |b| *b = vec![0; 23]);
     both_files(table, "a leader and nothing else", 1, 0, |b| b.truncate(24));
     both_files(table, "24 bytes that are no leader", 2, 0, |b| *b = vec![0; 24]);
-    both_files(table, "the last byte lost", 1, 1, |b| drop(b.pop()));
+    both_files(table, "the last byte lost", 1, 1, |b| b.truncate(b.len() - 1));
     both_files(table, "one byte behind the last record", 1, 2, |b| b.push(0x1e));
     both_files(table, "23 bytes behind the last record", 1, 2, |b| b.extend([b' '; 23]));
     both_files(table, "24 bytes behind the last record", 2, 2, |b| b.extend([b'0'; 24]));
