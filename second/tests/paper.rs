@@ -329,8 +329,7 @@ fn fields_lie_from_position_0_without_gaps_in_directory_order() {
 fn fields_fill_the_record() {
     let grown = |bytes: &mut Vec<u8>| {
         bytes.push(0x1e);
-        let length = bytes.len();
-        set_digits(bytes, 0, length);
+        state_length(bytes, 0);
     };
     assert_eq!(spoiled_fault(POINT, grown), 3);
     assert_eq!(spoiled_fault(DESCRIPTIVE, grown), 3);

@@ -167,6 +167,12 @@ pub fn set_digits(bytes: &mut [u8], at: usize, value: usize) {
     bytes[at..at + 5].copy_from_slice(format!("{value:05}").as_bytes());
 }
 
+/// States the record's length in its leader, wrong by so many bytes.
+pub fn state_length(bytes: &mut [u8], off_by: isize) {
+    let length = bytes.len().wrapping_add_signed(off_by);
+    set_digits(bytes, 0, length);
+}
+
 /// A record from directory entries as they are told (tag, length, position), whatever the field bytes are.
 pub fn raw(first: bool, entries: &[(&str, usize, usize)], area: &[u8]) -> Vec<u8> {
     let (middle, end) = if first { ("3LE1 09", " ! ") } else { (" D     ", "   ") };
