@@ -174,6 +174,19 @@ fn information_associations_are_never_joined() {
 }
 
 #[test]
+fn every_kind_takes_any_number_of_information_associations() {
+    for count in [0, 1, 2, 500] {
+        let associations: Record = (0..count).map(|role| inas(1, 5, role, INSERT, &[])).collect();
+        let record = |before: &[Field], after: &[Field]| [before, &associations, after].concat();
+        assert_good(INFORMATION, record(&[irid(1, 20, 1, INSERT), attr(&[(1, 1, 0, INSERT, "v")])], &[]));
+        assert_good(POINT, record(&[prid(1, 1, INSERT)], &[c2it(1, 2)]));
+        assert_good(MULTI_POINT, record(&[mrid(1, 1, INSERT)], &[c2il(&[(1, 2)])]));
+        let spatial = spas(&[(110, 1, 1, 0, 0, INSERT)]);
+        assert_good(FEATURE, record(&[frid(1, 30, 1, INSERT), foid(1, 1, 1)], &[spatial]));
+    }
+}
+
+#[test]
 fn an_empty_list_has_no_field() {
     let bare = vec![frid(1, 30, 1, INSERT), foid(7, 8, 9)];
     assert_written(FEATURE, [&bare[..], &[attr(&[]), spas(&[])]].concat(), bare);
@@ -396,6 +409,23 @@ fn edition_is_1_to_65_534_and_update_number_0_to_65_534() {
     for (edition, number) in [(1, 0), (65_534, 65_534)] {
         assert_good(GENERAL, general(edition, number));
     }
+}
+
+#[test]
+fn the_updates_identification_has_the_same_ranges() {
+    let update = |general: Field| given(&with(update_records(&[]), GENERAL, vec![general]));
+    let wrong = [
+        dsid(0, NAME, EDITION, NUMBER + 1),
+        dsid(u32::MAX, NAME, EDITION, NUMBER + 1),
+        dsid(1, NAME, 0, NUMBER + 1),
+        dsid(1, NAME, 65_535, NUMBER + 1),
+        dsid(1, NAME, EDITION, 65_535),
+        poked(dsid(1, NAME, EDITION, NUMBER + 1), 0, 110),
+    ];
+    for general in wrong {
+        assert_eq!(file_refused(update(general)), (5, 2, 2));
+    }
+    done(&Case::update(given(&base()), update(dsid(u32::MAX - 1, NAME, EDITION, NUMBER + 1)), ROOM, WORK));
 }
 
 #[test]
@@ -915,7 +945,8 @@ fn workspace_is_zero_when_done_and_when_refused() {
 fn the_count_is_of_all_records_of_dataset_or_result() {
     assert_eq!(counted(&given(&base())), 10);
     assert_eq!(reply(&Case::write(given(&base()), ROOM)).count, 10);
-    let changes = [vec![prid(8, 1, INSERT), c2it(0, 0)], vec![prid(9, 1, INSERT), c2it(0, 0)], vec![prid(2, 5, DELETE)]];
+    let changes =
+        [vec![prid(8, 1, INSERT), c2it(0, 0)], vec![prid(9, 1, INSERT), c2it(0, 0)], vec![prid(2, 5, DELETE)]];
     assert_eq!(reply(&Case::update(given(&base()), update_file(&changes), ROOM, WORK)).count, 11);
     assert_eq!(counted(&given(&base()[..3])), 3);
 }

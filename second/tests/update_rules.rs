@@ -13,7 +13,7 @@ fn feature_change(fields: &[Field]) -> Record {
     [&[frid(1, 30, 2, MODIFY)], fields].concat()
 }
 
-/// The number with which a dataset's feature is refused for these attributes; 0 where they are good and stay as they are.
+/// The number with which a dataset's feature is refused for these attributes; 0 where they are good and kept.
 fn tree_fault(tuples: &[Tuple]) -> u32 {
     let record = feature(1, &[attr(tuples)]);
     let dataset = given(&base_with(FEATURE, record.clone()));
@@ -327,7 +327,8 @@ fn a_modify_needs_version_old_plus_one_and_the_code_unchanged() {
 
 #[test]
 fn records_of_different_keys_have_versions_of_their_own() {
-    let update = [vec![prid(1, 2, MODIFY)], vec![prid(2, 5, MODIFY)], vec![prid(1, 3, MODIFY)], vec![prid(2, 6, MODIFY)]];
+    let update =
+        [vec![prid(1, 2, MODIFY)], vec![prid(2, 5, MODIFY)], vec![prid(1, 3, MODIFY)], vec![prid(2, 6, MODIFY)]];
     let mut result = base();
     result[POINT - 1][0] = prid(1, 3, INSERT);
     result[SECOND_POINT - 1][0] = prid(2, 6, INSERT);
@@ -443,7 +444,8 @@ fn a_spatial_association_is_appended_and_removed_by_key() {
 #[test]
 fn a_field_of_a_modify_may_insert_and_delete_in_turn() {
     let stored = [(110, 1, 1, 1, 1, INSERT), (115, 1, 2, 2, 2, INSERT)];
-    let change = [(110, 2, 1, 3, 3, INSERT), (110, 1, 1, 0, 0, DELETE), (110, 2, 1, 0, 0, DELETE), (110, 1, 2, 4, 4, INSERT)];
+    let change =
+        [(110, 2, 1, 3, 3, INSERT), (110, 1, 1, 0, 0, DELETE), (110, 2, 1, 0, 0, DELETE), (110, 1, 2, 4, 4, INSERT)];
     let left = [stored[1], change[3]];
     assert_becomes(feature(1, &[spas(&stored)]), feature_change(&[spas(&change)]), feature(2, &[spas(&left)]));
 }
@@ -656,7 +658,13 @@ fn an_inserted_entry_leads_to_its_own_children() {
 #[test]
 fn a_parent_is_a_tuple_of_the_update_and_no_stored_place() {
     // Stored place 2 is the entry of code 2; the update's tuple 2 is the entry of code 3.
-    let old = [(1, 1, 0, INSERT, ""), (2, 1, 1, INSERT, ""), (9, 1, 2, INSERT, "a"), (3, 1, 1, INSERT, ""), (9, 1, 4, INSERT, "b")];
+    let old = [
+        (1, 1, 0, INSERT, ""),
+        (2, 1, 1, INSERT, ""),
+        (9, 1, 2, INSERT, "a"),
+        (3, 1, 1, INSERT, ""),
+        (9, 1, 4, INSERT, "b"),
+    ];
     let change = [(1, 1, 0, MODIFY, ""), (3, 1, 1, MODIFY, ""), (9, 1, 2, MODIFY, "x")];
     let mut new = old;
     new[4].4 = "x";
@@ -688,12 +696,7 @@ fn a_parent_keeps_leading_while_entries_before_it_come() {
 
 #[test]
 fn a_delete_takes_the_subtree_and_renumbers_the_rest() {
-    let new = [
-        (1, 1, 0, INSERT, "a"),
-        (4, 1, 0, INSERT, "b"),
-        (1, 2, 0, INSERT, "e"),
-        (5, 1, 0, INSERT, "f"),
-    ];
+    let new = [(1, 1, 0, INSERT, "a"), (4, 1, 0, INSERT, "b"), (1, 2, 0, INSERT, "e"), (5, 1, 0, INSERT, "f")];
     assert_attributes(&GROVE, &[(1, 2, 0, DELETE, "")], &new);
     let new = [
         (4, 1, 0, INSERT, "b"),
@@ -791,6 +794,20 @@ fn many_entries_take_indices_and_parents_of_two_bytes() {
     new[count as usize - 1].4 = "w";
     new.extend([(9, 1, 0, INSERT, ""), (8, 1, count + 1, INSERT, "x")]);
     assert_attributes(&old, &change, &new);
+}
+
+#[test]
+fn a_tree_may_be_as_deep_as_its_record_is_long() {
+    let depth = 12_400;
+    let chain = |instruction: u8, value| -> Vec<Tuple> {
+        let mut chain: Vec<Tuple> = (0..depth).map(|parent| (1, 1, parent, instruction, "")).collect();
+        chain[depth as usize - 1].4 = value;
+        chain
+    };
+    assert_eq!(tree_fault(&chain(INSERT, "leaf")), 0);
+    assert_attributes(&chain(INSERT, "leaf"), &chain(MODIFY, "new leaf"), &chain(INSERT, "new leaf"));
+    assert_attributes(&chain(INSERT, "leaf"), &[(1, 1, 0, DELETE, "")], &[]);
+    assert_attributes(&[], &chain(INSERT, "leaf"), &chain(INSERT, "leaf"));
 }
 
 // ---- references ----
