@@ -7,7 +7,7 @@ use native.Mathlib.Nat.{add-zero, sub-self, sub-zero}
 use native.Mathlib.Omega.{arith}
 use lib.ListN.{length, getD, set, length-set}
 use Rattle.memory.specs.Put.{part, put}
-use Rattle.memory.proofs.PutLaws.{length-put, put-nil, put-one, put-put, put-put-last-first, length-part, part-none, part-all, part-cons, part-snoc, Outside, getD-put-outside}
+use Rattle.memory.proofs.PutLaws.{length-put, put-nil, put-one, put-put, put-put-last-first, length-part, part-none, part-all, part-cons, part-snoc, getD-part, Outside, getD-put-outside}
 
 -- what the loop has reached: of the n elements ys, which it stores from index `at` on, those from i up to j stand in d, which was d₀
 pub record Stored (at n : ℕ) (ys d₀ : List ℕ) (i j : ℕ) (d : List ℕ) : Type 0 where
@@ -30,9 +30,9 @@ stored-all {at} {n} {ys} {d₀} {i} {j} {d} s h k =
     s .is ∙ rw (first, last, add-zero, sub-zero, part-all n ys (s .size))
 
 -- a turn upwards
-pub stored-up : {at n : ℕ} {ys d₀ : List ℕ} {i j : ℕ} {d : List ℕ} → Stored at n ys d₀ i j d → (v : ℕ) → j < n → v ≡ getD ys j 0
+pub stored-up : {at n : ℕ} {ys d₀ : List ℕ} {i j : ℕ} {d : List ℕ} → Stored at n ys d₀ i j d → {v : ℕ} → j < n → v ≡ getD ys j 0
     → Stored at n ys d₀ i (j + 1) (set d (at + j) v)
-stored-up {at} {n} {ys} {d₀} {i} {j} {d} s v h e =
+stored-up {at} {n} {ys} {d₀} {i} {j} {d} s {v} h e =
     let run : List ℕ = part i (j - i) ys in
     let next : at + j ≡ at + i + length run = omega (arith, length-part i (j - i) ys (omega (arith, s .size))) in
     let more : j + 1 - i ≡ j - i + 1 = omega arith in
@@ -47,9 +47,9 @@ stored-up {at} {n} {ys} {d₀} {i} {j} {d} s v h e =
     }
 
 -- a turn downwards
-pub stored-down : {at n : ℕ} {ys d₀ : List ℕ} {i j : ℕ} {d : List ℕ} → Stored at n ys d₀ i j d → (v : ℕ) → 0 < i → v ≡ getD ys (i - 1) 0
+pub stored-down : {at n : ℕ} {ys d₀ : List ℕ} {i j : ℕ} {d : List ℕ} → Stored at n ys d₀ i j d → {v : ℕ} → 0 < i → v ≡ getD ys (i - 1) 0
     → Stored at n ys d₀ (i - 1) j (set d (at + (i - 1)) v)
-stored-down {at} {n} {ys} {d₀} {i} {j} {d} s v h e =
+stored-down {at} {n} {ys} {d₀} {i} {j} {d} s {v} h e =
     let run : List ℕ = part i (j - i) ys in
     let next : at + i ≡ at + (i - 1) + 1 = omega arith in
     let more : j - (i - 1) - 1 ≡ j - i = omega arith in
@@ -64,8 +64,10 @@ stored-down {at} {n} {ys} {d₀} {i} {j} {d} s v h e =
       is = rw (longer, put-one (at + (i - 1)) v d, s .is, next) (put-put-last-first (at + (i - 1)) (v ∷ []) run d₀);
     }
 
--- what stands outside of the elements that are stored is as it was
-pub stored-outside : {at n : ℕ} {ys d₀ : List ℕ} {i j : ℕ} {d : List ℕ} → Stored at n ys d₀ i j d → (k : ℕ) → Outside k (at + i) (j - i) → getD d k 0 ≡ getD d₀ k 0
-stored-outside {at} {n} {ys} {d₀} {i} {j} {d} s k o =
-    let size : length (part i (j - i) ys) ≡ j - i = length-part i (j - i) ys (omega (arith, s .size)) in
-    ap (λ (l : List ℕ). getD l k 0) (s .is) ∙ getD-put-outside k (at + i) (part i (j - i) ys) d₀ (rw size o)
+-- a loop that moves a part of d inside d reads what was there at the start, as long as it reads where it has not stored yet
+pub stored-unread : {at n : ℕ} {d₀ : List ℕ} {i j : ℕ} {d : List ℕ} (from : ℕ) → Stored at n (part from n d₀) d₀ i j d → (k : ℕ) → k < n → Outside (from + k) (at + i) (j - i)
+    → getD d (from + k) 0 ≡ getD (part from n d₀) k 0
+stored-unread {at} {n} {d₀} {i} {j} {d} from s k h o =
+    let run : List ℕ = part i (j - i) (part from n d₀) in
+    let size : length run ≡ j - i = length-part i (j - i) (part from n d₀) (omega (arith, s .size)) in
+    ap (λ (l : List ℕ). getD l (from + k) 0) (s .is) ∙ getD-put-outside (from + k) (at + i) run d₀ (rw size o) ∙ sym (getD-part from n k d₀ h)

@@ -10,6 +10,10 @@ use Rattle.memory.specs.Put.{put}
 use Rattle.memory.specs.Wrote.{Wrote}
 use Rattle.memory.proofs.PutLaws.{length-put, put-nil, put-put, put-is}
 
+-- what a writer of n elements ensures
+pub wrote : {at n r : ℕ} {ys d e : List ℕ} → length ys ≡ n → r ≡ at + n → e ≡ put at ys d → (r ≡ at + n) × Wrote at ys d r e
+wrote {at} {n} {r} {ys} {d} {e} size next is = (next, record { next = omega arith; is = is })
+
 -- nothing written
 pub wrote-none : (at : ℕ) (d : List ℕ) → Wrote at [] d at d
 wrote-none at d = record { next = sym (add-zero at); is = sym (put-nil at d) }
