@@ -95,6 +95,7 @@ decimal-turn zero rest ys h e = absurd (omega arith)
 decimal-turn (suc k) rest ys h e =
     let now : take (suc k) ys ≡ decimal k (rest / 10) ++ ((48 + rest % 10) ∷ []) = e ∙ decimal-snoc k rest in
     let size : length (decimal k (rest / 10)) ≡ k = length-decimal k (rest / 10) in
-    rw sub-one
-    (sym (sym (getD-take (suc k) ys k 0 (omega arith)) ∙ ap (λ (l : List ℕ). getD l k 0) now ∙ getD-at (decimal k (rest / 10)) (48 + rest % 10) [] 0 k size),
-    sym (take-take k (suc k) ys (omega arith)) ∙ ap (take k) now ∙ take-at (decimal k (rest / 10)) ((48 + rest % 10) ∷ []) k size)
+    rw sub-one (
+      sym (sym (getD-take (suc k) ys k 0 (omega arith)) ∙ ap (λ (l : List ℕ). getD l k 0) now ∙ getD-at (decimal k (rest / 10)) (48 + rest % 10) [] 0 k size),
+      sym (take-take k (suc k) ys (omega arith)) ∙ ap (take k) now ∙ take-at (decimal k (rest / 10)) ((48 + rest % 10) ∷ []) k size,
+    )

@@ -25,14 +25,16 @@ unfolding splicedIn
 length-splicedIn used at del ys w = length-put at (ys ++ part (at + del) (used - (at + del)) w) w
 
 -- the tail is moved, then ys are stored before it
-pub splicedIn-is : (used at del n : ℕ) (ys w : List ℕ) → length ys ≡ n → put at ys (put (at + n) (part (at + del) (used - (at + del)) w) w) ≡ splicedIn used at del ys w
+pub splicedIn-stored : (used at del n : ℕ) (ys w : List ℕ) {v e : List ℕ} → length ys ≡ n → v ≡ put (at + n) (part (at + del) (used - (at + del)) w) w → e ≡ put at ys v
+    → e ≡ splicedIn used at del ys w
 unfolding splicedIn
-splicedIn-is used at del n ys w e = rw (← e) (put-put-last-first at ys (part (at + del) (used - (at + del)) w) w)
+splicedIn-stored used at del n ys w {v} {e} size moved stored =
+    stored ∙ rw (moved, ← size) (put-put-last-first at ys (part (at + del) (used - (at + del)) w) w)
 
 -- a gap that is opened, then filled
 pub opened-put : (used at n : ℕ) (ys w : List ℕ) → length ys ≡ n → put at ys (opened used at n w) ≡ splicedIn used at 0 ys w
 unfolding opened
-opened-put used at n ys w e = rw add-zero at (splicedIn-is used at 0 n ys w e)
+opened-put used at n ys w size = splicedIn-stored used at 0 n ys w size (rw add-zero) refl
 
 drop-take : (m n : ℕ) (l : List ℕ) → drop m (take n l) ≡ part m (n - m) l
 unfolding part
@@ -51,6 +53,11 @@ module _ (used at del : ℕ) (ys w : List ℕ) (inside : at + del ≤ used) (fit
   take-splicedIn =
       let size : length tail ≡ used - (at + del) = length-part (at + del) (used - (at + del)) w (omega arith) in
       let long : length (ys ++ tail) ≡ length ys + (used - (at + del)) = length-append ys tail ∙ ap (λ (k : ℕ). length ys + k) size in
-      rw (put-is at (ys ++ tail) w (omega arith), take-at (take at w ++ (ys ++ tail)) (drop (at + length (ys ++ tail)) w) (used - del + length ys)
-        (length-append (take at w) (ys ++ tail) ∙ omega (arith, length-take-le at w (omega arith))), take-take at used w (omega arith), drop-take)
+      rw (
+        put-is at (ys ++ tail) w (omega arith),
+        take-at (take at w ++ (ys ++ tail)) (drop (at + length (ys ++ tail)) w) (used - del + length ys)
+            (length-append (take at w) (ys ++ tail) ∙ omega (arith, length-take-le at w (omega arith))),
+        take-take at used w (omega arith),
+        drop-take,
+      )
       (sym (append-assoc (take at w) ys tail))

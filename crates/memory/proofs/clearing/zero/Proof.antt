@@ -1,19 +1,18 @@
+-- `zero` meets its contract. Assumes nothing.
+use mathlib.Core.Path.{_∙_}
+use Rattle.memory.proofs.HoldLaws.{hold-nil}
 use native.Mathlib.Omega.{arith}
-use borrow.Author.Needs.{needs}
 use Rattle.memory.proofs.clearing.zero.Statement.{statement}
 use Rattle.memory.proofs.clearing.zero.Tie as tie
-use Rattle.memory.proofs.clearing.zero.Reads as reads
-use Rattle.memory.proofs.clearing.zero.Lts as lts
-use Rattle.memory.proofs.clearing.zero_from.Reads as zero-from-reads
 
 zero-from-requires : tie.Need-zero-from-requires
-zero-from-requires c κs = search needs
+zero-from-requires c κs = omega arith
 
 same-length : tie.Need-same-length
-same-length c = search needs
+same-length c = omega arith
 
 returns : tie.Need-returns
-returns c = search needs
+returns c = c .before .before .zero-from .ensures ∙ hold-nil _
 
 pub zero-spec : {M : Type 1} → statement M
 zero-spec = tie.close (tie.spec zero-from-requires same-length returns)

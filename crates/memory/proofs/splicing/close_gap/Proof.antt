@@ -1,28 +1,27 @@
+-- `close_gap` meets its contract. Assumes nothing.
+use Rattle.memory.specs.Splice.{splicedIn}
 use native.Mathlib.Omega.{arith}
-use borrow.Author.Needs.{needs}
 use Rattle.memory.proofs.splicing.close_gap.Statement.{statement}
 use Rattle.memory.proofs.splicing.close_gap.Tie as tie
-use Rattle.memory.proofs.splicing.close_gap.Reads as reads
-use Rattle.memory.proofs.splicing.close_gap.Lts as lts
-use Rattle.memory.proofs.moving.move_down.Reads as move-down-reads
 
 add-cut : tie.Need-add-cut
-add-cut c = search needs
+add-cut c = omega arith
 
 sub-move-down : tie.Need-sub-move-down
-sub-move-down c = search needs
+sub-move-down c = omega arith
 
 move-down-requires : tie.Need-move-down-requires
-move-down-requires c κs = search needs
+move-down-requires c κs = omega arith
 
 sub-result : tie.Need-sub-result
-sub-result c = search needs
+sub-result c = omega arith
 
 same-length : tie.Need-same-length
-same-length c = search needs
+same-length c = omega arith
 
 returns : tie.Need-returns
-returns c = search needs
+unfolding splicedIn
+returns c = (omega arith, c .before .before .move-down .ensures)
 
 pub close-gap-spec : {M : Type 1} → statement M
 close-gap-spec =

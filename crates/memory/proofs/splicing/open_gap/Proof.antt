@@ -1,28 +1,27 @@
+-- `open_gap` meets its contract. Assumes nothing.
+use Rattle.memory.specs.Splice.{opened}
 use native.Mathlib.Omega.{arith}
-use borrow.Author.Needs.{needs}
 use Rattle.memory.proofs.splicing.open_gap.Statement.{statement}
 use Rattle.memory.proofs.splicing.open_gap.Tie as tie
-use Rattle.memory.proofs.splicing.open_gap.Reads as reads
-use Rattle.memory.proofs.splicing.open_gap.Lts as lts
-use Rattle.memory.proofs.moving.move_up.Reads as move-up-reads
 
 sub-move-up : tie.Need-sub-move-up
-sub-move-up c = search needs
+sub-move-up c = omega arith
 
 add-move-up : tie.Need-add-move-up
-add-move-up c = search needs
+add-move-up c = omega arith
 
 move-up-requires : tie.Need-move-up-requires
-move-up-requires c κs = search needs
+move-up-requires c κs = omega arith
 
 add-result : tie.Need-add-result
-add-result c = search needs
+add-result c = omega arith
 
 same-length : tie.Need-same-length
-same-length c = search needs
+same-length c = omega arith
 
 returns : tie.Need-returns
-returns c = search needs
+unfolding opened
+returns c = (omega arith, c .before .before .move-up .ensures)
 
 pub open-gap-spec : {M : Type 1} → statement M
 open-gap-spec =

@@ -1,38 +1,39 @@
+-- `splice` meets its contract. Assumes nothing.
+use Rattle.memory.proofs.PutLaws.{length-part}
+use Rattle.memory.proofs.SpliceLaws.{splicedIn-stored}
 use native.Mathlib.Omega.{arith}
-use borrow.Author.Needs.{needs}
 use Rattle.memory.proofs.splicing.splice.Statement.{statement}
 use Rattle.memory.proofs.splicing.splice.Tie as tie
-use Rattle.memory.proofs.splicing.splice.Reads as reads
-use Rattle.memory.proofs.splicing.splice.Lts as lts
-use Rattle.memory.proofs.moving.copy.Reads as copy-reads
-use Rattle.memory.proofs.moving.shift.Reads as shift-reads
 
 add-cut : tie.Need-add-cut
-add-cut c = search needs
+add-cut c = omega arith
 
 sub-shift : tie.Need-sub-shift
-sub-shift c = search needs
+sub-shift c = omega arith
 
 add-shift : tie.Need-add-shift
-add-shift c = search needs
+add-shift c = omega arith
 
 shift-requires : tie.Need-shift-requires
-shift-requires c κs = search needs
+shift-requires c κs = omega arith
 
 copy-requires : tie.Need-copy-requires
-copy-requires c κs = search needs
+copy-requires c κs = omega arith
 
 sub-result : tie.Need-sub-result
-sub-result c = search needs
+sub-result c = omega arith
 
 add-result : tie.Need-add-result
-add-result c = search needs
+add-result c = omega arith
 
 same-length : tie.Need-same-length
-same-length c = search needs
+same-length c = omega arith
 
 returns : tie.Need-returns
-returns c = search needs
+returns c =
+    let copied = c .before .before in
+    let moved = copied .before .before .before .before in
+    (omega arith, splicedIn-stored _ _ _ _ _ _ (length-part _ _ _ (omega arith)) (moved .shift .ensures) (copied .copy .ensures))
 
 pub splice-spec : {M : Type 1} → statement M
 splice-spec =
