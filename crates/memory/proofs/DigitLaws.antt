@@ -1,15 +1,13 @@
 -- Laws of numbers as digits. Assumes nothing.
 use mathlib.Core.Path.{_≡_, refl, sym, ap, _∙_}
 use mathlib.Core.List.{List, [], _∷_, _++_, map, map-map, map-append, reverse, reverse-cons, reverse-reverse}
-use Prim.Native.Nat.{ℕ, zero, suc, _+_, _-_, _*_, _/_, _%_, _^_, _≤_, _<_}
+use Prim.Native.Nat.{ℕ, zero, suc, _+_, _-_, _*_, _/_, _%_, _^_, _<_}
 use native.Mathlib.Nat.{add-zero, zero-add, sub-zero, add-mul-mod-self-left, add-mul-div-left, mod-eq-of-lt, div-eq-of-lt, pow-zero, pow-suc, div-add-mod', div-lt-iff-lt-mul}
 use native.Mathlib.Numerals.{sub-one}
 use native.Mathlib.Omega.{arith}
 use lib.ListN.{length, take, drop, getD, length-map, length-reverse}
 use lib.Seq.{drop-drop, getD-drop, getD-take, take-take, take-all, take-at, getD-at}
-use Rattle.memory.specs.Put.{part, put}
 use Rattle.memory.specs.Digits.{digits, number, littleEndian, fromLittleEndian, decimal, fromDecimal}
-use Rattle.memory.proofs.PutLaws.{part-put-here}
 
 -- ---- in every base and width
 

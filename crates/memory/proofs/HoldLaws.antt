@@ -1,10 +1,10 @@
 -- Laws of cleared memory. Assumes nothing.
-use mathlib.Core.Path.{_≡_, refl, sym, ap, _∙_}
-use mathlib.Core.List.{List, [], _++_}
-use Prim.Native.Nat.{ℕ, zero, suc, _+_, _-_, _≤_, _<_}
+use mathlib.Core.Path.{_≡_, _∙_}
+use mathlib.Core.List.{List, []}
+use Prim.Native.Nat.{ℕ, zero, suc, _-_, _≤_, _<_}
 use native.Mathlib.Nat.{sub-zero, zero-sub, zero-add, suc-sub-suc}
 use native.Mathlib.Omega.{arith}
-use lib.ListN.{length, take, drop, replicate, getD, length-append, length-replicate, getD-replicate}
+use lib.ListN.{length, take, drop, getD, length-append, length-replicate, getD-replicate}
 use lib.Seq.{take-at, drop-at, length-take-le}
 use Rattle.memory.specs.Put.{put}
 use Rattle.memory.specs.Hold.{zeros, hold}

@@ -1,13 +1,12 @@
 -- A loop that stores a list into a slice, one element a turn, upwards or downwards. Assumes nothing.
 use mathlib.Core.Path.{_≡_, refl, sym, ap, _∙_}
 use mathlib.Core.List.{List, [], _∷_, _++_}
-use mathlib.Core.Logic.{inl, inr}
-use Prim.Native.Nat.{ℕ, suc, _+_, _-_, _≤_, _<_}
+use Prim.Native.Nat.{ℕ, _+_, _-_, _≤_, _<_}
 use native.Mathlib.Nat.{add-zero, sub-self, sub-zero}
 use native.Mathlib.Omega.{arith}
 use lib.ListN.{length, getD, set, length-set}
 use Rattle.memory.specs.Put.{part, put}
-use Rattle.memory.proofs.PutLaws.{length-put, put-nil, put-one, put-put, put-put-last-first, length-part, part-none, part-all, part-cons, part-snoc, getD-part, Outside, getD-put-outside}
+use Rattle.memory.proofs.PutLaws.{put-nil, put-one, put-put, put-put-last-first, length-part, part-none, part-all, part-cons, part-snoc, getD-part, Outside, getD-put-outside}
 
 -- what the loop has reached: of the n elements ys, which it stores from index `at` on, those from i up to j stand in d, which was d₀
 pub record Stored (at n : ℕ) (ys d₀ : List ℕ) (i j : ℕ) (d : List ℕ) : Type 0 where

@@ -3,11 +3,11 @@ use mathlib.Core.Path.{_≡_, refl, sym, ap, _∙_}
 use mathlib.Core.List.{List, [], _∷_, _++_, append-assoc, append-nil}
 use mathlib.Core.Logic.{_⊎_, inl, inr, ⊎-elim}
 use Prim.Native.Nat.{ℕ, zero, suc, _+_, _-_, _≤_, _<_, min}
-use native.Mathlib.Nat.{add-zero, add-suc, suc-add, le-refl}
+use native.Mathlib.Nat.{add-zero, add-suc, suc-add}
 use native.Mathlib.Numerals.{add-one, sub-one}
 use native.Mathlib.Omega.{arith}
-use lib.ListN.{length, take, drop, getD, set, length-append, length-take, length-drop, length-set, drop-of-length-le}
-use lib.Seq.{sets, sets-eq, drop-cons, take-suc, take-all, set-comm, getD-set-other, getD-take, getD-drop, ext-getD, length-take-le, take-at, drop-at}
+use lib.ListN.{length, take, drop, getD, set, length-take, length-drop, length-set, drop-of-length-le}
+use lib.Seq.{sets, sets-eq, drop-cons, take-suc, take-all, set-comm, getD-set-other, getD-take, getD-drop, ext-getD, length-take-le, take-at, drop-at, drop-drop}
 use Rattle.memory.specs.Put.{part, put}
 
 -- ---- put, with no side conditions
@@ -162,3 +162,9 @@ put-put-last-first at (x ∷ xs) ys d =
 pub put-rest : (at : ℕ) (ys d : List ℕ) → at + length ys ≡ length d → put at ys d ≡ take at d ++ ys
 put-rest at ys d e =
     put-is at ys d (omega arith) ∙ ap (λ (l : List ℕ). take at d ++ ys ++ l) (drop-of-length-le d {i = at + length ys} (omega arith)) ∙ append-nil (take at d ++ ys)
+
+-- a part that was lent and has come back as ys
+pub put-lent : (at n : ℕ) (ys d : List ℕ) → length ys ≡ n → at + n ≤ length d → take at d ++ (ys ++ drop n (drop at d)) ≡ put at ys d
+put-lent at n ys d size h =
+    let room : at + length ys ≤ length d = omega arith in
+    rw (put-is at ys d, append-assoc, drop-drop, size)

@@ -1,5 +1,5 @@
 -- Laws of splices. Assumes nothing.
-use mathlib.Core.Path.{_≡_, refl, sym, ap, _∙_}
+use mathlib.Core.Path.{_≡_, refl, sym, _∙_}
 use mathlib.Core.List.{List, [], _∷_, _++_, append-assoc}
 use Prim.Native.Nat.{ℕ, zero, suc, _+_, _-_, _≤_, _<_}
 use native.Mathlib.Nat.{add-zero, sub-zero, zero-sub, suc-sub-suc}
@@ -43,21 +43,60 @@ drop-take (suc m) zero l = rw zero-sub
 drop-take (suc m) (suc n) [] = rw take-nil
 drop-take (suc m) (suc n) (x ∷ l) = rw suc-sub-suc (drop-take m n l)
 
-module _ (used at del : ℕ) (ys w : List ℕ) (inside : at + del ≤ used) (fits : used ≤ length w) (room : used - del + length ys ≤ length w) where
+-- a splice in place of n elements ys for `del` others, inside what is in use and with room
+module _ (used at del n : ℕ) (ys w : List ℕ) (size : length ys ≡ n) (inside : at + del ≤ used) (fits : used ≤ length w) (room : used - del + n ≤ length w) where
+  -- what is moved
   tail : List ℕ
   tail = part (at + del) (used - (at + del)) w
 
+  length-tail : length tail ≡ used - (at + del)
+  unfolding tail
+  length-tail = length-part (at + del) (used - (at + del)) w (omega arith)
+
   -- what is in use afterwards is the spliced list
-  pub take-splicedIn : take (used - del + length ys) (splicedIn used at del ys w) ≡ spliced at del ys (take used w)
+  pub take-splicedIn : take (used - del + n) (splicedIn used at del ys w) ≡ spliced at del ys (take used w)
   unfolding splicedIn spliced tail
   take-splicedIn =
-      let size : length tail ≡ used - (at + del) = length-part (at + del) (used - (at + del)) w (omega arith) in
-      let long : length (ys ++ tail) ≡ length ys + (used - (at + del)) = length-append ys tail ∙ ap (λ (k : ℕ). length ys + k) size in
+      let end : at + length (ys ++ tail) ≡ used - del + n = simp length-append (omega (arith, length-tail)) in
       rw (
         put-is at (ys ++ tail) w (omega arith),
-        take-at (take at w ++ (ys ++ tail)) (drop (at + length (ys ++ tail)) w) (used - del + length ys)
+        take-at (take at w ++ (ys ++ tail)) (drop (at + length (ys ++ tail)) w) (used - del + n)
             (length-append (take at w) (ys ++ tail) ∙ omega (arith, length-take-le at w (omega arith))),
         take-take at used w (omega arith),
         drop-take,
       )
       (sym (append-assoc (take at w) ys tail))
+
+  -- an element behind the place stands behind ys
+  pub splicedIn-after : (i : ℕ) → at + del + i < used → getD (splicedIn used at del ys w) (at + n + i) 0 ≡ getD w (at + del + i) 0
+  unfolding splicedIn tail
+  splicedIn-after i h =
+      let end : length (ys ++ tail) ≡ n + (used - (at + del)) = simp length-append (omega (arith, length-tail)) in
+      let place : at + n + i ≡ at + (length ys + i) = omega arith in
+      rw place (getD-put-in (length ys + i) at (ys ++ tail) w (omega arith) (omega arith))
+      ∙ getD-append-add ys tail i 0
+      ∙ getD-part (at + del) (used - (at + del)) i w (omega arith)
+
+-- an element before the place stays
+pub splicedIn-before : (used at del i : ℕ) (ys w : List ℕ) → i < at → getD (splicedIn used at del ys w) i 0 ≡ getD w i 0
+unfolding splicedIn
+splicedIn-before used at del i ys w h = getD-put-below i at (ys ++ part (at + del) (used - (at + del)) w) w h
+
+-- ---- a gap
+
+-- the slice's length stays
+pub length-opened : (used at n : ℕ) (w : List ℕ) → length (opened used at n w) ≡ length w
+unfolding opened
+length-opened used at n w = length-put (at + n) (part at (used - at) w) w
+
+-- an element before the gap stays
+pub opened-before : (used at n i : ℕ) (w : List ℕ) → i < at → getD (opened used at n w) i 0 ≡ getD w i 0
+unfolding opened
+opened-before used at n i w h = getD-put-below i (at + n) (part at (used - at) w) w (omega arith)
+
+-- an element behind the gap has moved up by its width
+pub opened-after : (used at n i : ℕ) (w : List ℕ) → at + i < used → used + n ≤ length w → getD (opened used at n w) (at + n + i) 0 ≡ getD w (at + i) 0
+unfolding opened
+opened-after used at n i w h room =
+    let size : length (part at (used - at) w) ≡ used - at = length-part at (used - at) w (omega arith) in
+    getD-put-in i (at + n) (part at (used - at) w) w (omega arith) (omega arith) ∙ getD-part at (used - at) i w (omega arith)

@@ -1,6 +1,5 @@
 -- `put_decimal` meets its contract: the last w - k characters are stored, and the first k are the lowest of `rest`. Assumes nothing.
 use mathlib.Core.Path.{_≡_}
-use Prim.Native.Nat.{_+_, _-_}
 use lib.ListN.{take}
 use Rattle.memory.specs.Digits.{decimal}
 use Rattle.memory.proofs.DigitLaws.{length-decimal, decimal-start, decimal-turn}

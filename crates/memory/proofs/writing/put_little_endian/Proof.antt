@@ -1,6 +1,6 @@
 -- `put_little_endian` meets its contract: k bytes are stored, and the others are the lowest of `rest`. Assumes nothing.
 use mathlib.Core.Path.{_≡_}
-use Prim.Native.Nat.{_+_, _-_}
+use Prim.Native.Nat.{_-_}
 use lib.ListN.{drop}
 use Rattle.memory.specs.Digits.{littleEndian}
 use Rattle.memory.proofs.DigitLaws.{length-littleEndian, littleEndian-start, littleEndian-turn}
