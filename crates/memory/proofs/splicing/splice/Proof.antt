@@ -33,7 +33,10 @@ returns : tie.Need-returns
 returns c =
     let copied = c .before .before in
     let moved = copied .before .before .before .before in
-    (omega arith, splicedIn-stored _ _ _ _ _ _ (length-part _ _ _ (omega arith)) (moved .shift .ensures) (copied .copy .ensures))
+    let a = moved .before .before .before .before .args in (
+      omega arith,
+      splicedIn-stored (a .used) (a .at) (a .del) (a .n) _ _ (length-part (a .from) (a .n) (a .src .now) (omega arith)) (moved .shift .ensures) (copied .copy .ensures),
+    )
 
 pub splice-spec : {M : Type 1} → statement M
 splice-spec =
