@@ -54,17 +54,12 @@ module _ (used at del n : ℕ) (ys w : List ℕ) (size : length ys ≡ n) (insid
   length-tail = length-part (at + del) (used - (at + del)) w (omega arith)
 
   -- what is in use afterwards is the spliced list
-  pub take-splicedIn : take (used - del + n) (splicedIn used at del ys w) ≡ spliced at del ys (take used w)
+  pub take-splicedIn : {r : ℕ} {e : List ℕ} → r ≡ used - del + n → e ≡ splicedIn used at del ys w → take r e ≡ spliced at del ys (take used w)
   unfolding splicedIn spliced tail
-  take-splicedIn =
-      let end : at + length (ys ++ tail) ≡ used - del + n = simp length-append (omega (arith, length-tail)) in
-      rw (
-        put-is at (ys ++ tail) w (omega arith),
-        take-at (take at w ++ (ys ++ tail)) (drop (at + length (ys ++ tail)) w) (used - del + n)
-            (length-append (take at w) (ys ++ tail) ∙ omega (arith, length-take-le at w (omega arith))),
-        take-take at used w (omega arith),
-        drop-take,
-      )
+  take-splicedIn {r} {e} next is =
+      let end : at + length (ys ++ tail) ≡ r = simp length-append (omega (arith, length-tail)) in
+      let front : length (take at w ++ (ys ++ tail)) ≡ r = length-append (take at w) (ys ++ tail) ∙ omega (arith, length-take-le at w (omega arith)) in
+      rw (is, put-is at (ys ++ tail) w (omega arith), take-at (take at w ++ (ys ++ tail)) (drop (at + length (ys ++ tail)) w) r front, take-take at used w (omega arith), drop-take)
       (sym (append-assoc (take at w) ys tail))
 
   -- an element behind the place stands behind ys
@@ -76,6 +71,13 @@ module _ (used at del n : ℕ) (ys w : List ℕ) (size : length ys ≡ n) (insid
       rw place (getD-put-in (length ys + i) at (ys ++ tail) w (omega arith) (omega arith))
       ∙ getD-append-add ys tail i 0
       ∙ getD-part (at + del) (used - (at + del)) i w (omega arith)
+
+-- what is in use after elements were taken out
+pub take-closed : (used at del : ℕ) (w : List ℕ) {r : ℕ} {e : List ℕ} → at + del ≤ used → used ≤ length w → r ≡ used - del → e ≡ splicedIn used at del [] w
+    → take r e ≡ spliced at del [] (take used w)
+take-closed used at del w {r} {e} inside fits next is =
+    let grown : r ≡ used - del + 0 = omega arith in
+    take-splicedIn used at del 0 [] w refl inside fits (omega arith) grown is
 
 -- an element before the place stays
 pub splicedIn-before : (used at del i : ℕ) (ys w : List ℕ) → i < at → getD (splicedIn used at del ys w) i 0 ≡ getD w i 0

@@ -7,7 +7,9 @@ use native.Mathlib.Omega.{arith}
 use lib.ListN.{length, take, drop, length-append}
 use lib.Seq.{take-at}
 use Rattle.memory.specs.Put.{put}
+use Rattle.memory.specs.Hold.{zeros, hold}
 use Rattle.memory.specs.Wrote.{Wrote}
+use Rattle.memory.proofs.HoldLaws.{put-on-zeros}
 use Rattle.memory.proofs.PutLaws.{length-put, put-nil, put-put, put-is}
 
 -- what a writer of n elements ensures
@@ -31,3 +33,7 @@ wrote-length {at} {r} {ys} {d} {e} p = ap length (p .is) ∙ length-put at ys d
 pub wrote-take : {r : ℕ} {ys d e : List ℕ} → Wrote 0 ys d r e → length ys ≤ length d → take r e ≡ ys
 wrote-take {r} {ys} {d} {e} p h =
     ap (take r) (p .is ∙ put-is 0 ys d (omega arith)) ∙ take-at ys (drop (0 + length ys) d) r (omega (arith, p .next))
+
+-- what was written at the front of a cleared place is held there
+pub wrote-hold : {n r : ℕ} {ys d e : List ℕ} → Wrote 0 ys d r e → d ≡ zeros n → length ys ≤ n → e ≡ hold n ys
+wrote-hold {n} {r} {ys} {d} {e} p cleared h = p .is ∙ rw cleared (put-on-zeros n ys h)
