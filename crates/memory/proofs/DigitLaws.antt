@@ -11,7 +11,7 @@ use Rattle.memory.specs.Digits.{digits, number, littleEndian, fromLittle
 
 -- ---- in every base and width
 
--- there are w of them
+-- w digits are w elements
 pub length-digits : (b w x : ℕ) → length (digits b w x) ≡ w
 unfolding digits
 length-digits b zero x = refl

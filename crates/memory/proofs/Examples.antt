@@ -11,10 +11,12 @@ use Rattle.memory.specs.Digits.{digits, number, littleEndian, fromLittle
 abbrev five : List ℕ
 five = 10 ∷ 11 ∷ 12 ∷ 13 ∷ 14 ∷ []
 
+-- three of them
 some : part 1 3 five ≡ 11 ∷ 12 ∷ 13 ∷ []
 unfolding part
 some = refl
 
+-- two stored over them
 over : put 1 (7 ∷ 8 ∷ []) five ≡ 10 ∷ 7 ∷ 8 ∷ 13 ∷ 14 ∷ []
 unfolding put
 over = refl
@@ -24,10 +26,12 @@ lost : put 4 (7 ∷ 8 ∷ []) five ≡ 10 ∷ 11 ∷ 12 ∷ 13 ∷ 7 ∷ []
 unfolding put
 lost = refl
 
+-- one in a place of four
 held : hold 4 (7 ∷ []) ≡ 7 ∷ 0 ∷ 0 ∷ 0 ∷ []
 unfolding hold zeros
 held = refl
 
+-- two of them give way to one
 replaced : spliced 1 2 (7 ∷ []) five ≡ 10 ∷ 7 ∷ 13 ∷ 14 ∷ []
 unfolding spliced
 replaced = refl
@@ -42,6 +46,7 @@ gap : opened 3 1 2 five ≡ 10 ∷ 11 ∷ 12 ∷ 11 ∷ 12 ∷ []
 unfolding opened part put
 gap = refl
 
+-- 1 * 65536 + 2 * 256 + 3
 lowFirst : littleEndian 4 66051 ≡ 3 ∷ 2 ∷ 1 ∷ 0 ∷ []
 unfolding littleEndian digits
 lowFirst = refl
@@ -51,10 +56,12 @@ highFirst : decimal 5 427 ≡ 48 ∷ 48 ∷ 52 ∷ 50 ∷ 55 ∷ []
 unfolding decimal digits
 highFirst = refl
 
+-- the same number read
 bytesSay : fromLittleEndian (3 ∷ 2 ∷ 1 ∷ 0 ∷ []) ≡ 66051
 unfolding fromLittleEndian number
 bytesSay = refl
 
+-- the same number read
 digitsSay : fromDecimal (48 ∷ 48 ∷ 52 ∷ 50 ∷ 55 ∷ []) ≡ 427
 unfolding fromDecimal number
 digitsSay = refl

@@ -10,24 +10,24 @@ use Rattle.memory.specs.Put.{put}
 use Rattle.memory.specs.Hold.{zeros, hold}
 use Rattle.memory.proofs.PutLaws.{put-is, put-rest}
 
--- there are n of them
+-- n zeroes are n elements
 pub length-zeros : (n : ℕ) → length (zeros n) ≡ n
 unfolding zeros
 length-zeros n = length-replicate n 0
 
--- each is zero
+-- each of them is zero
 pub getD-zeros : (n i : ℕ) → i < n → getD (zeros n) i 0 ≡ 0
 unfolding zeros
 getD-zeros n i h = getD-replicate n i 0 0 h
 
--- without the first m
+-- zeroes without the first m
 drop-zeros : (m n : ℕ) → drop m (zeros n) ≡ zeros (n - m)
 unfolding zeros
 drop-zeros zero n = rw sub-zero
 drop-zeros (suc m) zero = rw zero-sub
 drop-zeros (suc m) (suc n) = rw suc-sub-suc (drop-zeros m n)
 
--- the length of the place
+-- the place keeps its length
 pub length-hold : (n : ℕ) (xs : List ℕ) → length xs ≤ n → length (hold n xs) ≡ n
 unfolding hold
 length-hold n xs h = simp (length-append, length-zeros) (omega arith)
@@ -37,7 +37,7 @@ pub take-hold : (n u : ℕ) (xs : List ℕ) → length xs ≡ u → take u (hold
 unfolding hold
 take-hold n u xs e = take-at xs (zeros (n - length xs)) u e
 
--- what is behind it
+-- what stands behind that
 pub drop-hold : (n u : ℕ) (xs : List ℕ) → length xs ≡ u → drop u (hold n xs) ≡ zeros (n - u)
 unfolding hold
 drop-hold n u xs e = rw e (drop-at xs (zeros (n - u)) u e)

@@ -49,10 +49,12 @@ put-is at ys d h = is-sets at ys d ∙ sets-eq ys d at h
 unfoldable pub Outside : (i at n : ℕ) → Type 0
 Outside i at n = (i < at) ⊎ (at + n ≤ i)
 
+-- then it is not the first of them
 outside-first : (i at n : ℕ) → Outside i at (suc n) → i ≡ at → ⊥
 unfolding Outside
 outside-first i at n o e = ⊎-elim (λ (h : i < at). omega arith) (λ (h : at + suc n ≤ i). omega arith) o
 
+-- and none of the others
 outside-rest : (i at n : ℕ) → Outside i at (suc n) → Outside i (suc at) n
 unfolding Outside
 outside-rest i at n o = ⊎-elim (λ (h : i < at). inl (omega arith)) (λ (h : at + suc n ≤ i). inr (omega arith)) o
@@ -126,15 +128,20 @@ part-same from n s t e same =
     lengths : (l : List ℕ) → length (part from n l) ≡ min n (length l - from)
     lengths l = simp (length-take, length-drop)
 
--- a part that ends before the run is as it was
-pub part-put-below : (from n at : ℕ) (ys d : List ℕ) → from + n ≤ at → part from n (put at ys d) ≡ part from n d
-part-put-below from n at ys d h =
-    part-same from n (put at ys d) d (length-put at ys d) (λ i k. getD-put-below (from + i) at ys d (omega arith))
+-- a part that lies outside the run is as it was
+pub part-put-outside : (from n at : ℕ) (ys d : List ℕ) → ((i : ℕ) → i < n → Outside (from + i) at (length ys)) → part from n (put at ys d) ≡ part from n d
+part-put-outside from n at ys d out =
+    part-same from n (put at ys d) d (length-put at ys d) (λ i h. getD-put-outside (from + i) at ys d (out i h))
 
--- a part that starts after the run is as it was
+-- before the run
+pub part-put-below : (from n at : ℕ) (ys d : List ℕ) → from + n ≤ at → part from n (put at ys d) ≡ part from n d
+unfolding Outside
+part-put-below from n at ys d h = part-put-outside from n at ys d (λ i k. inl (omega arith))
+
+-- after the run
 pub part-put-above : (from n at : ℕ) (ys d : List ℕ) → at + length ys ≤ from → part from n (put at ys d) ≡ part from n d
-part-put-above from n at ys d h =
-    part-same from n (put at ys d) d (length-put at ys d) (λ i k. getD-put-above (from + i) at ys d (omega arith))
+unfolding Outside
+part-put-above from n at ys d h = part-put-outside from n at ys d (λ i k. inr (omega arith))
 
 -- the run itself is read back
 pub part-put-here : (at n : ℕ) (ys d : List ℕ) → length ys ≡ n → at + n ≤ length d → part at n (put at ys d) ≡ ys

@@ -12,7 +12,7 @@ use Rattle.memory.proofs.PutLaws.{length-put, put-is, put-put-last-firs
 
 -- ---- on the list in use
 
--- the length after it
+-- the length afterwards
 pub length-spliced : (at del : ℕ) (ys xs : List ℕ) → at + del ≤ length xs → length (spliced at del ys xs) ≡ length xs - del + length ys
 unfolding spliced
 length-spliced at del ys xs h = simp (length-append, length-take, length-drop) (omega arith)
@@ -36,6 +36,7 @@ pub opened-put : (used at n : ℕ) (ys w : List ℕ) → length ys ≡ n → put
 unfolding opened
 opened-put used at n ys w size = splicedIn-stored used at 0 n ys w size (rw add-zero) refl
 
+-- what is left of the first n without the first m
 drop-take : (m n : ℕ) (l : List ℕ) → drop m (take n l) ≡ part m (n - m) l
 unfolding part
 drop-take zero n l = rw sub-zero
@@ -49,6 +50,7 @@ module _ (used at del n : ℕ) (ys w : List ℕ) (size : length ys ≡ n) (insid
   tail : List ℕ
   tail = part (at + del) (used - (at + del)) w
 
+  -- how many that are
   length-tail : length tail ≡ used - (at + del)
   unfolding tail
   length-tail = length-part (at + del) (used - (at + del)) w (omega arith)
