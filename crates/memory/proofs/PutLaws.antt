@@ -74,14 +74,14 @@ getD-put-outside i at (y ∷ ys) d o =
     getD-put-outside i (suc at) ys (set d at y) (outside-rest i at (length ys) o) ∙ getD-set-other d at i y 0 (outside-first i at (length ys) o)
 
 -- before the run
-pub getD-put-below : (i at : ℕ) (ys d : List ℕ) → i < at → getD (put at ys d) i 0 ≡ getD d i 0
+pub getD-put-below : (at i : ℕ) (ys d : List ℕ) → i < at → getD (put at ys d) i 0 ≡ getD d i 0
 unfolding Outside
-getD-put-below i at ys d h = getD-put-outside i at ys d (inl h)
+getD-put-below at i ys d h = getD-put-outside i at ys d (inl h)
 
 -- after the run
-pub getD-put-above : (i at : ℕ) (ys d : List ℕ) → at + length ys ≤ i → getD (put at ys d) i 0 ≡ getD d i 0
+pub getD-put-above : (at i : ℕ) (ys d : List ℕ) → at + length ys ≤ i → getD (put at ys d) i 0 ≡ getD d i 0
 unfolding Outside
-getD-put-above i at ys d h = getD-put-outside i at ys d (inr h)
+getD-put-above at i ys d h = getD-put-outside i at ys d (inr h)
 
 -- ---- part
 

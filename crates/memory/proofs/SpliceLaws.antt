@@ -84,7 +84,7 @@ take-closed used at del w {r} {e} inside fits next is =
 -- an element before the place stays
 pub splicedIn-before : (used at del i : ℕ) (ys w : List ℕ) → i < at → getD (splicedIn used at del ys w) i 0 ≡ getD w i 0
 unfolding splicedIn
-splicedIn-before used at del i ys w h = getD-put-below i at (ys ++ part (at + del) (used - (at + del)) w) w h
+splicedIn-before used at del i ys w h = getD-put-below at i (ys ++ part (at + del) (used - (at + del)) w) w h
 
 -- ---- a gap
 
@@ -96,7 +96,7 @@ length-opened used at n w = length-put (at + n) (part at (used - at) w) w
 -- an element before the gap stays
 pub opened-before : (used at n i : ℕ) (w : List ℕ) → i < at → getD (opened used at n w) i 0 ≡ getD w i 0
 unfolding opened
-opened-before used at n i w h = getD-put-below i (at + n) (part at (used - at) w) w (omega arith)
+opened-before used at n i w h = getD-put-below (at + n) i (part at (used - at) w) w (omega arith)
 
 -- an element behind the gap has moved up by its width
 pub opened-after : (used at n i : ℕ) (w : List ℕ) → at + i < used → used + n ≤ length w → getD (opened used at n w) (at + n + i) 0 ≡ getD w (at + i) 0
