@@ -1,0 +1,7 @@
+pub mod Choice
+pub mod Check
+pub mod Text
+pub mod Lists
+pub mod Keys
+pub mod Walk
+pub mod Opened

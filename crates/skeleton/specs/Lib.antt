@@ -1,0 +1,6 @@
+pub mod Digits
+pub mod Leader
+pub mod Directory
+pub mod File
+pub mod Emit
+pub mod Opened
