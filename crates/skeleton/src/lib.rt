@@ -1,4 +1,4 @@
 // The record skeleton of ISO/IEC 8211: leader, directory, field bounds.
-pub mod dir;
+pub mod digits;
+pub mod directory;
 pub mod leader;
-pub mod num;
