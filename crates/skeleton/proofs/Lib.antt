@@ -1,2 +1,3 @@
 pub mod DigitsLaws
 pub mod LeaderLaws
+pub mod DirectoryLaws

@@ -1,6 +1,7 @@
 pub mod Digits
 pub mod Leader
 pub mod Directory
+pub mod Shape
 pub mod File
 pub mod Emit
 pub mod Opened
