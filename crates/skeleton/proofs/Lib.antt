@@ -1,3 +1,5 @@
 pub mod DigitsLaws
 pub mod LeaderLaws
 pub mod DirectoryLaws
+pub mod PlaceLaws
+pub mod FindLaws

@@ -2,3 +2,4 @@
 pub mod digits;
 pub mod directory;
 pub mod leader;
+pub mod place;
