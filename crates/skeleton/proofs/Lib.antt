@@ -3,3 +3,5 @@ pub mod LeaderLaws
 pub mod DirectoryLaws
 pub mod PlaceLaws
 pub mod FindLaws
+pub mod RecordLaws
+pub mod FileLaws

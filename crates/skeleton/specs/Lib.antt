@@ -4,5 +4,6 @@ pub mod Directory
 pub mod Shape
 pub mod File
 pub mod Place
+pub mod Record
 pub mod Emit
 pub mod Opened
