@@ -53,18 +53,19 @@ falls f at =
     (λ e. rw step-of (lower-of f at (recordAt f at) refl))
     (λ _. tt)
 
-step : (f : List ℕ) (at : ℕ) → recordsFrom f at ≡ follow (fileStep f at) (recordsFrom f)
+-- a walk is its first step, and then the walk from there
+pub records-step : (f : List ℕ) (at : ℕ) → recordsFrom f at ≡ follow (fileStep f at) (recordsFrom f)
 unfolding recordsFrom
-step f at = walk-step (fileStep f) (λ q. length f - q) (falls f) at
+records-step f at = walk-step (fileStep f) (λ q. length f - q) (falls f) at
 
 -- at its end a file has no more records
 pub records-over : (f : List ℕ) (at : ℕ) → length f ≤ at → recordsFrom f at ≡ record { items = []; ending = 0 }
-records-over f at h = step f at ∙ simp (le-ltb at (length f) h)
+records-over f at h = records-step f at ∙ simp (le-ltb at (length f) h)
 
 -- by the record h that was read at at
 module _ (f : List ℕ) (at : ℕ) (l : at < length f) (h : Head) (eh : h ≡ recordAt f at) where
   by-record : recordsFrom f at ≡ follow (stepRecord at (drop at f) h) (recordsFrom f)
-  by-record = step f at ∙ rw eh (ap (λ (x : Step ℕ (List Field)). follow x (recordsFrom f)) (step-is f at l))
+  by-record = records-step f at ∙ rw eh (ap (λ (x : Step ℕ (List Field)). follow x (recordsFrom f)) (step-is f at l))
 
   -- the walk ends with its refusal
   pub records-refused : (n : ℕ) → h ≡ Refused n → recordsFrom f at ≡ record { items = []; ending = n }

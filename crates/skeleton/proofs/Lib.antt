@@ -5,3 +5,8 @@ pub mod PlaceLaws
 pub mod FindLaws
 pub mod RecordLaws
 pub mod FileLaws
+pub mod EmitDigitsLaws
+pub mod OffsetLaws
+pub mod EmitFieldsLaws
+pub mod EmitLeaderLaws
+pub mod EmitFileLaws

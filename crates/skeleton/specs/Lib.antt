@@ -6,4 +6,5 @@ pub mod File
 pub mod Place
 pub mod Record
 pub mod Emit
+pub mod Writable
 pub mod Opened
