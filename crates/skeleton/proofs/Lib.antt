@@ -10,3 +10,4 @@ pub mod OffsetLaws
 pub mod EmitFieldsLaws
 pub mod EmitLeaderLaws
 pub mod EmitFileLaws
+pub mod ReadLaws

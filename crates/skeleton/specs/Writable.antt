@@ -15,6 +15,11 @@ abbrev pub TagsFit : List Field → Type 0
 TagsFit [] = Unit {0}
 TagsFit (f ∷ fs) = TagFits (f .tag) × TagsFit fs
 
+-- records that have fields, and whose tags are such
+abbrev pub AllTagged : List (List Field) → Type 0
+AllTagged [] = Unit {0}
+AllTagged (fs ∷ rs) = (0 < length fs) × TagsFit fs × AllTagged rs
+
 -- fields without gaps, the first of which is at pos: a digits hold their lengths, b digits their positions
 abbrev pub PlacesFit : ℕ → ℕ → ℕ → List Field → Type 0
 PlacesFit a b pos [] = Unit {0}
