@@ -54,14 +54,14 @@ unfoldable pub asStored : Mode → ℕ → Bool
 asStored InDataset ruin = true
 asStored InUpdate ruin = eqb ruin 1
 
--- a tag that the record's instructions do not take; fs, its fields after the identifier
-unfoldable pub forbidden : Mode → ℕ → List Field → ℕ → Bool
-forbidden InDataset ruin fs t = eqb t COCC
-forbidden InUpdate ruin fs t =
+-- a tag that the record's instructions do not take: by RUIN, COUI, and whether there is a COCC
+unfoldable pub forbidden : Mode → ℕ → ℕ → Bool → ℕ → Bool
+forbidden InDataset ruin coui controlled t = eqb t COCC
+forbidden InUpdate ruin coui controlled t =
     let any-in-record-delete = eqb ruin 2 in
     let cocc-in-insert = both (eqb ruin 1) (eqb t COCC) in
-    let c2il-with-cocc-delete = both (eqb t C2IL) (eqb (couiByte fs) 2) in
-    let c2il-in-modify-without-cocc = both (eqb t C2IL) (both (eqb ruin 3) (not (has COCC fs))) in
+    let c2il-with-cocc-delete = both (eqb t C2IL) (eqb coui 2) in
+    let c2il-in-modify-without-cocc = both (eqb t C2IL) (both (eqb ruin 3) (not controlled)) in
     either any-in-record-delete (either cocc-in-insert (either c2il-with-cocc-delete c2il-in-modify-without-cocc))
 
 -- ---- one record
@@ -71,7 +71,7 @@ unfoldable pub fieldsStand : Mode → Kind → List ℕ → List Field → Passe
 fieldsStand m k b fs =
     let ruin = ruinByte k b in
     let whole = pick (either (not (asStored m ruin)) (complete (rowsOf k) fs)) pass (no (fault 4 0 0)) in
-    bind (inOrder (forbidden m ruin fs) (rowsOf k) 2 fs) (λ _. whole)
+    bind (inOrder (forbidden m ruin (couiByte fs) (has COCC fs)) (rowsOf k) 2 fs) (λ _. whole)
 
 -- what is to be done with a record of this kind; 4 where its first tag is of none
 abbrev pub onKind : {A : Type 0} → Option Kind → (Kind → Check A) → Check A

@@ -1,0 +1,129 @@
+-- Laws of the order of fields. Assumes nothing.
+use mathlib.Core.Path.{_≡_, refl, sym, _∙_}
+use mathlib.Core.Bool.{Bool, true, false, not}
+use mathlib.Core.List.{List, [], _∷_}
+use mathlib.Core.Option.{none, some}
+use Prim.Native.Nat.{ℕ, _+_, _-_, _^_, _≤_, _<_}
+use native.Mathlib.Numerals.{add-one}
+use native.Mathlib.Omega.{arith}
+use borrow.Author.Tests.{eq-eqb, ne-eqb, not-true, not-false}
+use lib.Dec.{eqb}
+use lib.ListN.{length, drop}
+use Rattle.base.specs.Choice.{pick, both, either}
+use Rattle.skeleton.specs.Place.{placeAt, fieldsAt}
+use Rattle.skeleton.specs.declared.directory.Shape.{Shape}
+use Rattle.skeleton.specs.declared.place.Place.{Place}
+use Rattle.skeleton.specs.declared.place.Place.the-variants.{At, Done}
+use Rattle.skeleton.proofs.PlaceLaws.{fields-more, fields-done, place-falls}
+use Rattle.rules.specs.Grammar.{forbidden, inOrder}
+use Rattle.rules.specs.declared.Mode.the-variants.{InDataset, InUpdate}
+use Rattle.rules.specs.Grammar.{rowsAfter}
+use Rattle.records.specs.Rows.{rowsWith, rowAfter}
+use Rattle.records.specs.declared.rows.Rest.{Rest}
+use Rattle.records.specs.declared.rows.Rest.the-variants.{From, NoRow}
+use Rattle.records.proofs.RowsLaws.{Left, row-left}
+use Rattle.records.specs.Order.{shutOut, orderFrom, faultyField}
+use Rattle.records.specs.declared.order.Instructions.{Instructions}
+
+-- ---- fields that the instructions do not take
+
+both-false : (b : Bool) → both b false ≡ false
+both-false true = refl
+both-false false = refl
+
+alone : (b : Bool) → b ≡ either (both b true) false
+alone true = refl
+alone false = refl
+
+module _ (ruin coui : ℕ) (controlled : Bool) (t : ℕ) where
+  pub shut-delete : ruin ≡ 2 → true ≡ forbidden InUpdate ruin coui controlled t
+  unfolding forbidden
+  shut-delete e = simp (eq-eqb ruin 2 e)
+
+  module _ (n : ruin ≡ 2 → ⊥) where
+    pub shut-cocc : t ≡ 0x434f4343 → eqb ruin 1 ≡ forbidden InUpdate ruin coui controlled t
+    unfolding forbidden
+    shut-cocc e =
+        let m : t ≡ 0x4332494c → ⊥ = λ x. omega arith in
+        simp (ne-eqb ruin 2 n, eq-eqb t 0x434f4343 e, ne-eqb t 0x4332494c m) (alone (eqb ruin 1))
+
+    module _ (o : t ≡ 0x434f4343 → ⊥) where
+      pub shut-other : (t ≡ 0x4332494c → ⊥) → false ≡ forbidden InUpdate ruin coui controlled t
+      unfolding forbidden
+      shut-other m = simp (ne-eqb ruin 2 n, ne-eqb t 0x434f4343 o, ne-eqb t 0x4332494c m, both-false)
+
+      module _ (l : t ≡ 0x4332494c) where
+        pub shut-list : coui ≡ 2 → true ≡ forbidden InUpdate ruin coui controlled t
+        unfolding forbidden
+        shut-list e = simp (ne-eqb ruin 2 n, ne-eqb t 0x434f4343 o, eq-eqb t 0x4332494c l, both-false, eq-eqb coui 2 e)
+
+        module _ (d : coui ≡ 2 → ⊥) where
+          pub shut-insert : (ruin ≡ 3 → ⊥) → false ≡ forbidden InUpdate ruin coui controlled t
+          unfolding forbidden
+          shut-insert i = simp (ne-eqb ruin 2 n, ne-eqb t 0x434f4343 o, eq-eqb t 0x4332494c l, both-false, ne-eqb coui 2 d, ne-eqb ruin 3 i)
+
+          pub shut-modify : ruin ≡ 3 → not controlled ≡ forbidden InUpdate ruin coui controlled t
+          unfolding forbidden
+          shut-modify i = simp (ne-eqb ruin 2 n, ne-eqb t 0x434f4343 o, eq-eqb t 0x4332494c l, both-false, ne-eqb coui 2 d, eq-eqb ruin 3 i)
+
+pub ruleset not-taken-ways = (shut-delete, shut-cocc, shut-other, shut-list, shut-insert, shut-modify)
+
+module _ (s : Instructions) (t : ℕ) where
+  pub shut-general : s .general ≡ true → false ≡ shutOut s t
+  unfolding shutOut
+  shut-general e = simp e
+
+  module _ (n : s .general ≡ false) where
+    pub shut-dataset : s .mode ≡ InDataset → eqb t 0x434f4343 ≡ shutOut s t
+    unfolding shutOut forbidden
+    shut-dataset e = simp (n, e)
+
+    pub shut-update : s .mode ≡ InUpdate → (b : Bool) → b ≡ forbidden InUpdate (s .ruin) (s .coui) (s .controlled) t → b ≡ shutOut s t
+    unfolding shutOut
+    shut-update e b x = simp (n, e) x
+
+pub ruleset shut-out-ways = (shut-general, shut-dataset, shut-update)
+
+-- ---- the loop over the fields: at directory place p, row place j, field i, where the whole comes to n
+
+module _ (r : List ℕ) (h : Shape) (tags : List ℕ) (s : Instructions) (p j i n : ℕ) (inv : orderFrom r h tags s p j i ≡ n)
+    (e : Place) (en : e ≡ placeAt r h p) where
+  pub order-done : e ≡ Done → 0 ≡ n
+  unfolding orderFrom inOrder faultyField
+  order-done x = rw (fields-done r h p e en x) at inv
+
+  module _ (tag start end next : ℕ) (x : e ≡ At tag start end next) where
+    pub order-falls : length r - next < length r - p
+    order-falls = place-falls r h p e en tag start end next x
+
+    pub order-counts : i ≤ p → i + 1 ≤ next
+    order-counts l = let f = order-falls in omega arith
+
+    pub order-word : i ≤ p → length r < 2 ^ 64 → i + 1 < 2 ^ 64
+    order-word l g = let f = order-falls in omega arith
+
+    module _ (b : Bool) (eb : b ≡ shutOut s tag) where
+      pub order-shut : b ≡ true → i ≡ n
+      unfolding orderFrom inOrder faultyField
+      order-shut y = simp (← eb, y) at (rw (fields-more r h p e en tag start end next x) at inv)
+
+      module _ (nb : b ≡ false) (q : Rest) (eq : q ≡ rowAfter tags tag j) where
+        left : Left tags (rowsAfter tag (rowsWith (drop j tags))) q
+        left = rw eq (row-left tags tag j)
+
+        pub order-none : q ≡ NoRow → i ≡ n
+        unfolding orderFrom inOrder faultyField
+        order-none z =
+            let l : rowsAfter tag (rowsWith (drop j tags)) ≡ none = rw z at left in
+            simp (← eb, nb, l) at (rw (fields-more r h p e en tag start end next x) at inv)
+
+        pub order-more : (k : ℕ) → q ≡ From k → orderFrom r h tags s next k (i + 1) ≡ n
+        unfolding orderFrom inOrder faultyField
+        order-more k z =
+            let l : Left tags (rowsAfter tag (rowsWith (drop j tags))) (From k) = rw z at left in
+            simp (← eb, nb, l .0) at (rw (fields-more r h p e en tag start end next x) at inv)
+
+        pub order-place : (k : ℕ) → q ≡ From k → k ≤ length tags
+        order-place k z = let l : Left tags (rowsAfter tag (rowsWith (drop j tags))) (From k) = rw z at left in l .1
+
+pub ruleset order-turn = (order-done, order-falls, order-counts, order-word, order-shut, order-none, order-more, order-place)
