@@ -1,7 +1,6 @@
 -- The laws of a walk: it is its first step and then the walk from there; a walk that ends well finds what any other finds that steps alike.
 -- Assumes nothing.
-use mathlib.Core.Path.{_≡_, refl, sym, ap, _∙_}
-use mathlib.Core.List.{[]}
+use mathlib.Core.Path.{_≡_, refl, ap, _∙_}
 use Prim.Native.Nat.{ℕ, zero, suc, _<_}
 use native.Mathlib.Omega.{arith}
 use Rattle.base.specs.Lists.{each}

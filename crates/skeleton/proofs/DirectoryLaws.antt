@@ -7,11 +7,11 @@ use native.Mathlib.Omega.{arith}
 use borrow.Author.Tests.{le-leb, lt-leb, lt-ltb, le-ltb, eq-eqb, ne-eqb, leb-true, leb-false, ltb-false, eqb-true, eqb-false, not-true, not-false}
 use lib.ListN.{length, getD}
 use lib.Dec.{leb, ltb, eqb}
-use Rattle.base.specs.Walk.{Step, more, over, Got, follow, walk, Lower}
+use Rattle.base.specs.Walk.{follow, Lower}
 use Rattle.base.proofs.ChoiceLaws.{by-test, both-hold}
 use Rattle.base.proofs.WalkLaws.{walk-step}
-use Rattle.skeleton.specs.Digits.{numberAt, valueOf}
-use Rattle.skeleton.specs.Directory.{Body, tagAt, entryOf, entryIn, entryAt, lies, ended, stepBy, dirStep, fieldsFrom}
+use Rattle.skeleton.specs.Digits.{numberAt}
+use Rattle.skeleton.specs.Directory.{tagAt, entryOf, entryIn, entryAt, lies, ended, stepBy, dirStep, fieldsFrom}
 use Rattle.skeleton.specs.declared.digits.Number.{Number}
 use Rattle.skeleton.specs.declared.digits.Number.the-variants.{Value, NotDigits}
 use Rattle.skeleton.specs.declared.directory.Entry.{Entry}

@@ -1,5 +1,5 @@
 -- The leader of a written record is read back. Assumes nothing.
-use mathlib.Core.Path.{_≡_, refl, sym, ap, _∙_}
+use mathlib.Core.Path.{_≡_, refl, ap, _∙_}
 use mathlib.Core.List.{List, [], _∷_, _++_, append-assoc}
 use mathlib.Core.Bool.{Bool, true, false}
 use Prim.Native.Nat.{ℕ, _+_, _-_, _%_, _^_, _≤_, _<_}
@@ -16,7 +16,7 @@ use Rattle.skeleton.specs.declared.digits.Number.the-variants.{Value}
 use Rattle.skeleton.specs.declared.leader.Head.the-variants.{Good}
 use Rattle.skeleton.proofs.EmitDigitsLaws.{length-digits}
 use Rattle.skeleton.proofs.EmitFieldsLaws.{length-emit}
-use Rattle.skeleton.proofs.OffsetLaws.{byte-off, length-off, number-off}
+use Rattle.skeleton.proofs.OffsetLaws.{byte-off, number-off}
 
 -- ---- its bytes
 

@@ -1,5 +1,5 @@
 -- Laws of the walk over the records of a file. Assumes nothing.
-use mathlib.Core.Path.{_≡_, refl, sym, ap, _∙_}
+use mathlib.Core.Path.{_≡_, refl, ap, _∙_}
 use mathlib.Core.List.{List, []}
 use mathlib.Core.Bool.{Bool, true, false}
 use Prim.Native.Nat.{ℕ, _+_, _-_, _≤_, _<_}
@@ -7,9 +7,8 @@ use native.Mathlib.Omega.{arith}
 use borrow.Author.Tests.{lt-ltb, le-ltb, eq-eqb, ne-eqb, ltb-true, ltb-false}
 use lib.ListN.{length, take, drop}
 use lib.Dec.{ltb, eqb}
-use Rattle.base.specs.Choice.{pick}
 use Rattle.base.specs.Lists.{each}
-use Rattle.base.specs.Walk.{Step, more, over, Got, before, follow, walk, Lower}
+use Rattle.base.specs.Walk.{Step, more, over, before, follow, Lower}
 use Rattle.base.proofs.ChoiceLaws.{by-test}
 use Rattle.base.proofs.WalkLaws.{walk-step}
 use Rattle.skeleton.specs.Leader.{leaderOf}
@@ -20,7 +19,7 @@ use Rattle.skeleton.specs.Record.{withDirectory, recordAt, statedAt}
 use Rattle.skeleton.specs.declared.leader.Head.{Head}
 use Rattle.skeleton.specs.declared.leader.Head.the-variants.{Good, Refused}
 use Rattle.skeleton.proofs.PlaceLaws.{fields-same}
-use Rattle.skeleton.proofs.RecordLaws.{Right, right, refusal-some, record-falls, cut-is}
+use Rattle.skeleton.proofs.RecordLaws.{right, refusal-some, record-falls, cut-is}
 
 -- ---- one step
 

@@ -7,11 +7,9 @@ use native.Mathlib.Omega.{arith}
 use borrow.Author.Tests.{eq-eqb, ne-eqb, eqb-true, eqb-false}
 use lib.ListN.{length}
 use lib.Dec.{eqb}
-use Rattle.base.specs.Choice.{pick}
-use Rattle.base.specs.Walk.{Step, Got, follow, walk, Lower}
+use Rattle.base.specs.Walk.{Got, follow, walk, Lower}
 use Rattle.base.proofs.ChoiceLaws.{by-test}
 use Rattle.base.proofs.WalkLaws.{walk-step}
-use Rattle.skeleton.specs.File.{Field}
 use Rattle.skeleton.specs.Place.{between, placeAt, fieldsAt, seek, placeWith, findFrom, fromTag}
 use Rattle.skeleton.specs.declared.directory.Shape.{Shape}
 use Rattle.skeleton.specs.declared.place.Place.{Place}

@@ -1,15 +1,15 @@
 -- Laws of the step from field to field. Assumes nothing.
-use mathlib.Core.Path.{_≡_, refl, sym, ap, _∙_}
+use mathlib.Core.Path.{_≡_, refl, ap, _∙_}
 use mathlib.Core.List.{List, [], _∷_}
-use mathlib.Core.Bool.{Bool, true, false, not}
+use mathlib.Core.Bool.{not}
 use Prim.Native.Nat.{ℕ, zero, suc, _+_, _-_, _*_, _^_, _≤_, _<_}
 use native.Mathlib.Nat.{zero-mul, add-zero}
 use native.Mathlib.Omega.{arith}
 use borrow.Author.Tests.{le-leb, lt-leb, eq-eqb, ne-eqb, leb-true, eqb-false, not-true}
-use lib.ListN.{length, getD, take, drop}
+use lib.ListN.{length, getD, drop}
 use lib.Dec.{eqb, leb}
-use Rattle.base.specs.Choice.{pick, both}
-use Rattle.base.specs.Walk.{Step, more, over, Got, before, follow, walk, Lower}
+use Rattle.base.specs.Choice.{both}
+use Rattle.base.specs.Walk.{Step, Got, follow, walk, Lower}
 use Rattle.base.specs.Lists.{each}
 use Rattle.base.proofs.ChoiceLaws.{by-test, both-hold}
 use Rattle.base.proofs.WalkLaws.{walk-step, walk-same, Agree}

@@ -1,19 +1,18 @@
 -- Fields that were read can be written again: there are some, and their tags are of four bytes, the first of which is not 1E.
 -- Assumes nothing.
-use mathlib.Core.Path.{_≡_, refl, sym, ap, _∙_}
+use mathlib.Core.Path.{_≡_, refl}
 use mathlib.Core.List.{List, [], _∷_}
 use mathlib.Core.Bool.{Bool, true, false}
-use Prim.Native.Nat.{ℕ, zero, suc, _+_, _-_, _*_, _/_, _^_, _≤_, _<_}
+use Prim.Native.Nat.{ℕ, zero, suc, _+_, _-_, _≤_, _<_}
 use native.Mathlib.Omega.{arith}
-use borrow.Author.Tests.{ltb-true, ltb-false, le-ltb}
+use borrow.Author.Tests.{ltb-true, ltb-false}
 use lib.ListN.{length, getD, take, drop}
 use lib.Seq.{getD-drop}
 use lib.Dec.{eqb, ltb}
-use Rattle.base.specs.Choice.{pick}
 use Rattle.base.specs.Lists.{each}
-use Rattle.base.specs.Walk.{Step, more, over, Got, before, follow}
+use Rattle.base.specs.Walk.{Step, Got, follow}
 use Rattle.base.proofs.ChoiceLaws.{by-test}
-use Rattle.skeleton.specs.Directory.{Body, tagAt, entryAt, lies, ended, stepBy, fieldsFrom, fieldsOf}
+use Rattle.skeleton.specs.Directory.{Body, tagAt, entryAt, lies, ended, stepBy, fieldsOf}
 use Rattle.skeleton.specs.File.{Field, cutOut, recordsFrom, recordsOf}
 use Rattle.skeleton.specs.Place.{between, placeAt, fieldsAt}
 use Rattle.skeleton.specs.Record.{recordAt}
@@ -27,7 +26,7 @@ use Rattle.skeleton.specs.declared.place.Place.{Place}
 use Rattle.skeleton.specs.declared.place.Place.the-variants.{At, Done}
 use Rattle.skeleton.proofs.DirectoryLaws.{fields-step}
 use Rattle.skeleton.proofs.PlaceLaws.{held, fields-more, fields-done, fields-same}
-use Rattle.skeleton.proofs.RecordLaws.{Right, right}
+use Rattle.skeleton.proofs.RecordLaws.{right}
 use Rattle.skeleton.proofs.FileLaws.{records-over, records-refused, records-more}
 
 -- ---- tags

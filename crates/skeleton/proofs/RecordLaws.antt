@@ -1,5 +1,5 @@
 -- Laws of one record of a file. Assumes nothing.
-use mathlib.Core.Path.{_≡_, refl, sym, ap, _∙_}
+use mathlib.Core.Path.{_≡_, refl, sym}
 use mathlib.Core.List.{List}
 use mathlib.Core.Bool.{Bool, true, false}
 use Prim.Native.Nat.{ℕ, _+_, _-_, _^_, _≤_, _<_}
@@ -7,8 +7,7 @@ use native.Mathlib.Omega.{arith}
 use borrow.Author.Tests.{lt-ltb, le-ltb, eq-eqb, ne-eqb, leb-false, eqb-true, eqb-false}
 use lib.ListN.{length, take, drop, length-take, length-drop}
 use lib.Seq.{take-all, length-take-le}
-use lib.Dec.{leb, ltb, eqb}
-use Rattle.base.specs.Walk.{Got}
+use lib.Dec.{leb, eqb}
 use Rattle.base.proofs.ChoiceLaws.{by-test}
 use Rattle.skeleton.specs.Leader.{statedOf, leaderOf}
 use Rattle.skeleton.specs.Directory.{entryAt, fieldsOf}
@@ -17,7 +16,6 @@ use Rattle.skeleton.specs.Record.{withDirectory, recordAt, statedAt}
 use Rattle.skeleton.specs.Shape.{Bounded}
 use Rattle.skeleton.specs.declared.leader.Head.{Head}
 use Rattle.skeleton.specs.declared.leader.Head.the-variants.{Good, Refused}
-use Rattle.skeleton.specs.declared.directory.Shape.{Shape}
 use Rattle.skeleton.proofs.LeaderLaws.{Fitting, leader-fitting, Stated, leader-stated}
 use Rattle.skeleton.proofs.DirectoryLaws.{dir-bad}
 
