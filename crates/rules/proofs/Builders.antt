@@ -1,15 +1,15 @@
 -- Records and fields for samples, made from numbers.
-use Prim.Native.Nat.{ℕ, _*_}
+use Prim.Native.Nat.{ℕ}
 use mathlib.Core.List.{List, [], _∷_, _++_}
 use lib.ListN.{replicate}
 use Rattle.base.specs.Text.{ascii}
-use Rattle.base.specs.Lists.{each, gather}
+use Rattle.base.specs.Lists.{each}
 use Rattle.skeleton.specs.File.{Field}
 use Rattle.fields.specs.Table.{headOf, tupleOf}
 use Rattle.fields.specs.Values.{Val, num, txt, puts, putAll}
 use Rattle.fields.specs.declared.Format.{Format}
 use Rattle.fields.specs.declared.Format.the-variants.{Dsid, Irid, Prid, Mrid, Frid, Foid, Attr, InasNew, Spas, Cocc, C2il}
-use Rattle.forest.specs.Forest.{Forest, nil, tree}
+use Rattle.forest.specs.Forest.{nil, tree}
 use Rattle.rules.specs.Tags.{DSID, IRID, PRID, MRID, FRID, FOID, ATTR, INAS, SPAS, COCC, C2IT, C2IL}
 use Rattle.rules.specs.Coordinates.{Coord}
 use Rattle.rules.specs.Record.{Parts, Rec}
@@ -141,4 +141,16 @@ feature =
         coordinates = [];
         spatial = record { key = 110 ∷ 7 ∷ []; ornt = 1; smin = 0; smax = 0 } ∷ [];
       };
+    }
+
+-- feature 3 as listed in the paper: RVER 2, three entries
+unfoldable pub listed : Rec
+listed =
+    record {
+      kind = Feature;
+      rcid = 3;
+      code = 77;
+      rver = 2;
+      foid = 1 ∷ 2 ∷ 3 ∷ [];
+      parts = record { attributes = tree 21 [] (tree 22 (ascii "A") nil nil) (tree 23 [] nil nil); associations = []; coordinates = []; spatial = [] };
     }
