@@ -1,5 +1,5 @@
--- The laws of a walk: it is its first step and then the walk from there; a walk that ends well finds what any other finds that steps alike.
--- Assumes nothing.
+-- The laws of a walk: it is its first step and then the walk from there; a walk that ends well finds what any other finds that steps alike;
+-- induction on a measure. Assumes nothing.
 use mathlib.Core.Path.{_≡_, refl, ap, _∙_}
 use Prim.Native.Nat.{ℕ, zero, suc, _<_}
 use native.Mathlib.Omega.{arith}

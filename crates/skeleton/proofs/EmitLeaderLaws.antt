@@ -49,8 +49,10 @@ shaped-marks false a b w z = shaped-widths a b w z
 shaped-all : (first : Bool) (a b len base : ℕ) → Widths a b → (z : List ℕ)
     → shaped (template first) (inDigits 5 len ++ (middle first ++ (inDigits 5 base ++ (marks first ++ (widths a b ++ z))))) ≡ true
 unfolding shaped fitsByte
-shaped-all true a b len base w z = shaped-five len (drop 5 (template true)) _ (shaped-five base (drop 17 (template true)) _ (shaped-marks true a b w z))
-shaped-all false a b len base w z = shaped-five len (drop 5 (template false)) _ (shaped-five base (drop 17 (template false)) _ (shaped-marks false a b w z))
+shaped-all true a b len base w z =
+    shaped-five len (drop 5 (template true)) _ (shaped-five base (drop 17 (template true)) _ (shaped-marks true a b w z))
+shaped-all false a b len base w z =
+    shaped-five len (drop 5 (template false)) _ (shaped-five base (drop 17 (template false)) _ (shaped-marks false a b w z))
 
 -- ---- what they say
 

@@ -79,6 +79,7 @@ pub ruleset stated-at-ways = (stated-short, stated-room, stated-there)
 
 -- ---- what holds of a record that is right
 
+-- it is more than a leader, lies in the file, its directory is right, and its numbers alone say what its leader says
 pub record Right (f : List ℕ) (at len base a b : ℕ) : Type 0 where
   pub long : 24 < len
   pub inside : at + len ≤ length f
@@ -104,6 +105,7 @@ fields-long r base a b z = go (leb (length r) 24) refl
 pub cut-is : (f : List ℕ) (at len : ℕ) → between f at (at + len) ≡ take len (drop at f)
 cut-is f at len = let e : at + len - at ≡ len = omega arith in rw e refl
 
+-- what a leader says of a record, where the directory is right
 right-of : (f : List ℕ) (at : ℕ) (h : Head) → Fitting (drop at f) h → Stated (drop at f) h → RightAt f at (withDirectory (drop at f) h)
 unfolding statedAt
 right-of f at (Good len base a b) h s =
@@ -125,7 +127,9 @@ right-of f at (Refused n) h s = h
 
 record-right : (f : List ℕ) (at : ℕ) → RightAt f at (recordAt f at)
 unfolding recordAt
-record-right f at = right-of f at (leaderOf (drop at f) (eqb at 0)) (leader-fitting (drop at f) (eqb at 0)) (leader-stated (drop at f) (eqb at 0))
+record-right f at =
+    let s = drop at f in
+    right-of f at (leaderOf s (eqb at 0)) (leader-fitting s (eqb at 0)) (leader-stated s (eqb at 0))
 
 -- by the record h that was read at at
 module _ (f : List ℕ) (at : ℕ) (h : Head) (eh : h ≡ recordAt f at) where
