@@ -1,0 +1,18 @@
+-- What code answers of a record's tags.
+use Rattle.base.specs.Check.{Check, ok, no}
+use Rattle.rules.specs.declared.Kind.{Kind}
+use Rattle.records.specs.declared.grammar.Tags.{Tags}
+use Rattle.records.specs.declared.grammar.Tags.the-variants.{Right, Wrong}
+use mathlib.Core.Option.{Option, some, none}
+use Rattle.records.specs.declared.grammar.Found.{Found}
+use Rattle.records.specs.declared.grammar.Found.the-variants.{Is, Nothing}
+
+-- the kind, or the refusal's number, field and tuple
+unfoldable pub graded : Check Kind → Tags
+graded (ok k) = Right k
+graded (no x) = Wrong (x .number) (x .field) (x .tuple)
+
+-- a kind that a tag has, or none
+abbrev pub foundKind : Option Kind → Found
+foundKind (some k) = Is k
+foundKind none = Nothing

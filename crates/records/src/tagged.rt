@@ -1,0 +1,46 @@
+// A record's fields found by their tags.
+use skeleton::directory::Shape;
+use skeleton::place::Place;
+use skeleton::place::find;
+ghost use mathlib.Core.Path.{_≡_};
+ghost use Rattle.skeleton.specs.Place.{fieldsAt};
+ghost use Rattle.skeleton.specs.Shape.{Bounded};
+ghost use Rattle.rules.specs.ByTag.{has};
+ghost use Rattle.rules.specs.Grammar.{couiByte};
+
+// Whether there is a field with the tag, from the entry at p on.
+pub fn has_field(r: &[u8], h: Shape, wanted: u32, p: usize) -> bool
+    requires { ⌜ Bounded h ⌝ }
+    ensures { λ b. ⌜ b ≡ has wanted (fieldsAt (now (r .entry)) h p) ⌝ }
+{
+    match find(r, h, wanted, p) {
+        Place::At {
+            tag: _,
+            start: _,
+            end: _,
+            next: _,
+        } => true,
+        Place::Done => false,
+    }
+}
+
+// The first byte of COCC (0x434f4343), COUI; 0 where there is none.
+pub fn coui_byte(r: &[u8], h: Shape, p: usize) -> u8
+    requires { ⌜ Bounded h ⌝ }
+    ensures { λ b. ⌜ b ≡ couiByte (fieldsAt (now (r .entry)) h p) ⌝ }
+{
+    match find(r, h, 0x434f4343, p) {
+        Place::At {
+            tag: _,
+            start,
+            end,
+            next: _,
+        } => {
+            if start < end {
+                return r[start];
+            }
+            0
+        }
+        Place::Done => 0,
+    }
+}
