@@ -657,6 +657,7 @@ fn number_4_is_a_wrong_tag_order_or_absence() {
     let wrong = [
         (INFORMATION, vec![irid(1, 20, 1, INSERT), foid(1, 1, 1)]),
         (INFORMATION, vec![irid(1, 20, 1, INSERT), inas(1, 5, 6, INSERT, &[]), attr(&[])]),
+        (INFORMATION, vec![irid(1, 20, 1, INSERT), attr(&[]), attr(&[])]),
         (POINT, vec![prid(1, 1, INSERT)]),
         (POINT, vec![prid(1, 1, INSERT), c2it(0, 0), inas(1, 5, 6, INSERT, &[])]),
         (POINT, vec![c2it(0, 0), prid(1, 1, INSERT)]),
