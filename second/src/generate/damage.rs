@@ -124,13 +124,22 @@ fn subfields(field: &Field) -> Vec<(usize, usize)> {
     found
 }
 
+/// One of the places; often one of a single byte, where instructions, names and orientations lie.
+fn chosen(random: &mut Random, places: &[(usize, usize)]) -> (usize, usize) {
+    let single: Vec<(usize, usize)> = places.iter().copied().filter(|(_, width)| *width == 1).collect();
+    if !single.is_empty() && random.percent(40) {
+        return random.pick(&single);
+    }
+    random.pick(places)
+}
+
 /// One subfield set to a value at or beside a boundary, or moved by one.
 fn subfield(random: &mut Random, field: &mut Field) {
     let places = subfields(field);
     if places.is_empty() {
         return body(random, field);
     }
-    let (at, width) = random.pick(&places);
+    let (at, width) = chosen(random, &places);
     let bytes = &mut field.body[at..at + width];
     let mut wide = [0; 4];
     wide[..width].copy_from_slice(bytes);
