@@ -174,7 +174,11 @@ fn associations(table: &mut Table) {
     let again = modify(&[inas(5, 1, 1, 2, &[]), bare]);
     table.acts_done("an association deleted and inserted: it moves to the end", &[again], &after_with(FEATURE, moved));
     let all_gone = modify(&[inas(6, 1, 1, 2, &[]), inas(5, 1, 1, 2, &[])]);
-    table.acts_done("all associations deleted", &[all_gone], &after_with(FEATURE, with_lists(3, &[places])));
+    table.acts_done("all associations deleted", &[all_gone], &after_with(FEATURE, with_lists(3, &[places.clone()])));
+    let third = inas(5, 3, 3, 1, &[]);
+    let first_of_three = modify(&[third.clone(), inas(5, 1, 1, 2, &[])]);
+    let kept = with_lists(3, &[six.clone(), third, places.clone()]);
+    table.acts_done("the first of three associations deleted", &[first_of_three], &after_with(FEATURE, kept));
     let passing = modify(&[inas(99, 1, 1, 1, &[]), inas(99, 1, 1, 2, &[])]);
     table.acts_done("an association that named nothing", &[passing], &after_with(FEATURE, feature(3, &TREE)));
 }
@@ -202,6 +206,10 @@ fn places(table: &mut Table) {
     result.insert(AS_MULTI - 1, records[2].clone());
     result.insert(AS_POINT - 1, records[1].clone());
     table.acts_done("places appended over several fields", &records, &result);
+    let first_gone = [&records[..], &[vec![frid(3, 40, 4, 3), spas(&[gone(point)])]]].concat();
+    result[FEATURE + 1][0] = frid(3, 40, 4, 1);
+    result[FEATURE + 1][5] = spas(&[multi, new, other]);
+    table.acts_done("the first of four places deleted", &first_gone, &result);
 }
 
 /// On the tuples (1,1), (2,2), (3,3).
