@@ -81,7 +81,7 @@ fn update_case(random: &mut Random, old: &Chart) -> Scattered {
         8 => (Fate::Whole, Fate::Bytes),
         _ => (Fate::Whole, Fate::Whole),
     };
-    let careless = random.percent(8);
+    let careless = random.percent(10);
     let Revised { records, chart } = revise(random, old, careless);
     let given = form::records(old, &mut Form::Free(random));
     let dataset = arrived(random, given, dataset_fate);

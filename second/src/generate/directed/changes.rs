@@ -174,7 +174,11 @@ fn associations(table: &mut Table) {
     let again = modify(&[inas(5, 1, 1, 2, &[]), bare]);
     table.acts_done("an association deleted and inserted: it moves to the end", &[again], &after_with(FEATURE, moved));
     let all_gone = modify(&[inas(6, 1, 1, 2, &[]), inas(5, 1, 1, 2, &[])]);
-    table.acts_done("all associations deleted", &[all_gone], &after_with(FEATURE, with_lists(3, &[places.clone()])));
+    table.acts_done(
+        "all associations deleted",
+        &[all_gone],
+        &after_with(FEATURE, with_lists(3, std::slice::from_ref(&places))),
+    );
     let third = inas(5, 3, 3, 1, &[]);
     let first_of_three = modify(&[third.clone(), inas(5, 1, 1, 2, &[])]);
     let kept = with_lists(3, &[six.clone(), third, places.clone()]);
