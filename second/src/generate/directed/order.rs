@@ -131,7 +131,7 @@ fn first_pass_before_eight(table: &mut Table) {
         let absent = vec![prid(99, 1, 2)];
         table.acts(&format!("{name} at record 4 before 9 at record 3"), &[absent, fields], number);
     }
-    let mut cut = file(&unfollowing(&[good.clone()]));
+    let mut cut = file(&unfollowing(std::slice::from_ref(&good)));
     cut.pop();
     table.update_bytes("1 before 8", cut, 1, 3);
     let mut behind = file(&unfollowing(&[good]));

@@ -131,7 +131,7 @@ fn grown(table: &mut Table) {
         let case = Case::update(file(&full), file(&with_heading(acts)), WIDE, WORK);
         table.row(&format!("update: {name}"), case, Intent::Refused(number, 2, record));
     };
-    refuse("a tuple more than can be written", &[add.clone()], 12, 3);
+    refuse("a tuple more than can be written", std::slice::from_ref(&add), 12, 3);
     refuse("a tuple more than can be written, cut afterwards", &[add.clone(), cut], 12, 3);
     refuse("12 at record 3 before 9 at record 4", &[add, vec![prid(99, 2, 2)]], 12, 3);
     let smaller = vec![mrid(1, 2, 3), cocc(2, 1, 1)];
