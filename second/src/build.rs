@@ -98,17 +98,21 @@ pub fn foid(agency: u16, number: u32, subdivision: u16) -> Field {
 /// A tuple of ATTR: code, index, parent, instruction, value.
 pub type Tuple<'a> = (u16, u16, u16, u8, &'a str);
 
-pub fn tuples(list: &[Tuple]) -> Vec<u8> {
+/// One tuple, whose value may hold any bytes.
+pub fn tuple(code: u16, index: u16, parent: u16, instruction: u8, value: &[u8]) -> Vec<u8> {
     let mut body = Vec::new();
-    for (code, index, parent, instruction, value) in list {
-        for number in [code, index, parent] {
-            body.extend_from_slice(&number.to_le_bytes());
-        }
-        body.push(*instruction);
-        body.extend_from_slice(value.as_bytes());
-        body.push(0x1f);
+    for number in [code, index, parent] {
+        body.extend_from_slice(&number.to_le_bytes());
     }
+    body.push(instruction);
+    body.extend_from_slice(value);
+    body.push(0x1f);
     body
+}
+
+pub fn tuples(list: &[Tuple]) -> Vec<u8> {
+    let of = |t: &Tuple| tuple(t.0, t.1, t.2, t.3, t.4.as_bytes());
+    list.iter().flat_map(of).collect()
 }
 
 pub fn attr(list: &[Tuple]) -> Field {

@@ -1,0 +1,17 @@
+-- Choices by a test.
+use mathlib.Core.Bool.{Bool, true, false}
+
+-- the first where the test holds, else the second
+abbrev pub pick {ℓ} : {A : Type ℓ} → Bool → A → A → A
+pick true a b = a
+pick false a b = b
+
+-- both tests hold
+abbrev pub both : Bool → Bool → Bool
+both true b = b
+both false b = false
+
+-- one of the tests holds
+abbrev pub either : Bool → Bool → Bool
+either true b = true
+either false b = b

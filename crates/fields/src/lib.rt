@@ -1,0 +1,43 @@
+// The contents of fields.
+
+// The formats of fields. New: every instruction in it is insert; Gone: it is delete, and nothing follows.
+pub enum Format {
+    Dsid,
+    DsidUpdate,
+    Irid,
+    IridNew,
+    Prid,
+    PridNew,
+    Mrid,
+    MridNew,
+    Frid,
+    FridNew,
+    Foid,
+    Attr,
+    AttrNew,
+    InasNew,
+    InasGone,
+    Spas,
+    SpasNew,
+    Cocc,
+    C2it,
+    C2il,
+}
+
+// How one subfield is written: a number of 1, 2 or 4 bytes within a range, one of four values, a number of so many bytes without a range,
+// a text that 1F ends, a text of so many bytes.
+pub enum Sub {
+    B11(u32, u32),
+    B12(u32, u32),
+    B14(u32, u32),
+    Among(u32, u32, u32, u32),
+    Raw(usize),
+    Text,
+    Fixed(usize),
+}
+
+// How many tuples fill a field, or the number of the first that does not stand, 0 for the head.
+pub enum Tally {
+    Whole(usize),
+    Short(usize),
+}

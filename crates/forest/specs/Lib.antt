@@ -1,0 +1,5 @@
+pub mod Forest
+pub mod Rule
+pub mod Acts
+pub mod Edit
+pub mod Opened

@@ -1,0 +1,1 @@
+// The attribute tree: definitions only.
