@@ -17,16 +17,18 @@ use Rattle.fields.specs.declared.Tally.the-variants.{Whole, Short}
 use Rattle.rules.specs.Tags.{FOID, ATTR, INAS, SPAS, COCC, C2IT}
 use Rattle.rules.specs.Place.{Place}
 use Rattle.rules.specs.Coordinates.{sent, placeIn}
-use Rattle.rules.specs.Grammar.{Mode, inDataset, inUpdate, ruinByte, asStored}
+use Rattle.rules.specs.Grammar.{ruinByte, asStored}
 use Rattle.rules.specs.declared.Kind.{Kind}
 use Rattle.rules.specs.declared.Kind.the-variants.{Info, Point, Multi, Feature}
+use Rattle.rules.specs.declared.Mode.{Mode}
+use Rattle.rules.specs.declared.Mode.the-variants.{InDataset, InUpdate}
 
 -- ---- the format of each field
 
 -- in a dataset RUIN too has to be insert
 unfoldable pub insertOnly : Mode → Bool
-insertOnly inDataset = true
-insertOnly inUpdate = false
+insertOnly InDataset = true
+insertOnly InUpdate = false
 
 -- the identifier's; new: every instruction is insert
 unfoldable pub identFormat : Bool → Kind → Format

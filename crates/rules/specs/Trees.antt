@@ -15,9 +15,10 @@ use Rattle.forest.specs.Forest.{Forest, Tup}
 use Rattle.forest.specs.Rule.{treeOf}
 use Rattle.forest.specs.Acts.{Act, insert, delete, modify, UTup, Acts, actsOf}
 use Rattle.rules.specs.Tags.{ATTR, INAS}
-use Rattle.rules.specs.Grammar.{Mode, ruinByte, asStored}
+use Rattle.rules.specs.Grammar.{ruinByte, asStored}
 use Rattle.rules.specs.Content.{inasFormat}
 use Rattle.rules.specs.declared.Kind.{Kind}
+use Rattle.rules.specs.declared.Mode.{Mode}
 
 -- a tuple of its values: NATC, ATIX, PAIX, ATIN (insert), ATVL
 unfoldable pub tupOf : List Val → Tup
