@@ -1,7 +1,6 @@
--- The laws of a walk: it is its first step and then the walk from there; a walk that ends well finds what any other finds that steps alike.
--- Assumes nothing.
-use mathlib.Core.Path.{_≡_, refl, sym, ap, _∙_}
-use mathlib.Core.List.{[]}
+-- The laws of a walk: it is its first step and then the walk from there; a walk that ends well finds what any other finds that steps alike;
+-- induction on a measure. Assumes nothing.
+use mathlib.Core.Path.{_≡_, refl, ap, _∙_}
 use Prim.Native.Nat.{ℕ, zero, suc, _<_}
 use native.Mathlib.Omega.{arith}
 use Rattle.base.specs.Lists.{each}
@@ -24,6 +23,15 @@ module _ {S A : Type 0} (f : S → Step S A) (μ : S → ℕ) (falls : (s : S) �
   pub walk-step : (s : S) → walk f μ s ≡ follow (f s) (walk f μ)
   unfolding walk steps
   walk-step s = same s (f s) (steps f (μ s)) (walk f μ) (falls s) (λ t l. enough (μ s) (suc (μ t)) t l (omega arith))
+
+-- what holds of a state, where it holds of every state of smaller measure, holds of all
+module _ {S : Type 0} (μ : S → ℕ) (P : S → Type 0) (here : (s : S) → ((t : S) → μ t < μ s → P t) → P s) where
+  below : (n : ℕ) (s : S) → μ s < n → P s
+  below zero s l = absurd (omega arith)
+  below (suc n) s l = here s (λ t m. below n t (omega arith))
+
+  pub by-measure : (s : S) → P s
+  by-measure s = below (suc (μ s)) s (omega arith)
 
 -- g steps as f does, at h of f's state and with i of f's item, wherever f goes on or ends well
 abbrev pub Agree : {S T A B : Type 0} → (S → T) → (A → B) → Step S A → Step T B → Type 0

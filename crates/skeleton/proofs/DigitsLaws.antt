@@ -49,6 +49,7 @@ Room m k acc = (acc + 1) * 10 ^ k ≤ m
 pub room-start : (m k : ℕ) → k ≤ m → Room (10 ^ m) k 0
 room-start m k h = omega (arith, pow-le-pow-right {n = 10} (omega arith) h)
 
+-- with no digit to come there is still room
 room-below : (m k acc : ℕ) → Room m k acc → acc < m
 room-below m k acc h = omega (arith, mul-le-mul-left (acc + 1) (one-le-pow k 10 (omega arith)))
 
@@ -74,12 +75,15 @@ room-plus k acc b r h = omega (arith, room-below (10 ^ 9) k acc r)
 
 -- ---- a number's size
 
+-- digits that have room below m are a number below m
 digits-below : (m : ℕ) (bs : List ℕ) (acc : ℕ) → 0 < m → Room m (length bs) acc → valueOf (digits bs acc) < m
 unfolding digits isDigit
 digits-below m [] acc z h = room-below m 0 acc h
 digits-below m (b ∷ bs) acc z h =
     by-test (λ n. valueOf n < m) (both (leb 48 b) (leb b 57)) _ _
-    (λ e. let x = leb-true b 57 (both-hold (leb 48 b) _ e .1) in digits-below m bs (acc * 10 + (b - 48)) z (rw sub-one at (room-next m (suc (length bs)) acc (b - 48) (omega arith) (omega arith) h)))
+    (λ e.
+    let x = leb-true b 57 (both-hold (leb 48 b) _ e .1) in
+    digits-below m bs (acc * 10 + (b - 48)) z (rw sub-one at (room-byte m (suc (length bs)) acc b h (omega arith) x)))
     (λ _. z)
 
 -- a number of at most nine digits

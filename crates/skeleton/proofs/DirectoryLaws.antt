@@ -7,11 +7,11 @@ use native.Mathlib.Omega.{arith}
 use borrow.Author.Tests.{le-leb, lt-leb, lt-ltb, le-ltb, eq-eqb, ne-eqb, leb-true, leb-false, ltb-false, eqb-true, eqb-false, not-true, not-false}
 use lib.ListN.{length, getD}
 use lib.Dec.{leb, ltb, eqb}
-use Rattle.base.specs.Walk.{Step, more, over, Got, follow, walk, Lower}
+use Rattle.base.specs.Walk.{follow, Lower}
 use Rattle.base.proofs.ChoiceLaws.{by-test, both-hold}
 use Rattle.base.proofs.WalkLaws.{walk-step}
-use Rattle.skeleton.specs.Digits.{numberAt, valueOf}
-use Rattle.skeleton.specs.Directory.{Body, tagAt, entryOf, entryIn, entryAt, lies, ended, stepBy, dirStep, fieldsFrom}
+use Rattle.skeleton.specs.Digits.{numberAt}
+use Rattle.skeleton.specs.Directory.{tagAt, entryOf, entryIn, entryAt, lies, ended, stepBy, dirStep, fieldsFrom}
 use Rattle.skeleton.specs.declared.digits.Number.{Number}
 use Rattle.skeleton.specs.declared.digits.Number.the-variants.{Value, NotDigits}
 use Rattle.skeleton.specs.declared.directory.Entry.{Entry}
@@ -53,7 +53,7 @@ Goes r a b p (Field tag pos len next) = (next ≡ p + (4 + a + b)) × (next ≤ 
 Goes r a b p End = p < length r
 Goes r a b p Bad = Unit {0}
 
-pub entry-goes : (r : List ℕ) (a b p : ℕ) → Goes r a b p (entryAt r a b p)
+entry-goes : (r : List ℕ) (a b p : ℕ) → Goes r a b p (entryAt r a b p)
 entry-goes r a b p = by-entry (Goes r a b p) r a b p tt (λ h. h) (λ pos len e. (refl, e .fits))
 
 -- a field's numbers have at most nine digits
@@ -82,7 +82,7 @@ module _ (r : List ℕ) (a b p : ℕ) (e : Entry) (en : e ≡ entryAt r a b p) w
     pub field-falls : length r - next < length r - p
     field-falls = let h = field-goes in omega arith
 
-    field-small : a ≤ 9 → b ≤ 9 → (pos < 10 ^ 9) × (len < 10 ^ 9)
+    pub field-small : a ≤ 9 → b ≤ 9 → (pos < 10 ^ 9) × (len < 10 ^ 9)
     field-small ha hb = let h : Small e = rw en (entry-small r a b p ha hb) in rw x at h
 
     pub pos-small : a ≤ 9 → b ≤ 9 → pos < 10 ^ 9
@@ -107,7 +107,9 @@ lies-in r base at pos len e =
     let z = both-hold (leb (base + pos + len) (length r)) _ (y .1) in
     record { follows = eqb-true pos at (x .0); not-empty = eqb-false len 0 (not-true _ (y .0)); inside = leb-true _ _ (z .0) }
 
-lower-of : (r : List ℕ) (base a b p at : ℕ) (e : Entry) → Goes r a b p e → Lower (λ (s : ℕ × ℕ). length r - s .0) (p, at) (stepBy r base p at e)
+-- a step of the walk leads further on
+lower-of : (r : List ℕ) (base a b p at : ℕ) (e : Entry) → Goes r a b p e
+    → Lower (λ (s : ℕ × ℕ). length r - s .0) (p, at) (stepBy r base p at e)
 lower-of r base a b p at (Field tag pos len next) h =
     by-test (Lower (λ (s : ℕ × ℕ). length r - s .0) (p, at)) (lies r base at pos len) _ _ (λ _. omega arith) (λ _. tt)
 lower-of r base a b p at End h = tt
@@ -118,7 +120,8 @@ pub fields-step : (r : List ℕ) (base a b p at : ℕ)
     → fieldsFrom r base a b p at ≡ follow (stepBy r base p at (entryAt r a b p)) (λ s. fieldsFrom r base a b (s .0) (s .1))
 unfolding fieldsFrom
 fields-step r base a b p at =
-    walk-step (dirStep r base a b) (λ s. length r - s .0) (λ s. lower-of r base a b (s .0) (s .1) (entryAt r a b (s .0)) (entry-goes r a b (s .0))) (p, at)
+    walk-step (dirStep r base a b) (λ s. length r - s .0)
+    (λ s. lower-of r base a b (s .0) (s .1) (entryAt r a b (s .0)) (entry-goes r a b (s .0))) (p, at)
 
 -- a turn of `directory`, by the entry e that was read at p
 module _ (r : List ℕ) (base a b p at n : ℕ) (inv : (fieldsFrom r base a b p at) .ending ≡ n) (e : Entry) (en : e ≡ entryAt r a b p) where
@@ -149,7 +152,8 @@ module _ (r : List ℕ) (base a b p at n : ℕ) (inv : (fieldsFrom r base a b p 
       pub dir-word : length r < 2 ^ 64 → at + len < 2 ^ 64
       dir-word w = let h = dir-in in omega arith
 
-pub ruleset directory-turn = (dir-not, dir-more, dir-end, dir-end-not, dir-bad, dir-in, dir-word, field-falls, pos-small, len-small, end-in, arith)
+pub ruleset directory-turn =
+    (dir-not, dir-more, dir-end, dir-end-not, dir-bad, dir-in, dir-word, field-falls, pos-small, len-small, end-in, arith)
 
 -- ---- one entry
 

@@ -6,7 +6,7 @@ use Prim.Native.Nat.{ℕ, _+_, _-_, _*_, _/_, _%_, _^_, _≤_, _<_}
 use native.Mathlib.Nat.{add-zero, div-div-eq-div-mul, div-add-mod'}
 use native.Mathlib.Omega.{arith}
 use borrow.Author.Tests.{le-leb, lt-leb, lt-ltb, le-ltb, eq-eqb, ne-eqb}
-use lib.ListN.{length, getD, take, drop, length-append}
+use lib.ListN.{length, getD, take, length-append}
 use lib.Seq.{take-at, getD-append-seam}
 use Rattle.base.specs.Lists.{each}
 use Rattle.base.specs.Walk.{Got, before}
@@ -90,7 +90,8 @@ module _ (a b : ℕ) (r pre tail : List ℕ) (base p pos : ℕ) (e : r ≡ pre +
   end-read : entryAt r a b p ≡ End
   unfolding entryAt
   end-read =
-      simp (lt-leb (length r) p (omega (arith, length-off r pre (30 ∷ tail) p e l)), eq-eqb (getD r p 0) 30 (rw add-zero at (byte-off r pre _ p e l 0)))
+      let n = length-off r pre (30 ∷ tail) p e l in
+      simp (lt-leb (length r) p (omega arith), eq-eqb (getD r p 0) 30 (rw add-zero at (byte-off r pre _ p e l 0)))
 
   ended-read : 24 < p → p + 1 ≡ base → length r ≡ base + pos → ended r base p pos ≡ true
   unfolding ended
@@ -127,8 +128,9 @@ module _ (r front preb more : List ℕ) (f : Field) (base pos : ℕ) (e : r ≡ 
   cut-read : cutOut r (record { tag = f .tag; start = base + pos; len = size f }) ≡ f
   unfolding cutOut
   cut-read =
+      let d : r ≡ (front ++ preb) ++ (f .body ++ (30 ∷ more)) = e ∙ sym (append-assoc front preb _) in
       ap (λ (s : List ℕ). record { tag = f .tag; body = s })
-      (ap (take (size f - 1)) (drop-off r (front ++ preb) (f .body ++ (30 ∷ more)) (base + pos) (e ∙ sym (append-assoc front preb _)) (simp (length-append, lf, lb)))
+      (ap (take (size f - 1)) (drop-off r (front ++ preb) (f .body ++ (30 ∷ more)) (base + pos) d (simp (length-append, lf, lb)))
       ∙ take-at (f .body) (30 ∷ more) (size f - 1) (omega arith))
 
 -- ---- all of them
@@ -150,12 +152,17 @@ read-back a b [] r pre tail front preb base p pos ts ps e l e′ lf lb n g h =
     ∙ simp (end-read a b r pre tail base p pos e l, ended-read a b r pre tail base p pos e l (omega arith) (omega arith) k)
 read-back a b (f ∷ fs) r pre tail front preb base p pos ts ps e l e′ lf lb n g h =
     let w = entry a b f pos in
-    let d : r ≡ pre ++ (w ++ (entries a b (pos + size f) fs ++ (30 ∷ tail))) = e ∙ ap (λ (s : List ℕ). pre ++ s) (append-assoc w (entries a b (pos + size f) fs) (30 ∷ tail)) in
+    let later = entries a b (pos + size f) fs in
+    let d : r ≡ pre ++ (w ++ (later ++ (30 ∷ tail))) = e ∙ ap (λ (s : List ℕ). pre ++ s) (append-assoc w later (30 ∷ tail)) in
     ap (cut r) (fields-step r base a b p pos)
-    ∙ (simp (entry-read a b r pre _ f pos p d l (ts .0) (ps .0) (ps .1), lies-read r front preb (contents fs) f base pos e′ lf lb, cut-read r front preb (contents fs) f base pos e′ lf lb))
+    ∙ (simp (
+      entry-read a b r pre _ f pos p d l (ts .0) (ps .0) (ps .1),
+      lies-read r front preb (contents fs) f base pos e′ lf lb,
+      cut-read r front preb (contents fs) f base pos e′ lf lb,
+    ))
     ∙ ap (before f)
     (read-back a b fs r (pre ++ w) tail front (preb ++ (f .body ++ (30 ∷ []))) base (p + (4 + a + b)) (pos + size f) (ts .1) (ps .2)
-    (d ∙ sym (append-assoc pre w (entries a b (pos + size f) fs ++ (30 ∷ tail))))
+    (d ∙ sym (append-assoc pre w (later ++ (30 ∷ tail))))
     (simp (length-append, length-digits, l) (omega arith))
     (e′ ∙ simp append-assoc)
     lf (simp (length-append, lb) (omega arith)) (omega arith) (omega arith) (omega arith))

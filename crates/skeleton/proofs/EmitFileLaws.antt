@@ -1,20 +1,19 @@
 -- Written records and written files are read back. Assumes nothing.
 use mathlib.Core.Path.{_≡_, refl, sym, ap, _∙_}
-use mathlib.Core.List.{List, [], _∷_, _++_, append-assoc, append-nil}
+use mathlib.Core.List.{List, [], _∷_, _++_, append-assoc}
 use mathlib.Core.Bool.{Bool, true, false}
 use Prim.Native.Nat.{ℕ, _+_, _^_, _≤_, _<_}
 use native.Mathlib.Omega.{arith}
-use borrow.Author.Tests.{lt-ltb, le-ltb, ne-eqb}
-use lib.ListN.{length, take, drop, length-append}
+use borrow.Author.Tests.{lt-ltb, ne-eqb}
+use lib.ListN.{length, length-append}
 use lib.Seq.{take-at}
 use lib.Dec.{eqb}
 use Rattle.base.specs.Walk.{Got, before}
-use Rattle.skeleton.specs.Directory.{Body, fieldsOf}
 use Rattle.skeleton.specs.File.{Field, recordsFrom, recordsOf}
-use Rattle.skeleton.specs.Emit.{size, sizes, baseOf, lengthOf, emit, emits}
+use Rattle.skeleton.specs.Emit.{size, sizes, lengthOf, emit, emits}
 use Rattle.skeleton.specs.Writable.{TagsFit, PlacesFit, Widths, Writable, AllWritable}
 use Rattle.skeleton.proofs.FileLaws.{records-step, records-over, records-all}
-use Rattle.skeleton.proofs.EmitFieldsLaws.{length-emit, cut, fields-back}
+use Rattle.skeleton.proofs.EmitFieldsLaws.{length-emit, fields-back}
 use Rattle.skeleton.proofs.EmitLeaderLaws.{leader-back}
 use Rattle.skeleton.proofs.OffsetLaws.{drop-off, length-off}
 

@@ -1,5 +1,5 @@
 -- The leader of a written record is read back. Assumes nothing.
-use mathlib.Core.Path.{_≡_, refl, sym, ap, _∙_}
+use mathlib.Core.Path.{_≡_, refl, ap, _∙_}
 use mathlib.Core.List.{List, [], _∷_, _++_, append-assoc}
 use mathlib.Core.Bool.{Bool, true, false}
 use Prim.Native.Nat.{ℕ, _+_, _-_, _%_, _^_, _≤_, _<_}
@@ -16,7 +16,7 @@ use Rattle.skeleton.specs.declared.digits.Number.the-variants.{Value}
 use Rattle.skeleton.specs.declared.leader.Head.the-variants.{Good}
 use Rattle.skeleton.proofs.EmitDigitsLaws.{length-digits}
 use Rattle.skeleton.proofs.EmitFieldsLaws.{length-emit}
-use Rattle.skeleton.proofs.OffsetLaws.{byte-off, length-off, number-off}
+use Rattle.skeleton.proofs.OffsetLaws.{byte-off, number-off}
 
 -- ---- its bytes
 
@@ -49,8 +49,10 @@ shaped-marks false a b w z = shaped-widths a b w z
 shaped-all : (first : Bool) (a b len base : ℕ) → Widths a b → (z : List ℕ)
     → shaped (template first) (inDigits 5 len ++ (middle first ++ (inDigits 5 base ++ (marks first ++ (widths a b ++ z))))) ≡ true
 unfolding shaped fitsByte
-shaped-all true a b len base w z = shaped-five len (drop 5 (template true)) _ (shaped-five base (drop 17 (template true)) _ (shaped-marks true a b w z))
-shaped-all false a b len base w z = shaped-five len (drop 5 (template false)) _ (shaped-five base (drop 17 (template false)) _ (shaped-marks false a b w z))
+shaped-all true a b len base w z =
+    shaped-five len (drop 5 (template true)) _ (shaped-five base (drop 17 (template true)) _ (shaped-marks true a b w z))
+shaped-all false a b len base w z =
+    shaped-five len (drop 5 (template false)) _ (shaped-five base (drop 17 (template false)) _ (shaped-marks false a b w z))
 
 -- ---- what they say
 

@@ -2,22 +2,21 @@
 use mathlib.Core.Path.{_≡_, refl, sym, ap, _∙_}
 use mathlib.Core.List.{List, [], _∷_}
 use mathlib.Core.Bool.{Bool, true, false}
-use Prim.Native.Nat.{ℕ, zero, suc, _-_, _≤_, _<_}
+use Prim.Native.Nat.{ℕ, _-_, _≤_, _<_}
 use native.Mathlib.Omega.{arith}
 use borrow.Author.Tests.{eq-eqb, ne-eqb, eqb-true, eqb-false}
 use lib.ListN.{length}
 use lib.Dec.{eqb}
-use Rattle.base.specs.Choice.{pick}
-use Rattle.base.specs.Walk.{Step, Got, follow, walk, Lower}
+use Rattle.base.specs.Walk.{Got, follow, walk, Lower}
 use Rattle.base.proofs.ChoiceLaws.{by-test}
-use Rattle.base.proofs.WalkLaws.{walk-step}
-use Rattle.skeleton.specs.File.{Field}
+use Rattle.base.proofs.WalkLaws.{walk-step, by-measure}
 use Rattle.skeleton.specs.Place.{between, placeAt, fieldsAt, seek, placeWith, findFrom, fromTag}
 use Rattle.skeleton.specs.declared.directory.Shape.{Shape}
 use Rattle.skeleton.specs.declared.place.Place.{Place}
 use Rattle.skeleton.specs.declared.place.Place.the-variants.{At, Done}
 use Rattle.skeleton.proofs.PlaceLaws.{Held, HeldAt, place-held, held, place-falls, fields-more, fields-done}
 
+-- a step of the search leads further on
 lower-of : (r : List ℕ) (h : Shape) (t p : ℕ) (e : Place) → HeldAt r h p e → Lower (λ (q : ℕ). length r - q) p (seek t p e)
 lower-of r h t p (At tag start end next) k = by-test (Lower (λ (q : ℕ). length r - q) p) (eqb tag t) _ _ (λ _. tt) (λ _. omega arith)
 lower-of r h t p Done k = tt
@@ -59,6 +58,7 @@ found-on : (r : List ℕ) (h : Shape) (t p next : ℕ) (e : Place) → length r 
 found-on r h t p next (At tag start end after) l same k = (k .0, omega arith, same ∙ k .2)
 found-on r h t p next Done l same k = same ∙ k
 
+-- what is found from p on, by what is found from later places on
 module _ (r : List ℕ) (h : Shape) (t p : ℕ) (later : (q : ℕ) → length r - q < length r - p → Found r h t q (findFrom r h t q)) where
   found-by : (tag start end next : ℕ) → At tag start end next ≡ placeAt r h p → (b : Bool) → eqb tag t ≡ b → Found r h t p (findFrom r h t p)
   unfolding fromTag
@@ -69,21 +69,22 @@ module _ (r : List ℕ) (h : Shape) (t p : ℕ) (later : (q : ℕ) → length r 
   found-by tag start end next en false z =
       let all = fields-more r h p _ en tag start end next refl in
       let low = place-falls r h p _ en tag start end next refl in
-      rw (← find-more r h t p _ refl _ en tag start end next refl (eqb-false tag t z)) (found-on r h t p next (findFrom r h t next) low (rw all (simp z)) (later next low))
+      rw (← find-more r h t p _ refl _ en tag start end next refl (eqb-false tag t z))
+      (found-on r h t p next (findFrom r h t next) low (rw all (simp z)) (later next low))
 
   found-at : (e : Place) → e ≡ placeAt r h p → Found r h t p (findFrom r h t p)
   unfolding fromTag
   found-at Done en = rw (← find-done r h t p _ refl Done en refl) (rw (fields-done r h p _ en refl))
   found-at (At tag start end next) en = found-by tag start end next en (eqb tag t) refl
 
-found : (n : ℕ) (r : List ℕ) (h : Shape) (t p : ℕ) → length r - p < n → Found r h t p (findFrom r h t p)
-found zero r h t p l = absurd (omega arith)
-found (suc n) r h t p l = found-at r h t p (λ q m. found n r h t q (omega arith)) (placeAt r h p) refl
+found : (r : List ℕ) (h : Shape) (t p : ℕ) → Found r h t p (findFrom r h t p)
+found r h t p =
+    by-measure (λ q. length r - q) (λ q. Found r h t q (findFrom r h t q)) (λ q later. found-at r h t q later (placeAt r h q) refl) p
 
 -- by the place e that was found from p on
 module _ (r : List ℕ) (h : Shape) (t p : ℕ) (e : Place) (en : e ≡ findFrom r h t p) where
   finding : Found r h t p e
-  finding = rw en (found (suc (length r - p)) r h t p (omega arith))
+  finding = rw en (found r h t p)
 
   -- no field from p on has the tag
   pub found-none : e ≡ Done → fromTag t (fieldsAt r h p) ≡ []

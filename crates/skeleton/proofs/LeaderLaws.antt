@@ -5,13 +5,13 @@ use mathlib.Core.Bool.{Bool, true, false, not, true≢false}
 use Prim.Native.Nat.{ℕ, zero, suc, _+_, _-_, _^_, _≤_, _<_}
 use native.Mathlib.Numerals.{add-one}
 use native.Mathlib.Omega.{arith}
-use borrow.Author.Tests.{not-true, not-false, leb-true, ltb-false, lt-ltb, le-ltb, le-leb, lt-leb, eq-eqb, ne-eqb}
-use lib.ListN.{length, getD, drop, drop-of-length-le}
+use borrow.Author.Tests.{not-true, not-false, leb-true, ltb-false, lt-ltb, le-ltb}
+use lib.ListN.{length, getD, drop-of-length-le}
 use lib.Seq.{drop-cons}
 use lib.Dec.{leb, ltb}
 use Rattle.base.specs.Choice.{both}
 use Rattle.base.proofs.ChoiceLaws.{by-test, both-hold}
-use Rattle.skeleton.specs.Digits.{isDigit, numberAt, valueOf}
+use Rattle.skeleton.specs.Digits.{numberAt, valueOf}
 use Rattle.skeleton.specs.Leader.{fitsByte, shaped, shapedFrom, template, within, statedOf, leaderOf}
 use Rattle.skeleton.specs.declared.digits.Number.{Number}
 use Rattle.skeleton.specs.declared.digits.Number.the-variants.{Value, NotDigits}

@@ -5,9 +5,10 @@ pub mod PlaceLaws
 pub mod FindLaws
 pub mod RecordLaws
 pub mod FileLaws
+pub mod AgainLaws
+pub mod ReadLaws
 pub mod EmitDigitsLaws
 pub mod OffsetLaws
 pub mod EmitFieldsLaws
 pub mod EmitLeaderLaws
 pub mod EmitFileLaws
-pub mod ReadLaws

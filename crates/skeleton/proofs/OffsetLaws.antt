@@ -1,11 +1,11 @@
 -- What stands p bytes on in a list whose first p bytes are known. Assumes nothing.
 use mathlib.Core.Path.{_≡_, ap, _∙_}
-use mathlib.Core.List.{List, _∷_, _++_}
+use mathlib.Core.List.{List, _++_}
 use Prim.Native.Nat.{ℕ, _+_, _^_, _<_}
 use native.Mathlib.Nat.{zero-mul, zero-add}
 use lib.ListN.{length, getD, take, drop, length-append}
 use lib.Seq.{take-at, drop-at, getD-append-add}
-use Rattle.skeleton.specs.Digits.{digits, digitsFrom, numberAt, window, inDigits}
+use Rattle.skeleton.specs.Digits.{digits, digitsFrom, numberAt, inDigits}
 use Rattle.skeleton.specs.declared.digits.Number.the-variants.{Value}
 use Rattle.skeleton.proofs.EmitDigitsLaws.{length-digits, digits-back}
 

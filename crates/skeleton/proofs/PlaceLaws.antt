@@ -1,15 +1,15 @@
 -- Laws of the step from field to field. Assumes nothing.
-use mathlib.Core.Path.{_≡_, refl, sym, ap, _∙_}
+use mathlib.Core.Path.{_≡_, refl, ap, _∙_}
 use mathlib.Core.List.{List, [], _∷_}
-use mathlib.Core.Bool.{Bool, true, false, not}
+use mathlib.Core.Bool.{not}
 use Prim.Native.Nat.{ℕ, zero, suc, _+_, _-_, _*_, _^_, _≤_, _<_}
 use native.Mathlib.Nat.{zero-mul, add-zero}
 use native.Mathlib.Omega.{arith}
 use borrow.Author.Tests.{le-leb, lt-leb, eq-eqb, ne-eqb, leb-true, eqb-false, not-true}
-use lib.ListN.{length, getD, take, drop}
+use lib.ListN.{length, getD, drop}
 use lib.Dec.{eqb, leb}
-use Rattle.base.specs.Choice.{pick, both}
-use Rattle.base.specs.Walk.{Step, more, over, Got, before, follow, walk, Lower}
+use Rattle.base.specs.Choice.{both}
+use Rattle.base.specs.Walk.{Step, Got, follow, walk, Lower}
 use Rattle.base.specs.Lists.{each}
 use Rattle.base.proofs.ChoiceLaws.{by-test, both-hold}
 use Rattle.base.proofs.WalkLaws.{walk-step, walk-same, Agree}
@@ -22,7 +22,7 @@ use Rattle.skeleton.specs.declared.directory.Entry.the-variants.{Field a
 use Rattle.skeleton.specs.declared.directory.Shape.{Shape}
 use Rattle.skeleton.specs.declared.place.Place.{Place}
 use Rattle.skeleton.specs.declared.place.Place.the-variants.{At, Done}
-use Rattle.skeleton.proofs.DirectoryLaws.{Entered, by-entry, lies-in, pos-small, len-small}
+use Rattle.skeleton.proofs.DirectoryLaws.{Entered, by-entry, lies-in, field-small}
 
 -- ---- what holds of a place
 
@@ -35,6 +35,7 @@ pub record Held (r : List ℕ) (h : Shape) (p tag start end next : ℕ) : Type 0
   pub tag-is : tag ≡ tagAt r p
   pub opens : getD r p 0 ≡ 30 → ⊥
 
+-- the same of any place: of none there is nothing to say
 abbrev pub HeldAt : List ℕ → Shape → ℕ → Place → Type 0
 HeldAt r h p (At tag start end next) = Held r h p tag start end next
 HeldAt r h p Done = Unit {0}
@@ -73,6 +74,7 @@ pub ruleset place-bounds = (place-falls, place-runs, place-in)
 
 -- ---- one after the other
 
+-- a step leads further on
 lower-of : (r : List ℕ) (h : Shape) (p : ℕ) (e : Place) → HeldAt r h p e → Lower (λ (q : ℕ). length r - q) p (placeStep r e)
 lower-of r h p (At tag start end next) k = omega arith
 lower-of r h p Done k = tt
@@ -99,11 +101,15 @@ module _ (r : List ℕ) (h : Shape) (p : ℕ) (e : Place) (en : e ≡ placeAt r 
 body-size : (start len : ℕ) → start + len - 1 - start ≡ len - 1
 body-size start len = omega arith
 
+-- what the checked walk over a directory finds, the steps find
 agree-of : (r : List ℕ) (base p at : ℕ) (e : Entry) → Agree (λ (s : ℕ × ℕ). s .0) (cutOut r) (stepBy r base p at e) (placeStep r (placeOf r base e))
 unfolding cutOut
 agree-of r base p at (FieldAt tag pos len next) =
-    by-test (λ (x : Step (ℕ × ℕ) Body). Agree (λ (s : ℕ × ℕ). s .0) (cutOut r) x (placeStep r (placeOf r base (FieldAt tag pos len next)))) (lies r base at pos len) _ _
-    (λ x. let l = lies-in r base at pos len x in simp (ne-eqb len 0 (l .not-empty), le-leb (base + pos + len) (length r) (l .inside), body-size (base + pos) len))
+    let there = placeStep r (placeOf r base (FieldAt tag pos len next)) in
+    by-test (λ (x : Step (ℕ × ℕ) Body). Agree (λ (s : ℕ × ℕ). s .0) (cutOut r) x there) (lies r base at pos len) _ _
+    (λ x.
+    let l = lies-in r base at pos len x in
+    simp (ne-eqb len 0 (l .not-empty), le-leb (base + pos + len) (length r) (l .inside), body-size (base + pos) len))
     (λ _ z. absurd (omega arith))
 agree-of r base p at End = λ z. refl
 agree-of r base p at Bad = λ z. refl
@@ -123,6 +129,7 @@ fields-same r h z = same-from r h 24 0 z
 
 -- ---- by number
 
+-- i fields on from p
 abbrev Ith : List ℕ → Shape → ℕ → ℕ → Type 0
 Ith r h i p = i ≤ length (fieldsAt r h p) → drop i (fieldsAt r h p) ≡ fieldsAt r h (p + i * (4 + h .a + h .b))
 
@@ -134,7 +141,7 @@ ith-more r h i p (At tag start end next) en ih l =
     rw m (ih next (omega arith) ∙ ap (fieldsAt r h) (omega arith))
 ith-more r h i p Done en ih l = let g : suc i ≤ 0 = rw (fields-done r h p _ en refl) at l in absurd (omega arith)
 
--- i fields on from p is the place p + i * (4 + a + b)
+-- its place is p + i * (4 + a + b)
 pub fields-ith : (r : List ℕ) (h : Shape) (i p : ℕ) → Ith r h i p
 fields-ith r h zero p l = rw (zero-mul, add-zero) refl
 fields-ith r h (suc i) p l = ith-more r h i p (placeAt r h p) refl (fields-ith r h i) l
@@ -167,10 +174,9 @@ module _ (r : List ℕ) (h : Shape) (p : ℕ) (e : Entry) (en : e ≡ entryAt r 
 
     module _ (k : Bounded h) where
       pub start-word : h .base + pos < 2 ^ 64
-      start-word = omega (arith, pos-small r (h .a) (h .b) p e en tag pos len next x (k .a-small) (k .b-small))
+      start-word = omega (arith, field-small r (h .a) (h .b) p e en tag pos len next x (k .a-small) (k .b-small))
 
       pub after-word : h .base + pos + len < 2 ^ 64
-      after-word =
-          omega (arith, pos-small r (h .a) (h .b) p e en tag pos len next x (k .a-small) (k .b-small), len-small r (h .a) (h .b) p e en tag pos len next x (k .a-small) (k .b-small))
+      after-word = omega (arith, field-small r (h .a) (h .b) p e en tag pos len next x (k .a-small) (k .b-small))
 
 pub ruleset place-ways = (place-end, place-bad, place-empty, place-past, place-there, start-word, after-word)

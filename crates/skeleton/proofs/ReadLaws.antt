@@ -1,19 +1,19 @@
 -- Fields that were read can be written again: there are some, and their tags are of four bytes, the first of which is not 1E.
 -- Assumes nothing.
-use mathlib.Core.Path.{_≡_, refl, sym, ap, _∙_}
+use mathlib.Core.Path.{_≡_, refl}
 use mathlib.Core.List.{List, [], _∷_}
 use mathlib.Core.Bool.{Bool, true, false}
-use Prim.Native.Nat.{ℕ, zero, suc, _+_, _-_, _*_, _/_, _^_, _≤_, _<_}
+use Prim.Native.Nat.{ℕ, zero, suc, _+_, _-_, _≤_, _<_}
 use native.Mathlib.Omega.{arith}
-use borrow.Author.Tests.{ltb-true, ltb-false, le-ltb}
+use borrow.Author.Tests.{ltb-true, ltb-false}
 use lib.ListN.{length, getD, take, drop}
 use lib.Seq.{getD-drop}
 use lib.Dec.{eqb, ltb}
-use Rattle.base.specs.Choice.{pick}
 use Rattle.base.specs.Lists.{each}
-use Rattle.base.specs.Walk.{Step, more, over, Got, before, follow}
+use Rattle.base.specs.Walk.{Step, Got, follow}
 use Rattle.base.proofs.ChoiceLaws.{by-test}
-use Rattle.skeleton.specs.Directory.{Body, tagAt, entryAt, lies, ended, stepBy, fieldsFrom, fieldsOf}
+use Rattle.base.proofs.WalkLaws.{by-measure}
+use Rattle.skeleton.specs.Directory.{Body, tagAt, entryAt, lies, ended, stepBy, fieldsOf}
 use Rattle.skeleton.specs.File.{Field, cutOut, recordsFrom, recordsOf}
 use Rattle.skeleton.specs.Place.{between, placeAt, fieldsAt}
 use Rattle.skeleton.specs.Record.{recordAt}
@@ -27,7 +27,7 @@ use Rattle.skeleton.specs.declared.place.Place.{Place}
 use Rattle.skeleton.specs.declared.place.Place.the-variants.{At, Done}
 use Rattle.skeleton.proofs.DirectoryLaws.{fields-step}
 use Rattle.skeleton.proofs.PlaceLaws.{held, fields-more, fields-done, fields-same}
-use Rattle.skeleton.proofs.RecordLaws.{Right, right}
+use Rattle.skeleton.proofs.RecordLaws.{right}
 use Rattle.skeleton.proofs.FileLaws.{records-over, records-refused, records-more}
 
 -- ---- tags
@@ -49,13 +49,10 @@ tags-at r h bytes p (At tag start end next) en later =
     rw (fields-more r h p _ en tag start end next refl) (rw (k .tag-is) (tag-fits r bytes p (k .opens)), later next (omega arith))
 tags-at r h bytes p Done en later = rw (fields-done r h p _ en refl) tt
 
-tags-from : (n : ℕ) (r : List ℕ) (h : Shape) → ((k : ℕ) → getD r k 0 < 256) → (p : ℕ) → length r - p < n → TagsFit (fieldsAt r h p)
-tags-from zero r h bytes p l = absurd (omega arith)
-tags-from (suc n) r h bytes p l = tags-at r h bytes p (placeAt r h p) refl (λ q m. tags-from n r h bytes q (omega arith))
-
 -- the fields of a record that is made of bytes
 pub tags-read : (r : List ℕ) (h : Shape) → ((k : ℕ) → getD r k 0 < 256) → (p : ℕ) → TagsFit (fieldsAt r h p)
-tags-read r h bytes p = tags-from (suc (length r - p)) r h bytes p (omega arith)
+tags-read r h bytes p =
+    by-measure (λ q. length r - q) (λ q. TagsFit (fieldsAt r h q)) (λ q later. tags-at r h bytes q (placeAt r h q) refl later) p
 
 -- ---- there are some
 
@@ -92,6 +89,7 @@ take-below (suc n) (x ∷ l) (suc k) = take-below n l k
 pub bytes-between : (f : List ℕ) (i j : ℕ) → ((k : ℕ) → getD f k 0 < 256) → (k : ℕ) → getD (between f i j) k 0 < 256
 bytes-between f i j bytes k = omega (arith, take-below (j - i) (drop i f) k, getD-drop i f k 0, bytes (i + k))
 
+-- a record, and then those from its end on
 records-at : (f : List ℕ) → ((k : ℕ) → getD f k 0 < 256) → (at : ℕ) → at < length f → (h : Head) → h ≡ recordAt f at
     → ((q : ℕ) → length f - q < length f - at → AllTagged ((recordsFrom f q) .items)) → AllTagged ((recordsFrom f at) .items)
 records-at f bytes at l (Good len base a b) e later =
@@ -102,17 +100,15 @@ records-at f bytes at l (Good len base a b) e later =
     (fields-some r h (k .walked), tags-read r h (bytes-between f at (at + len) bytes) 24, later (at + len) (omega arith))
 records-at f bytes at l (Refused n) e later = rw (records-refused f at l _ e n refl) tt
 
-records-from : (n : ℕ) (f : List ℕ) → ((k : ℕ) → getD f k 0 < 256) → (at : ℕ) → length f - at < n → (t : Bool) → ltb at (length f) ≡ t
-    → AllTagged ((recordsFrom f at) .items)
-records-from zero f bytes at l t e = absurd (omega arith)
-records-from (suc n) f bytes at l false e = rw (records-over f at (ltb-false at (length f) e)) tt
-records-from (suc n) f bytes at l true e =
-    records-at f bytes at (ltb-true at (length f) e) (recordAt f at) refl
-    (λ q m. records-from n f bytes q (omega arith) (ltb q (length f)) refl)
+records-by : (f : List ℕ) → ((k : ℕ) → getD f k 0 < 256) → (at : ℕ) (t : Bool) → ltb at (length f) ≡ t
+    → ((q : ℕ) → length f - q < length f - at → AllTagged ((recordsFrom f q) .items)) → AllTagged ((recordsFrom f at) .items)
+records-by f bytes at false e later = rw (records-over f at (ltb-false at (length f) e)) tt
+records-by f bytes at true e later = records-at f bytes at (ltb-true at (length f) e) (recordAt f at) refl later
 
 -- the records of a file that is made of bytes have fields with tags that can be written
 pub records-read : (f : List ℕ) → ((k : ℕ) → getD f k 0 < 256) → (at : ℕ) → AllTagged ((recordsFrom f at) .items)
-records-read f bytes at = records-from (suc (length f - at)) f bytes at (omega arith) (ltb at (length f)) refl
+records-read f bytes at =
+    by-measure (λ q. length f - q) (λ q. AllTagged ((recordsFrom f q) .items)) (λ q later. records-by f bytes q (ltb q (length f)) refl later) at
 
 pub file-read : (f : List ℕ) → ((k : ℕ) → getD f k 0 < 256) → AllTagged ((recordsOf f) .items)
 unfolding recordsOf

@@ -1,11 +1,11 @@
 -- The fields of a record one by one, from the places of their directory entries.
 use Prim.Native.Nat.{ℕ, _+_, _-_}
 use mathlib.Core.List.{List, [], _∷_}
-use mathlib.Core.Bool.{Bool, not}
+use mathlib.Core.Bool.{not}
 use lib.ListN.{length, take, drop}
 use lib.Dec.{eqb, leb}
 use Rattle.base.specs.Choice.{pick, both}
-use Rattle.base.specs.Walk.{Step, more, over, Got, walk}
+use Rattle.base.specs.Walk.{Step, more, over, walk}
 use Rattle.skeleton.specs.Directory.{entryAt}
 use Rattle.skeleton.specs.File.{Field}
 use Rattle.skeleton.specs.declared.directory.Entry.{Entry}

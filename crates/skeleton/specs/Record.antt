@@ -4,7 +4,6 @@ use mathlib.Core.List.{List}
 use lib.ListN.{length, take, drop}
 use lib.Dec.{eqb, ltb}
 use Rattle.base.specs.Choice.{pick}
-use Rattle.base.specs.Walk.{Got}
 use Rattle.skeleton.specs.Leader.{statedOf, leaderOf}
 use Rattle.skeleton.specs.Directory.{fieldsOf}
 use Rattle.skeleton.specs.declared.leader.Head.{Head}

@@ -10,7 +10,8 @@ use Rattle.skeleton.proofs.directory.directory.Statement.{statement}
 use Rattle.skeleton.proofs.directory.directory.Tie as tie
 
 abbrev Inv-loop : tie.InvT-loop
-Inv-loop r h p₀ at₀ p at = (at ≤ length r) × ((fieldsFrom r (h .base) (h .a) (h .b) p at) .ending ≡ (fieldsFrom r (h .base) (h .a) (h .b) 24 0) .ending)
+Inv-loop r h p₀ at₀ p at =
+    (at ≤ length r) × ((fieldsFrom r (h .base) (h .a) (h .b) p at) .ending ≡ (fieldsFrom r (h .base) (h .a) (h .b) 24 0) .ending)
 
 abbrev μ-loop : tie.MeasureT-loop
 μ-loop r h p₀ at₀ p at = length r - p

@@ -1,12 +1,7 @@
 use Rattle.skeleton.proofs.RecordLaws.{record-ways}
-use native.Mathlib.Omega.{arith}
 use borrow.Author.Needs.{needs}
 use Rattle.skeleton.proofs.file.record_at.Statement.{statement}
 use Rattle.skeleton.proofs.file.record_at.Tie as tie
-use Rattle.skeleton.proofs.file.record_at.Reads as reads
-use Rattle.skeleton.proofs.file.record_at.Lts as lts
-use Rattle.skeleton.proofs.directory.directory.Reads as directory-reads
-use Rattle.skeleton.proofs.leader.leader.Reads as leader-reads
 
 sub-rest : tie.Need-sub-rest
 sub-rest c = search needs

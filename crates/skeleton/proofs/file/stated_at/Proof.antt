@@ -1,11 +1,7 @@
 use Rattle.skeleton.proofs.RecordLaws.{stated-at-ways}
-use native.Mathlib.Omega.{arith}
 use borrow.Author.Needs.{needs}
 use Rattle.skeleton.proofs.file.stated_at.Statement.{statement}
 use Rattle.skeleton.proofs.file.stated_at.Tie as tie
-use Rattle.skeleton.proofs.file.stated_at.Reads as reads
-use Rattle.skeleton.proofs.file.stated_at.Lts as lts
-use Rattle.skeleton.proofs.leader.stated.Reads as stated-reads
 
 sub-if1 : tie.Need-sub-if1
 sub-if1 c = search needs
