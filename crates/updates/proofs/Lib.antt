@@ -1,0 +1,5 @@
+pub mod Acted
+pub mod Steps
+pub mod Read
+pub mod ReadOrdered
+pub mod Results
