@@ -3,3 +3,4 @@ pub mod Steps
 pub mod Read
 pub mod ReadOrdered
 pub mod Results
+pub mod Streams
