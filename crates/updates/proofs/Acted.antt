@@ -1,6 +1,6 @@
 -- What an accepted update record does: an insert brings a record with RVER 1 where there was none, a delete takes the one that was there, a modify
 -- changes it, each under the key that it names and with RVER one more than the old one. Assumes nothing.
-use Prim.Native.Nat.{ℕ, _+_}
+use Prim.Native.Nat.{_+_}
 use mathlib.Core.Path.{_≡_, refl}
 use mathlib.Core.Bool.{false}
 use mathlib.Core.Option.{Option, some, none}
@@ -20,16 +20,12 @@ use Rattle.rules.specs.Change.{follows, sameFoid, fitting, revised, inserted, d
 use Rattle.rules.specs.declared.Kind.{Kind}
 use Rattle.sequence.specs.Keyed.{Under, Goes, brings, takes, alters, Laws}
 use Rattle.sequence.proofs.Tests.{by-bool, refused}
+use Rattle.updates.specs.Accepted.{rverOf}
 use Rattle.updates.specs.Acts.{kindIn, namedBy, actOf, doneBy, changedBy, chart}
 
 -- the identifier of an update record of kind k
 abbrev pub ident : Kind → List Field → Ident
 ident k fs = identOf k (front fs)
-
--- the RVER of a version, 0 where there is none
-unfoldable pub rverOf : Option Rec → ℕ
-rverOf none = 0
-rverOf (some r) = r .rver
 
 -- what an accepted update record of kind k made of a version
 pub data Acted (k : Kind) (fs : List Field) : Option Rec → Option Rec → Type 0 where

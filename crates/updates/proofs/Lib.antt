@@ -4,3 +4,4 @@ pub mod Read
 pub mod ReadOrdered
 pub mod Results
 pub mod Streams
+pub mod Accepted
