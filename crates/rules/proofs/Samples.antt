@@ -14,12 +14,13 @@ use Rattle.rules.specs.Record.{Rec, datasetRecord, updateRecord}
 use Rattle.rules.specs.Written.{writtenFields, writtenLength, number12}
 use Rattle.rules.specs.Outcome.{Outcome, done, refused}
 use Rattle.rules.specs.Update.{step, steps, updated}
+use Rattle.rules.specs.Listing.{printed, listing}
 use Rattle.base.specs.Opened.{opened as baseOpened}
 use Rattle.skeleton.specs.Opened.{opened as skeletonOpened}
 use Rattle.fields.specs.Opened.{opened as fieldsOpened}
 use Rattle.forest.specs.Opened.{opened as forestOpened}
 use Rattle.rules.specs.Opened.{opened as rulesOpened}
-use Rattle.rules.proofs.Builders.{numbered, irid, prid, mrid, frid, foid, tuple, attr, inas, link, spas, cocc, coordinates, c2it, c2il, general, filler, pointSent, multiSent, noParts, onlyCoordinates, point, multi, three, many, feature}
+use Rattle.rules.proofs.Builders.{numbered, irid, prid, mrid, frid, foid, tuple, attr, inas, link, spas, cocc, coordinates, c2it, c2il, general, filler, pointSent, multiSent, noParts, onlyCoordinates, point, multi, three, many, feature, listed}
 
 -- what is asked
 pub data Question : Type 0 where
@@ -32,6 +33,8 @@ pub data Question : Type 0 where
   signs : List ℕ → Question  -- the Y's of a coordinate field
   lengthOf : Rec → Question  -- the written length of a record
   writes : Rec → Question  -- whether it can be written
+  prints : List Rec → Question  -- the listing of a dataset with these records
+  printsOf : List ℕ → Question  -- the listing of these bytes
 
 -- what is answered
 pub data Answered : Type 0 where
@@ -42,6 +45,7 @@ pub data Answered : Type 0 where
   coords : List Coord → Answered
   numbers : List ℕ → Answered
   signed : List ℤ → Answered
+  text : List ℕ → Answered
 
 -- what a check answers
 unfoldable pub ofCheck : {A : Type 0} → (A → Answered) → Check A → Answered
@@ -75,6 +79,8 @@ answer (updates g rs u fss) =
 answer (signs b) = signed (each (λ c. signed32 (c .y)) (coordsIn b))
 answer (lengthOf r) = numbers (writtenLength (writtenFields r) ∷ [])
 answer (writes r) = ofCheck (λ _. fine) (number12 (writtenFields r))
+answer (prints rs) = text (printed (done (record { descriptive = []; general = []; systems = []; records = rs })))
+answer (printsOf f) = text (listing f)
 
 -- a row of a table: what is asked, and what is expected
 pub record Row : Type 0 where
@@ -91,5 +97,5 @@ Hold rows = each (λ r. answer (r .what)) rows ≡ each (λ r. r .expected) rows
 
 -- all that a sample computes with
 unfoldable pub samplesOpened : Unit {0}
-unfolding baseOpened skeletonOpened fieldsOpened forestOpened rulesOpened numbered irid prid mrid frid foid tuple attr inas link spas cocc coordinates c2it c2il general filler pointSent multiSent noParts onlyCoordinates point multi three many feature ofCheck ofOutcome alone ofOnly answer
+unfolding baseOpened skeletonOpened fieldsOpened forestOpened rulesOpened numbered irid prid mrid frid foid tuple attr inas link spas cocc coordinates c2it c2il general filler pointSent multiSent noParts onlyCoordinates point multi three many feature listed ofCheck ofOutcome alone ofOnly answer
 samplesOpened = tt

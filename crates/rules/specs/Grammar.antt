@@ -61,10 +61,11 @@ asStored inUpdate ruin = eqb ruin 1
 unfoldable pub forbidden : Mode → ℕ → List Field → ℕ → Bool
 forbidden inDataset ruin fs t = eqb t COCC
 forbidden inUpdate ruin fs t =
-    either (eqb ruin 2)  -- any, in a record delete
-    (either (both (eqb ruin 1) (eqb t COCC))  -- COCC in an inserted record
-    (either (both (eqb t C2IL) (eqb (couiByte fs) 2))  -- C2IL with a COCC delete
-    (both (eqb t C2IL) (both (eqb ruin 3) (not (has COCC fs))))))  -- C2IL of a modify without COCC
+    let any-in-record-delete = eqb ruin 2 in
+    let cocc-in-insert = both (eqb ruin 1) (eqb t COCC) in
+    let c2il-with-cocc-delete = both (eqb t C2IL) (eqb (couiByte fs) 2) in
+    let c2il-in-modify-without-cocc = both (eqb t C2IL) (both (eqb ruin 3) (not (has COCC fs))) in
+    either any-in-record-delete (either cocc-in-insert (either c2il-with-cocc-delete c2il-in-modify-without-cocc))
 
 -- ---- one record
 
