@@ -13,10 +13,10 @@ use Rattle.skeleton.specs.Directory.{Body, lies, ended, entryAt, stepBy, dirSte
 use Rattle.skeleton.specs.File.{stepDir, stepHead, fileStep, recordsFrom, recordsOf}
 use Rattle.skeleton.specs.declared.leader.Head.{Head}
 use Rattle.skeleton.specs.declared.leader.Head.the-variants.{Good, Refused}
-use Rattle.skeleton.specs.declared.num.Number.{Number}
-use Rattle.skeleton.specs.declared.num.Number.the-variants.{Value, NotDigits}
-use Rattle.skeleton.specs.declared.dir.Entry.{Entry}
-use Rattle.skeleton.specs.declared.dir.Entry.the-variants.{Field as FieldAt, End, Bad}
+use Rattle.skeleton.specs.declared.digits.Number.{Number}
+use Rattle.skeleton.specs.declared.digits.Number.the-variants.{Value, NotDigits}
+use Rattle.skeleton.specs.declared.directory.Entry.{Entry}
+use Rattle.skeleton.specs.declared.directory.Entry.the-variants.{Field as FieldAt, End, Bad}
 use Rattle.numbers.specs.Fair.{fair}
 
 -- a number that a walk may end with: 0, or a fair one
