@@ -7,18 +7,21 @@ use mathlib.Core.List.{List, [], _∷_}
 use native.Mathlib.Omega.{arith}
 use lib.ListN.{length}
 use Rattle.rules.specs.General.{numberOf}
-use Rattle.rules.specs.Written.{Dataset, writtenBytes}
-use Rattle.rules.specs.Outcome.{done}
-use Rattle.rules.specs.File.{readDataset}
+use Rattle.rules.specs.Written.{Dataset, writtenBytes, count}
+use Rattle.rules.specs.Outcome.{Outcome, done, refused}
+use Rattle.rules.specs.File.{readDataset, writable}
+use Rattle.rules.specs.Answers.{notTooLong, write}
 use Rattle.rules.proofs.OutcomeLaws.{done-inj}
 use Rattle.updates.specs.Accepted.{Accepted}
 use Rattle.updates.proofs.Accepted.{accepted as is-accepted}
 use Rattle.displays.specs.Display.{Handed, taken, after, shown, numberRead, numberShown, numberSent, bears, updatedBy, ruled}
 use Rattle.displays.specs.Publisher.{Publisher, accepted, next, start, first, Genuine, Cable, inOrder}
 use Rattle.displays.specs.RoundTrip.{RoundTrip}
-use Rattle.sequence.proofs.Tests.{some-inj}
+use Rattle.sequence.proofs.Tests.{never, some-inj}
+use Rattle.updates.proofs.Kept.{result-writable}
 use Rattle.displays.proofs.Room.{answer-done, takes, Turn, stays, moves, turn}
-use Rattle.displays.proofs.Ruled.{Ruled, ruled-inv, ruled-by}
+use Rattle.displays.proofs.Form.{short-file, written-as, gives-back}
+use Rattle.displays.proofs.Ruled.{Ruled, ruled-inv, ruled-by, by-ruled}
 
 -- ---- one file
 
@@ -76,13 +79,15 @@ module _ (T : RoundTrip) where
       right : inOrder P count ≡ some dataset
       form : c ≡ writtenBytes dataset
       isRead : readDataset c ≡ done dataset
+      isWritable : writable dataset ≡ done dataset
+      isShort : notTooLong 1 c ≡ done tt
 
     -- the first chart
     started : Right (start P)
     unfolding start first inOrder
     started =
         let e = T .written (P .source) (P .dataset) (P .isRead) (P .isWritable) in
-        record { count = 0; dataset = P .dataset; counted = shows (start P) (P .dataset) e ∙ omega arith; right = refl; form = refl; isRead = e }
+        record { count = 0; dataset = P .dataset; counted = shows (start P) (P .dataset) e ∙ omega arith; right = refl; form = refl; isRead = e; isWritable = P .isWritable; isShort = short-file 3 1 (writtenBytes (P .dataset)) (P .isShort) }
 
     -- the result of the next file is the next in order
     next-right : (k : ℕ) (d r : Dataset) (f : List ℕ) → inOrder P k ≡ some d → P .issued (first P + suc k) ≡ some f → updatedBy d f ≡ done r → inOrder P (suc k) ≡ some r
@@ -103,6 +108,8 @@ module _ (T : RoundTrip) where
           right = next-right (t .count) (t .dataset) r f (t .right) (g (first P + suc (t .count)) b) (ap (λ (d : Dataset). updatedBy d f) (sym z) ∙ ruled-by c f r q);
           form = refl;
           isRead = again c f r e;
+          isWritable = result-writable (q .dataset) (q .sent) r (q .isWritable) (q .isUpdated);
+          isShort = short-file 3 1 (writtenBytes r) (q .short-result);
         }
 
     -- a chart after any file
@@ -142,3 +149,48 @@ module _ (T : RoundTrip) where
         alike x y e =
             let z : some (x .0) ≡ some (y .0) = sym (x .1) ∙ ap (λ (n : ℕ). inOrder P (n - first P)) e ∙ y .1 in
             x .2 ∙ ap writtenBytes (some-inj z) ∙ sym (y .2)
+
+    -- ---- the next file
+
+    -- what was accepted, taken back
+    accepted-inv : (m : Outcome Dataset) (r : Dataset) → accepted m ≡ some r → m ≡ done r
+    unfolding accepted
+    accepted-inv (done d) r e = ap done (some-inj e)
+    accepted-inv (refused file n x) r e = never (sym e)
+
+    -- the next in order is the result of the next file
+    next-inv : (k : ℕ) (d r : Dataset) (f : List ℕ) → inOrder P k ≡ some d → P .issued (first P + suc k) ≡ some f → inOrder P (suc k) ≡ some r → updatedBy d f ≡ done r
+    unfolding inOrder next
+    next-inv k d r f a b e = accepted-inv (updatedBy d f) r (rw (a, b) at e)
+
+    -- (iii) handed the next file, where the updates in order go on by it and there is room for the result, a display moves on by one
+    pub onward : (hs : List Handed) → Cable P hs → (h : Handed) (r : Dataset)
+        → P .issued (numberShown (shown (start P) hs) + 1) ≡ some (h .file) → inOrder P (suc (numberShown (shown (start P) hs) - first P)) ≡ some r
+        → length (writtenBytes r) ≤ h .room → 400000 ≤ h .work
+        → (after (shown (start P) hs) h ≡ writtenBytes r) × (numberShown (after (shown (start P) hs) h) ≡ numberShown (shown (start P) hs) + 1)
+    onward hs t h r i o l w =
+        let c = shown (start P) hs in
+        let q = walked (start P) hs t started in
+        let a : numberShown c + 1 ≡ first P + suc (q .count) = omega (arith, q .counted) in
+        let b : numberShown c - first P ≡ q .count = omega (arith, q .counted) in
+        let u : updatedBy (q .dataset) (h .file) ≡ done r = next-inv (q .count) (q .dataset) r (h .file) (q .right) (rw a at i) (rw b at o) in
+        moves-on c h r (by-ruled c (h .file) (q .dataset) r (q .isShort) (q .isRead) (q .isWritable) u) l w
+
+    -- a chart is in the written form: the writer gives it back
+    pub written-form : (hs : List Handed) → Cable P hs → (room : ℕ) → length (shown (start P) hs) ≤ room
+        → ((write (shown (start P) hs) room) .answer .number ≡ 0) × (taken [] (write (shown (start P) hs) room) ≡ shown (start P) hs)
+    written-form hs t room l =
+        let q = walked (start P) hs t started in
+        gives-back room (shown (start P) hs) (count (q .dataset)) (written-as room (shown (start P) hs) (q .dataset) (q .form) l (q .isShort) (q .isRead) (q .isWritable))
+
+  -- ---- numbers
+
+  -- a display never falls back
+  pub never-back : (c : List ℕ) (hs : List Handed) → numberShown c ≤ numberShown (shown c hs)
+  unfolding shown
+  never-back c [] = omega arith
+  never-back c (h ∷ hs) = omega (arith, go (by-one c h), never-back (after c h) hs)
+    where
+      go : (after c h ≡ c) ⊎ (numberShown (after c h) ≡ numberShown c + 1) → numberShown c ≤ numberShown (after c h)
+      go (inl e) = omega (arith, ap numberShown e)
+      go (inr e) = omega (arith, e)

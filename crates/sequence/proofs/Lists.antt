@@ -10,7 +10,7 @@ use lib.ListN.{length}
 use lib.Dec.{ltb}
 use Rattle.base.specs.Keys.{same}
 use Rattle.base.proofs.KeysLaws.{same-sound, same-refl, same-sym}
-use Rattle.sequence.specs.Keyed.{Parts, Under, rank, find, settle, replace, remove, Ordered, Once}
+use Rattle.sequence.specs.Keyed.{Parts, Each, Has, Under, rank, find, settle, replace, remove, Ordered, Once}
 use Rattle.sequence.specs.Order.{keep}
 use Rattle.sequence.proofs.Tests.{by-bool, never}
 
@@ -230,3 +230,30 @@ module _ (P : Parts) where
         by-bool (same (key r) k)
         (λ h. rw (h, q, same-sound (key r) k h, n))
         (λ h. rw h (keep-next r (replace P k s rs) rs (keep-replace k s rs q n)))
+
+  -- ---- what each record has
+
+  module _ (Q : Rec → Type 0) where
+    -- a record joins
+    pub each-settle : (s : Rec) (ds : List Rec) → Q s → Each Q ds → Each Q (settle P s ds)
+    unfolding Each settle
+    each-settle s [] q e = (q, tt)
+    each-settle s (r ∷ rs) q e = by-bool (ltb (rank P s) (rank P r)) (λ h. rw h (q, e)) (λ h. rw h (e .0, each-settle s rs q (e .1)))
+
+    -- a record leaves
+    pub each-remove : (k : List ℕ) (ds : List Rec) → Each Q ds → Each Q (remove P k ds)
+    unfolding Each remove
+    each-remove k [] e = tt
+    each-remove k (r ∷ rs) e = by-bool (same (key r) k) (λ h. rw h (e .1)) (λ h. rw h (e .0, each-remove k rs (e .1)))
+
+    -- a record is put in the place of another
+    pub each-replace : (k : List ℕ) (s : Rec) (ds : List Rec) → Q s → Each Q ds → Each Q (replace P k s ds)
+    unfolding Each replace
+    each-replace k s [] q e = tt
+    each-replace k s (r ∷ rs) q e = by-bool (same (key r) k) (λ h. rw h (q, e .1)) (λ h. rw h (e .0, each-replace k s rs q (e .1)))
+
+    -- what is found has it
+    pub each-find : (k : List ℕ) (ds : List Rec) → Each Q ds → Has P Q (find P k ds)
+    unfolding Each find
+    each-find k [] e = tt
+    each-find k (r ∷ rs) e = by-bool (same (key r) k) (λ h. rw h (e .0)) (λ h. rw h (each-find k rs (e .1)))

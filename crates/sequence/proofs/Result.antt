@@ -2,6 +2,7 @@
 use Prim.Native.Nat.{ℕ, _+_, _≤_}
 use mathlib.Core.Path.{_≡_, refl, subst, _∙_}
 use mathlib.Core.Bool.{Bool, true, false, not}
+use mathlib.Core.Option.{Option, some, none}
 use mathlib.Core.List.{List, [], _∷_}
 use native.Mathlib.Omega.{arith}
 use lib.ListN.{length}
@@ -9,10 +10,10 @@ use Rattle.base.specs.Choice.{either}
 use Rattle.base.specs.Check.{ok}
 use Rattle.base.specs.Keys.{same}
 use Rattle.base.proofs.KeysLaws.{same-refl}
-use Rattle.sequence.specs.Keyed.{Parts, done, rank, step, run, Ordered, Once, Laws}
+use Rattle.sequence.specs.Keyed.{Parts, Each, Has, Under, done, rank, step, run, Ordered, Once, Laws}
 use Rattle.sequence.specs.Order.{keep, isInsert, isDelete, named, untouched, inserts, deletes}
 use Rattle.sequence.proofs.Tests.{done-inj, goOn-done}
-use Rattle.sequence.proofs.Lists.{ordered-settle, ordered-remove, ordered-replace, length-settle, length-remove, length-replace, keep-settle, keep-remove, keep-replace}
+use Rattle.sequence.proofs.Lists.{find-under, each-settle, each-remove, each-replace, each-find, ordered-settle, ordered-remove, ordered-replace, length-settle, length-remove, length-replace, keep-settle, keep-remove, keep-replace}
 use Rattle.sequence.proofs.Local.{Did, did-insert, did-delete, did-modify, did, step-once}
 
 -- one of two tests holds where the second does
@@ -21,7 +22,7 @@ or-right true b e = refl
 or-right false b e = e
 
 module _ (P : Parts) (L : Laws P) where
-  open Parts P using (Rec, Upd, key, act, names)
+  open Parts P using (Rec, Upd, key, act, names, change)
 
   -- what a step keeps, a run keeps
   pub run-keeps : (Q : List Rec → Type 0) → ((ds : List Rec) (u : Upd) (d : List Rec) → Q ds → step P ds u ≡ ok d → Q d)
@@ -92,3 +93,20 @@ module _ (P : Parts) (L : Laws P) where
   pub run-untouched : (j : ℕ) (ds : List Rec) (us : List Upd) (d : List Rec) → run P j ds us ≡ done d → untouched P us d ≡ untouched P us ds
   unfolding untouched
   run-untouched j ds us d x = run-leaves (λ k. not (named P k us)) j ds us d (λ k h. rw h) x
+
+  -- what each record has (Q), and what an accepted update record that has W leaves of a record that has Q, each record of the result has
+  module _ (Q : Rec → Type 0) (W : Upd → Type 0) (makes : (u : Upd) (o : Option Rec) (s : Rec) → W u → Under P (names u) o → Has P Q o → change u o ≡ ok (some s) → Q s) where
+    -- of a step
+    step-each : (ds : List Rec) (u : Upd) (d : List Rec) → W u → Each Q ds → Did P ds u d → Each Q d
+    step-each ds u d w q (did-insert s a f c k y) = rw y (each-settle P Q s ds (makes u none s w tt tt c) q)
+    step-each ds u d w q (did-delete r a f c y) = rw y (each-remove P Q (names u) ds q)
+    step-each ds u d w q (did-modify r s a f c k y) =
+        rw y (each-replace P Q (names u) s ds (makes u (some r) s w (rw f at (find-under P (names u) ds)) (rw f at (each-find P Q (names u) ds q)) c) q)
+
+    -- of a run
+    pub run-each : (j : ℕ) (ds : List Rec) (us : List Upd) (d : List Rec) → Each W us → Each Q ds → run P j ds us ≡ done d → Each Q d
+    unfolding run Each
+    run-each j ds [] d w q x = rw (← done-inj x) q
+    run-each j ds (u ∷ us) d w q x =
+        let (c, s, y) = goOn-done j (step P ds u) (λ c. run P (j + 1) c us) d x in
+        run-each (j + 1) c us d (w .1) (step-each ds u c (w .0) q (did P L ds u c s)) y

@@ -41,6 +41,11 @@ unfoldable pub goOn : {A B : Type 0} → ℕ → Check A → (A → Ran B) → R
 goOn j (ok a) k = k a
 goOn j (no x) k = stop j x
 
+-- each of a list has Q
+unfoldable pub Each : {A : Type 0} → (A → Type 0) → List A → Type 0
+Each Q [] = Unit {0}
+Each Q (x ∷ xs) = Q x × Each Q xs
+
 module _ (P : Parts) where
   open Parts P using (Rec, Upd, key, place, names, act, change)
 
@@ -103,6 +108,11 @@ module _ (P : Parts) where
   run j ds (u ∷ us) = goOn j (step ds u) (λ d. run (j + 1) d us)
 
   -- ---- what is asked of the records, and kept by a run
+
+  -- the version has Q, where there is one
+  abbrev pub Has : (Rec → Type 0) → Option Rec → Type 0
+  Has Q none = Unit {0}
+  Has Q (some r) = Q r
 
   -- the kinds stand in order, from place n on
   unfoldable pub Ordered : ℕ → List Rec → Type 0

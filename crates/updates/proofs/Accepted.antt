@@ -122,8 +122,8 @@ accepted f g d u r x y e =
       systems = p .systems;
       sorted = steps-sorted 3 (u .records) (d .records) s (r .records) (p .stepped);
       records = steps-stream 3 (u .records) (d .records) s (r .records) (p .stepped);
-      count = steps-count 3 (u .records) (d .records) s (r .records) (p .stepped);
-      untouched-same = steps-untouched 3 (u .records) (d .records) s (r .records) (p .stepped);
+      count = steps-count 3 (u .records) (d .records) (r .records) (p .stepped);
+      untouched-same = steps-untouched 3 (u .records) (d .records) (r .records) (p .stepped);
       versions = v;
       raised = λ k q n w. rw (find-same k (d .records)) (history-rver k (u .records) _ q n (v k ∙ ap {B = Check (Option Rec)} ok w));
     }

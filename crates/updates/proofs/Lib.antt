@@ -5,3 +5,4 @@ pub mod ReadOrdered
 pub mod Results
 pub mod Streams
 pub mod Accepted
+pub mod Kept

@@ -76,6 +76,19 @@ ran-verdict (stop j x) = refl
 
 -- ---- of steps
 
+module _ (n : ℕ) (us : List (List Field)) (ds rs : List Rec) (e : steps n us ds ≡ done rs) where
+  -- the run that was done
+  pub ran-so : run chart n ds us ≡ ran rs
+  ran-so = ran-done (run chart n ds us) rs (sym (steps-run n us ds) ∙ e)
+
+  -- the number of records: the old ones and the inserts, less the deletes
+  pub steps-count : length rs + deletes chart us ≡ length ds + inserts chart us
+  steps-count = run-count chart lawful n ds us rs ran-so
+
+  -- a record that no update record names stands unchanged, in the same order among its like
+  pub steps-untouched : untouched chart us rs ≡ untouched chart us ds
+  steps-untouched = run-untouched chart lawful n ds us rs ran-so
+
 module _ (n : ℕ) (us : List (List Field)) (ds : List Rec) (s : Sorted ds) where
   -- the first refused update record is the first whose change of its own version is refused
   pub steps-refused : (j : ℕ) (x : Fault) → (steps n us ds ≡ refused 2 j x) ↔ First chart n ds us j x
@@ -98,35 +111,23 @@ module _ (n : ℕ) (us : List (List Field)) (ds : List Rec) (s : Sorted ds) wher
   steps-judged = rw (steps-run n us ds, ran-verdict (run chart n ds us), run-judged chart lawful n ds us (s .once))
 
   module _ (rs : List Rec) (e : steps n us ds ≡ done rs) where
-    -- the run that was done
-    ran-so : run chart n ds us ≡ ran rs
-    ran-so = ran-done (run chart n ds us) rs (sym (steps-run n us ds) ∙ e)
-
     -- the kinds stay in order and each key stands once
     pub steps-sorted : Sorted rs
-    steps-sorted = record { ordered = run-ordered chart lawful 1 low n ds us rs (s .ordered) ran-so; once = run-once chart lawful n ds us rs (s .once) ran-so }
+    steps-sorted = record { ordered = run-ordered chart lawful 1 low n ds us rs (s .ordered) (ran-so n us ds rs e); once = run-once chart lawful n ds us rs (s .once) (ran-so n us ds rs e) }
 
     -- what stands under a key is what the update records that name it make of what stood there
     pub steps-version : (k : List ℕ) → version chart ds us k ≡ ok (find k rs)
-    steps-version k = rw (find-same k rs) (run-version chart lawful n ds us rs k (s .once) ran-so)
+    steps-version k = rw (find-same k rs) (run-version chart lawful n ds us rs k (s .once) (ran-so n us ds rs e))
 
     -- a key is among the result's where a record stands at the end of its history
     pub steps-standing : (k : List ℕ) → among k (each keyOf rs) ≡ standing chart ds us k
-    steps-standing k = run-standing chart lawful n ds us rs k (s .once) ran-so
+    steps-standing k = run-standing chart lawful n ds us rs k (s .once) (ran-so n us ds rs e)
 
     -- of each kind the old records not deleted, in their order, then the inserts not deleted later, in file order
     pub steps-kind : (q : ℕ) → ofKind chart q rs ≡ kept chart q us ds ++ joined chart q us
-    steps-kind q = run-kind chart lawful 1 low q n ds us rs (s .ordered) (s .once) ran-so
+    steps-kind q = run-kind chart lawful 1 low q n ds us rs (s .ordered) (s .once) (ran-so n us ds rs e)
 
     -- the whole result
     pub steps-stream : rs ≡ resultRecords ds us
     unfolding resultRecords places
-    steps-stream = run-stream chart lawful 1 low 4 n ds us rs high (s .ordered) (s .once) ran-so
-
-    -- the number of records: the old ones and the inserts, less the deletes
-    pub steps-count : length rs + deletes chart us ≡ length ds + inserts chart us
-    steps-count = run-count chart lawful n ds us rs ran-so
-
-    -- a record that no update record names stands unchanged, in the same order among its like
-    pub steps-untouched : untouched chart us rs ≡ untouched chart us ds
-    steps-untouched = run-untouched chart lawful n ds us rs ran-so
+    steps-stream = run-stream chart lawful 1 low 4 n ds us rs high (s .ordered) (s .once) (ran-so n us ds rs e)
