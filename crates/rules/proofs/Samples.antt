@@ -9,7 +9,6 @@ use Rattle.skeleton.specs.File.{Field}
 use Rattle.fields.specs.Bytes.{signed32}
 use Rattle.forest.specs.Forest.{Tup, tuplesOf}
 use Rattle.rules.specs.Coordinates.{Coord, coordsIn}
-use Rattle.rules.specs.Grammar.{Mode, inDataset, inUpdate}
 use Rattle.rules.specs.Record.{Rec, datasetRecord, updateRecord}
 use Rattle.rules.specs.Written.{writtenFields, writtenLength, number12}
 use Rattle.rules.specs.Outcome.{Outcome, done, refused}
@@ -21,6 +20,8 @@ use Rattle.fields.specs.Opened.{opened as fieldsOpened}
 use Rattle.forest.specs.Opened.{opened as forestOpened}
 use Rattle.rules.specs.Opened.{opened as rulesOpened}
 use Rattle.rules.proofs.Builders.{numbered, irid, prid, mrid, frid, foid, tuple, attr, inas, link, spas, cocc, coordinates, c2it, c2il, general, filler, pointSent, multiSent, noParts, onlyCoordinates, point, multi, three, many, feature, listed}
+use Rattle.rules.specs.declared.Mode.{Mode}
+use Rattle.rules.specs.declared.Mode.the-variants.{InDataset, InUpdate}
 
 -- what is asked
 pub data Question : Type 0 where
@@ -59,8 +60,8 @@ ofOutcome f (refused file n x) = refusedAt (x .number) file n
 
 -- a record tested on its own
 unfoldable pub alone : Mode → List Field → Passed
-alone inDataset fs = passed (datasetRecord 0 [] fs)
-alone inUpdate fs = passed (updateRecord fs)
+alone InDataset fs = passed (datasetRecord 0 [] fs)
+alone InUpdate fs = passed (updateRecord fs)
 
 -- what is then said of the only record
 unfoldable pub ofOnly : (Rec → Answered) → List Rec → Answered
