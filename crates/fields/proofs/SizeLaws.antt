@@ -129,6 +129,10 @@ sizes-bound (d ∷ ds) l n e =
 
 -- ---- a subfield at a place, test by test
 
+-- the end of a subfield by its format
+pub by-format : (d e : Sub) (b : List ℕ) (at : ℕ) (r : Stop) → r ≡ subfieldEnd e b at → d ≡ e → r ≡ subfieldEnd d b at
+by-format d e b at r q f = q ∙ ap (λ (x : Sub). subfieldEnd x b at) (sym f)
+
 after-pick : (at n : ℕ) (t : Bool) → after at (pick t (some n) none) ≡ pick t (At (at + n)) Bad
 after-pick at n true = refl
 after-pick at n false = refl
