@@ -1,3 +1,5 @@
 pub mod ByteLaws
 pub mod SizeLaws
 pub mod RowLaws
+pub mod TupleLaws
+pub mod CountLaws
