@@ -1,28 +1,28 @@
 -- The tuples of a field counted: the ways through a loop over them, lists of which the length alone is tested, and what the count means.
 -- Assumes nothing.
-use Prim.Native.Nat.{ℕ, zero, suc, _+_, _*_, _-_, _/_, _%_, _≤_, _<_}
+use Prim.Native.Nat.{ℕ, zero, suc, _+_, _-_, _/_, _%_, _≤_, _<_}
 use mathlib.Core.Path.{_≡_, refl, sym, ap, ap₂, _∙_}
-use mathlib.Core.Bool.{Bool, true, false, true≢false}
-use mathlib.Core.Option.{Option, none, some}
-use mathlib.Core.List.{List, [], _∷_}
+use mathlib.Core.Bool.{true, false, true≢false}
+use mathlib.Core.Option.{none, some}
+use mathlib.Core.List.{List, _∷_}
 use native.Mathlib.Nat.{add-zero, mod-eq-sub-mod, mod-eq-of-lt, zero-mod, zero-div, div-eq-of-lt, div-eq-sub-div}
 use native.Mathlib.Omega.{arith}
 use lib.ListN.{length, drop, length-drop}
 use lib.Dec.{leb, eqb, leb·zero}
-use borrow.Author.Tests.{eq-eqb, ne-eqb, le-leb, lt-leb, eqb-true}
+use borrow.Author.Tests.{eq-eqb, ne-eqb, le-leb, lt-leb}
 use Rattle.base.specs.Choice.{pick}
 use Rattle.base.specs.Walk.{Got, before}
-use Rattle.fields.specs.Sizes.{any, numSize, size, sizes, onSize, plus, amount}
+use Rattle.fields.specs.Sizes.{any, numSize, size, sizes, onSize, plus}
 use Rattle.fields.specs.Values.{Val, values, width}
-use Rattle.fields.specs.Content.{tuples, many, tallied, tally, tallyField, isWhole, fill, content}
-use Rattle.fields.specs.Places.{after, subfieldsEnd, endingAt, tallyAt, isRaw, allRaw}
+use Rattle.fields.specs.Content.{tuples, tallied, tally}
+use Rattle.fields.specs.Places.{subfieldsEnd, tallyAt, allRaw}
 use Rattle.fields.specs.declared.Sub.{Sub}
 use Rattle.fields.specs.declared.Sub.the-variants.{B11, B12, B14, Among, Raw, Text, Fixed}
 use Rattle.fields.specs.declared.Stop.{Stop}
 use Rattle.fields.specs.declared.Stop.the-variants.{At, Bad}
 use Rattle.fields.specs.declared.Tally.{Tally}
 use Rattle.fields.specs.declared.Tally.the-variants.{Whole, Short}
-use Rattle.fields.proofs.SizeLaws.{tested, sizes-bound, subfields-bound, some-inj, after-at}
+use Rattle.fields.proofs.SizeLaws.{tested, subfields-bound, some-inj, after-at}
 use Rattle.fields.proofs.TupleLaws.{split, tuples-end, tuples-bad, tuples-on, here-end, here-bad, here-stuck, here-on}
 
 -- ---- the ways through a loop over tuples
@@ -163,4 +163,12 @@ module _ (t : List Sub) (b : List ℕ) (p n : ℕ) (r : Stop) (raw : allRaw t �
   pub raw-short : ((length b - p) % (n - p) ≡ 0 → ⊥) → Short ((length b - p) / (n - p) + 1) ≡ tallyAt t b p 0
   raw-short z = sym (simp (ne-eqb ((length b - p) % (n - p)) 0 z) (ap Short (omega arith))) ∙ raw-at t b p n r raw got e h
 
-pub ruleset raw-turn = (raw-whole, raw-short, arith)
+-- no first tuple
+module _ (t : List Sub) (b : List ℕ) (p : ℕ) (r : Stop) (got : r ≡ subfieldsEnd t b p) (h : p < length b) where
+  pub first-bad : r ≡ Bad → Short 1 ≡ tallyAt t b p 0
+  first-bad e = tally-bad t b p 0 r (tallyAt t b p 0) got refl h e
+
+  pub first-stuck : (n : ℕ) → r ≡ At n → n ≤ p → Short 1 ≡ tallyAt t b p 0
+  first-stuck n e q = tally-stuck t b p 0 r (tallyAt t b p 0) got refl h n e q
+
+pub ruleset raw-turn = (first-bad, first-stuck, raw-whole, raw-short, arith)

@@ -3,3 +3,4 @@ pub mod SizeLaws
 pub mod RowLaws
 pub mod TupleLaws
 pub mod CountLaws
+pub mod FieldLaws

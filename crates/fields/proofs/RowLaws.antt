@@ -1,14 +1,14 @@
 -- The rows of all formats: a format's rows are its subfields, and the ways through loops over rows. Assumes nothing.
-use Prim.Native.Nat.{ℕ, zero, suc, _+_, _≤_, _<_}
+use Prim.Native.Nat.{ℕ, zero, suc, _+_, _-_, _≤_, _<_}
 use mathlib.Core.Path.{_≡_, refl, sym, ap, _∙_}
 use mathlib.Core.Bool.{Bool, true, false}
-use mathlib.Core.List.{List}
+use mathlib.Core.List.{List, _∷_}
 use native.Mathlib.Numerals.{add-one}
-use native.Mathlib.Nat.{add-zero, add-suc, le-trans}
+use native.Mathlib.Nat.{add-suc, suc-add, zero-add, le-trans, le-of-eq}
 use native.Mathlib.Omega.{arith}
 use lib.Arith.{lt-of-le-ne}
-use lib.ListN.{length, getD}
-use lib.Seq.{slice, slice-cons, slice-empty}
+use lib.ListN.{length, getD, take, drop}
+use lib.Seq.{slice, slice-cons, slice-empty, length-slice, take-take, take-nil, take-all}
 use lib.Dec.{T, leb, lit≤}
 use Rattle.base.specs.Choice.{pick}
 use Rattle.fields.specs.Table.{headOf, tupleOf}
@@ -80,6 +80,19 @@ its k s e = rw e (its-rows k)
 pub table-rows : length table ≡ rows
 unfolding table headOf tupleOf
 table-rows = refl
+
+-- ---- the first rows of some
+
+take-drop : (f j : ℕ) (l : List Sub) → take j (drop f l) ≡ drop f (take (f + j) l)
+take-drop zero j l = rw zero-add
+take-drop (suc f) j [] = rw (take-nil, take-nil (suc f + j))
+take-drop (suc f) j (x ∷ l) = rw suc-add (take-drop f j l)
+
+pub rows-take : (f t j : ℕ) → f + j ≤ t → take j (slice f t table) ≡ slice f (f + j) table
+rows-take f t j h = take-drop f j (take t table) ∙ ap (drop f) (take-take (f + j) t table h)
+
+pub rows-all : (f t j : ℕ) → t ≤ rows → t - f ≤ j → take j (slice f t table) ≡ slice f t table
+rows-all f t j k h = take-all j (slice f t table) (le-trans (le-of-eq (length-slice f t table (rw table-rows k))) h)
 
 -- ---- the ways through a loop over rows: where their subfields end
 

@@ -2,9 +2,9 @@
 -- Assumes nothing.
 use Prim.Native.Nat.{ℕ, zero, suc, _+_, _-_, _≤_, _<_}
 use mathlib.Core.Path.{_≡_, refl, sym, ap, _∙_}
-use mathlib.Core.Bool.{Bool, true, false}
+use mathlib.Core.Bool.{true, false}
 use mathlib.Core.Option.{Option, none, some}
-use mathlib.Core.List.{List, [], _∷_}
+use mathlib.Core.List.{List, _∷_}
 use native.Mathlib.Nat.{lt-of-not-le}
 use native.Mathlib.Decide.{decLe}
 use native.Mathlib.Omega.{arith}
@@ -20,11 +20,9 @@ use Rattle.base.proofs.WalkLaws.{walk-step}
 use Rattle.fields.specs.Sizes.{sizes, onSize}
 use Rattle.fields.specs.Values.{Val, values}
 use Rattle.fields.specs.Content.{tupleStep, tuples, many}
-use Rattle.fields.specs.Places.{after, subfieldsEnd, endingAt, tupleAt, toTuple}
+use Rattle.fields.specs.Places.{after, subfieldsEnd, endingAt, tupleAt}
 use Rattle.fields.specs.declared.Sub.{Sub}
-use Rattle.fields.specs.declared.Stop.{Stop}
 use Rattle.fields.specs.declared.Stop.the-variants.{At, Bad}
-use Rattle.fields.specs.declared.Tuple.{Tuple}
 use Rattle.fields.specs.declared.Tuple.the-variants.{Until, Over}
 use Rattle.fields.proofs.SizeLaws.{sizes-bound, after-at, after-bad}
 

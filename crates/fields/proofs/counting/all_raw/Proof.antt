@@ -5,13 +5,8 @@ use lib.Seq.{slice}
 use Prim.Native.Nat.{_≤_, _-_}
 use mathlib.Core.Path.{_≡_, refl}
 use borrow.Author.Needs.{needs}
-use native.Mathlib.Omega.{arith}
 use Rattle.fields.proofs.counting.all_raw.Statement.{statement}
 use Rattle.fields.proofs.counting.all_raw.Tie as tie
-use Rattle.fields.proofs.counting.all_raw.Reads as reads
-use Rattle.fields.proofs.counting.all_raw.Lts as lts
-use Rattle.fields.proofs.counting.is_raw.Reads as is-raw-reads
-use Rattle.fields.proofs.row.row.Reads as row-reads
 
 abbrev Inv-loop : tie.InvT-loop
 Inv-loop from to j₀ j = (from ≤ j) × (j ≤ to) × (allRaw (slice j to table) ≡ allRaw (slice from to table))

@@ -4,8 +4,6 @@ use native.Mathlib.Omega.{arith}
 use borrow.Author.Needs.{needs}
 use Rattle.fields.proofs.number.le16.Statement.{statement}
 use Rattle.fields.proofs.number.le16.Tie as tie
-use Rattle.fields.proofs.number.le16.Reads as reads
-use Rattle.fields.proofs.number.le16.Lts as lts
 
 shared-slice-read-low : tie.Need-shared-slice-read-low
 shared-slice-read-low c = search needs

@@ -3,9 +3,6 @@ use native.Mathlib.Omega.{arith}
 use borrow.Author.Needs.{needs}
 use Rattle.fields.proofs.number.le32.Statement.{statement}
 use Rattle.fields.proofs.number.le32.Tie as tie
-use Rattle.fields.proofs.number.le32.Reads as reads
-use Rattle.fields.proofs.number.le32.Lts as lts
-use Rattle.fields.proofs.number.le16.Reads as le16-reads
 
 le16-requires : tie.Need-le16-requires
 le16-requires c κs = search needs

@@ -3,8 +3,6 @@ use native.Mathlib.Omega.{arith}
 use borrow.Author.Needs.{needs}
 use Rattle.fields.proofs.number.le8.Statement.{statement}
 use Rattle.fields.proofs.number.le8.Tie as tie
-use Rattle.fields.proofs.number.le8.Reads as reads
-use Rattle.fields.proofs.number.le8.Lts as lts
 
 shared-slice-read-result : tie.Need-shared-slice-read-result
 shared-slice-read-result c = search needs

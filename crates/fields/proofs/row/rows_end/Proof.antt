@@ -6,13 +6,8 @@ use lib.ListN.{length}
 use Prim.Native.Nat.{_≤_, _-_}
 use mathlib.Core.Path.{_≡_, refl}
 use borrow.Author.Needs.{needs}
-use native.Mathlib.Omega.{arith}
 use Rattle.fields.proofs.row.rows_end.Statement.{statement}
 use Rattle.fields.proofs.row.rows_end.Tie as tie
-use Rattle.fields.proofs.row.rows_end.Reads as reads
-use Rattle.fields.proofs.row.rows_end.Lts as lts
-use Rattle.fields.proofs.row.row.Reads as row-reads
-use Rattle.fields.proofs.subfield.subfield_end.Reads as subfield-end-reads
 
 abbrev Inv-loop : tie.InvT-loop
 Inv-loop from to b at j₀ p₀ j p = (from ≤ j) × (j ≤ to) × (p ≤ length b) × (subfieldsEnd (slice j to table) b p ≡ subfieldsEnd (slice from to table) b at)

@@ -1,10 +1,7 @@
 use Rattle.fields.proofs.SizeLaws.{num-short, raw-there}
-use native.Mathlib.Omega.{arith}
 use borrow.Author.Needs.{needs}
 use Rattle.fields.proofs.subfield.any_bytes.Statement.{statement}
 use Rattle.fields.proofs.subfield.any_bytes.Tie as tie
-use Rattle.fields.proofs.subfield.any_bytes.Reads as reads
-use Rattle.fields.proofs.subfield.any_bytes.Lts as lts
 
 sub-if1 : tie.Need-sub-if1
 sub-if1 c = search needs

@@ -1,13 +1,8 @@
 use Rattle.fields.proofs.SizeLaws.{num-short, num-there}
 use Rattle.fields.specs.Valid.{allows}
-use native.Mathlib.Omega.{arith}
 use borrow.Author.Needs.{needs}
 use Rattle.fields.proofs.subfield.chosen8.Statement.{statement}
 use Rattle.fields.proofs.subfield.chosen8.Tie as tie
-use Rattle.fields.proofs.subfield.chosen8.Reads as reads
-use Rattle.fields.proofs.subfield.chosen8.Lts as lts
-use Rattle.fields.proofs.number.le8.Reads as le8-reads
-use Rattle.fields.proofs.subfield.in_set.Reads as in-set-reads
 
 sub-if1 : tie.Need-sub-if1
 sub-if1 c = search needs

@@ -1,11 +1,7 @@
 use Rattle.fields.proofs.SizeLaws.{fixed-short, fixed-there}
-use native.Mathlib.Omega.{arith}
 use borrow.Author.Needs.{needs}
 use Rattle.fields.proofs.subfield.fixed_text.Statement.{statement}
 use Rattle.fields.proofs.subfield.fixed_text.Tie as tie
-use Rattle.fields.proofs.subfield.fixed_text.Reads as reads
-use Rattle.fields.proofs.subfield.fixed_text.Lts as lts
-use Rattle.fields.proofs.text.text_end.Reads as text-end-reads
 
 text-end-requires : tie.Need-text-end-requires
 text-end-requires c κs = search needs

@@ -1,10 +1,6 @@
 use borrow.Author.Tests.{lt-leb, le-leb}
-use borrow.Author.Needs.{needs}
-use native.Mathlib.Omega.{arith}
 use Rattle.fields.proofs.subfield.in_range.Statement.{statement}
 use Rattle.fields.proofs.subfield.in_range.Tie as tie
-use Rattle.fields.proofs.subfield.in_range.Reads as reads
-use Rattle.fields.proofs.subfield.in_range.Lts as lts
 
 returns : tie.Need-returns
 returns c = simp (lt-leb _ _ (c .if1 .taken))

@@ -1,10 +1,6 @@
 use borrow.Author.Tests.{eq-eqb, ne-eqb}
-use borrow.Author.Needs.{needs}
-use native.Mathlib.Omega.{arith}
 use Rattle.fields.proofs.subfield.in_set.Statement.{statement}
 use Rattle.fields.proofs.subfield.in_set.Tie as tie
-use Rattle.fields.proofs.subfield.in_set.Reads as reads
-use Rattle.fields.proofs.subfield.in_set.Lts as lts
 
 returns : tie.Need-returns
 returns c = simp (eq-eqb _ _ (c .if1 .taken))

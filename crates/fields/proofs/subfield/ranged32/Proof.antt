@@ -1,13 +1,8 @@
 use Rattle.fields.proofs.SizeLaws.{num-short, num-there}
 use Rattle.fields.specs.Valid.{allows}
-use native.Mathlib.Omega.{arith}
 use borrow.Author.Needs.{needs}
 use Rattle.fields.proofs.subfield.ranged32.Statement.{statement}
 use Rattle.fields.proofs.subfield.ranged32.Tie as tie
-use Rattle.fields.proofs.subfield.ranged32.Reads as reads
-use Rattle.fields.proofs.subfield.ranged32.Lts as lts
-use Rattle.fields.proofs.number.le32.Reads as le32-reads
-use Rattle.fields.proofs.subfield.in_range.Reads as in-range-reads
 
 sub-if1 : tie.Need-sub-if1
 sub-if1 c = search needs

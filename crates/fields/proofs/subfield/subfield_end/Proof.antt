@@ -1,17 +1,7 @@
 use Rattle.fields.proofs.SizeLaws.{by-format}
-use native.Mathlib.Omega.{arith}
 use borrow.Author.Needs.{needs}
 use Rattle.fields.proofs.subfield.subfield_end.Statement.{statement}
 use Rattle.fields.proofs.subfield.subfield_end.Tie as tie
-use Rattle.fields.proofs.subfield.subfield_end.Reads as reads
-use Rattle.fields.proofs.subfield.subfield_end.Lts as lts
-use Rattle.fields.proofs.subfield.any_bytes.Reads as any-bytes-reads
-use Rattle.fields.proofs.subfield.chosen8.Reads as chosen8-reads
-use Rattle.fields.proofs.subfield.ended_text.Reads as ended-text-reads
-use Rattle.fields.proofs.subfield.fixed_text.Reads as fixed-text-reads
-use Rattle.fields.proofs.subfield.ranged16.Reads as ranged16-reads
-use Rattle.fields.proofs.subfield.ranged32.Reads as ranged32-reads
-use Rattle.fields.proofs.subfield.ranged8.Reads as ranged8-reads
 
 enum-known-d : tie.Need-enum-known-d
 enum-known-d c = search needs

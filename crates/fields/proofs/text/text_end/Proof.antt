@@ -1,14 +1,11 @@
-use Rattle.fields.proofs.ByteLaws.{text-turn, run-more}
+use Rattle.fields.proofs.ByteLaws.{text-turn}
 use Rattle.fields.specs.Bytes.{run}
 use lib.ListN.{length, drop}
 use Prim.Native.Nat.{_≤_, _+_, _-_}
 use mathlib.Core.Path.{_≡_}
 use borrow.Author.Needs.{needs}
-use native.Mathlib.Omega.{arith}
 use Rattle.fields.proofs.text.text_end.Statement.{statement}
 use Rattle.fields.proofs.text.text_end.Tie as tie
-use Rattle.fields.proofs.text.text_end.Reads as reads
-use Rattle.fields.proofs.text.text_end.Lts as lts
 
 abbrev Inv-loop : tie.InvT-loop
 Inv-loop b at i₀ i = (i ≤ length b) × (at + run (drop at b) ≡ i + run (drop i b))
