@@ -4,7 +4,7 @@ use Prim.Native.Nat.{ℕ, zero, suc, _+_, _-_, _/_, _%_, _≤_, _<_}
 use mathlib.Core.Path.{_≡_, refl, sym, ap, ap₂, _∙_}
 use mathlib.Core.Bool.{true, false, true≢false}
 use mathlib.Core.Option.{none, some}
-use mathlib.Core.List.{List, _∷_}
+use mathlib.Core.List.{List, [], _∷_}
 use native.Mathlib.Nat.{add-zero, mod-eq-sub-mod, mod-eq-of-lt, zero-mod, zero-div, div-eq-of-lt, div-eq-sub-div}
 use native.Mathlib.Omega.{arith}
 use lib.ListN.{length, drop, length-drop}
