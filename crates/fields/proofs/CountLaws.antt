@@ -13,7 +13,7 @@ use borrow.Author.Tests.{eq-eqb, ne-eqb, le-leb, lt-leb}
 use Rattle.base.specs.Choice.{pick}
 use Rattle.base.specs.Walk.{Got, before}
 use Rattle.fields.specs.Sizes.{any, numSize, size, sizes, onSize, plus}
-use Rattle.fields.specs.Values.{Val, values, width}
+use Rattle.fields.specs.Values.{Val, values}
 use Rattle.fields.specs.Content.{tuples, tallied, tally}
 use Rattle.fields.specs.Places.{subfieldsEnd, tallyAt, allRaw}
 use Rattle.fields.specs.declared.Sub.{Sub}
@@ -22,7 +22,7 @@ use Rattle.fields.specs.declared.Stop.{Stop}
 use Rattle.fields.specs.declared.Stop.the-variants.{At, Bad}
 use Rattle.fields.specs.declared.Tally.{Tally}
 use Rattle.fields.specs.declared.Tally.the-variants.{Whole, Short}
-use Rattle.fields.proofs.SizeLaws.{tested, subfields-bound, some-inj, after-at}
+use Rattle.fields.proofs.SizeLaws.{widths, tested, subfields-bound, some-inj, after-at}
 use Rattle.fields.proofs.TupleLaws.{split, tuples-end, tuples-bad, tuples-on, here-end, here-bad, here-stuck, here-on}
 
 -- ---- the ways through a loop over tuples
@@ -79,11 +79,6 @@ by-less w m k pos h =
     let q : m / w ≡ 0 = div-eq-of-lt h in
     sym (simp (ne-eqb (m % w) 0 (λ e. omega (arith, mod-eq-of-lt h))) (ap Short (omega arith)))
 
--- how many bytes subfields that are numbers take
-unfoldable pub widths : List Sub → ℕ
-widths [] = 0
-widths (d ∷ ds) = width d + widths ds
-
 not-raw {ℓ} : {X : Type ℓ} → false ≡ true → X
 not-raw e = absurd (true≢false (sym e))
 
@@ -100,7 +95,7 @@ raw-more n s l ds ih =
     (λ h. simp (lt-leb n (length l) h, lt-leb (n + s) (length l) (omega arith)))
 
 raw-sizes : (t : List Sub) → allRaw t ≡ true → (l : List ℕ) → sizes t l ≡ pick (leb (widths t) (length l)) (some (widths t)) none
-unfolding allRaw widths sizes size
+unfolding allRaw sizes size
 raw-sizes [] e l = simp leb·zero
 raw-sizes (B11 lo hi ∷ ds) e l = not-raw e
 raw-sizes (B12 lo hi ∷ ds) e l = not-raw e

@@ -4,3 +4,4 @@ pub mod RowLaws
 pub mod TupleLaws
 pub mod CountLaws
 pub mod FieldLaws
+pub mod FormatLaws

@@ -10,7 +10,8 @@ use lib.ListN.{length, getD, drop, length-drop}
 use lib.Seq.{getD-drop, drop-drop}
 use lib.Dec.{leb, ltb, eqb}
 use borrow.Author.Tests.{eq-eqb, ne-eqb, le-leb, lt-leb, lt-ltb, le-ltb, leb-true, ltb-true}
-use Rattle.base.specs.Choice.{pick}
+use Rattle.base.specs.Choice.{pick, both}
+use Rattle.base.proofs.ChoiceLaws.{both-hold}
 use Rattle.fields.specs.Bytes.{le, run}
 use Rattle.fields.specs.Sizes.{inRange, inSet, any, numSize, textSize, fixedSize, size, sizes, onSize, plus}
 use Rattle.fields.specs.Values.{width}
@@ -75,6 +76,16 @@ num-some w ok l n e =
     let s = tested (ok (le w l)) (some w) n (r .1) in
     (some-inj (s .1), leb-true w (length l) (r .0), s .0)
 
+-- each subfield is a number
+abbrev pub allNum : List Sub → Bool
+allNum [] = true
+allNum (d ∷ ds) = both (isNum d) (allNum ds)
+
+-- how many bytes subfields that are numbers take
+abbrev pub widths : List Sub → ℕ
+widths [] = 0
+widths (d ∷ ds) = width d + widths ds
+
 -- ---- texts
 
 pub text-some : (l : List ℕ) (n : ℕ) → textSize l ≡ some n → (run l + 1 ≡ n) × (run l < length l) × (eqb (getD l (run l) 0) 31 ≡ true)
@@ -111,6 +122,17 @@ sizes-cons d ds l n e =
     let r = then-some (size d l) (λ (m : ℕ). plus m (sizes ds (drop m l))) n e in
     let q = plus-some (r .0) n (sizes ds (drop (r .0) l)) (r .2) in
     (r .0, q .0, r .1, q .1, q .2)
+
+-- subfields that are numbers take as many bytes as they are wide
+pub num-widths : (ds : List Sub) (l : List ℕ) (n : ℕ) → allNum ds ≡ true → sizes ds l ≡ some n → n ≡ widths ds
+unfolding sizes
+num-widths [] l n i e = sym (some-inj e)
+num-widths (d ∷ ds) l n i e =
+    let r = sizes-cons d ds l n e in
+    let q = both-hold (isNum d) (allNum ds) i in
+    let w : width d ≡ r .0 = num-some (width d) (allows d) l (r .0) (sym (num-size d l (q .0)) ∙ r .2) .0 in
+    let s : r .0 + r .1 ≡ n = r .4 in
+    omega (arith, num-widths ds (drop (r .0) l) (r .1) (q .1) (r .3))
 
 -- and the two together
 pub sizes-join : (d : Sub) (ds : List Sub) (l : List ℕ) (m k : ℕ) → size d l ≡ some m → sizes ds (drop m l) ≡ some k → sizes (d ∷ ds) l ≡ some (m + k)

@@ -1,4 +1,4 @@
-use Rattle.fields.proofs.FieldLaws.{field-turn}
+use Rattle.fields.proofs.FormatLaws.{field-turn}
 use borrow.Author.Needs.{needs}
 use Rattle.fields.proofs.counting.tally_of.Statement.{statement}
 use Rattle.fields.proofs.counting.tally_of.Tie as tie

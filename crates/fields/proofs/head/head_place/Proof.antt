@@ -1,4 +1,4 @@
-use Rattle.fields.proofs.FieldLaws.{place-turn}
+use Rattle.fields.proofs.FormatLaws.{place-turn}
 use borrow.Author.Needs.{needs}
 use Rattle.fields.proofs.head.head_place.Statement.{statement}
 use Rattle.fields.proofs.head.head_place.Tie as tie

@@ -1,4 +1,4 @@
-use Rattle.fields.proofs.FieldLaws.{tuple-turn}
+use Rattle.fields.proofs.FormatLaws.{tuple-turn}
 use borrow.Author.Needs.{needs}
 use Rattle.fields.proofs.tuples.tuple_at.Statement.{statement}
 use Rattle.fields.proofs.tuples.tuple_at.Tie as tie
