@@ -5,3 +5,4 @@ pub mod TupleLaws
 pub mod CountLaws
 pub mod FieldLaws
 pub mod FormatLaws
+pub mod ValueLaws
