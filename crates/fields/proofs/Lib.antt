@@ -6,3 +6,6 @@ pub mod CountLaws
 pub mod FieldLaws
 pub mod FormatLaws
 pub mod ValueLaws
+pub mod EvenLaws
+pub mod JoinLaws
+pub mod WiderLaws

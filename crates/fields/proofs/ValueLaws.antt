@@ -3,14 +3,14 @@
 use Prim.Native.Nat.{ℕ, zero, suc, _+_, _-_, _≤_, _<_}
 use mathlib.Core.Path.{_≡_, refl, sym, ap, _∙_}
 use mathlib.Core.Bool.{Bool, true, false, true≢false}
-use mathlib.Core.Option.{Option, none, some}
+use mathlib.Core.Option.{Option, some}
 use mathlib.Core.List.{List, [], _∷_}
 use native.Mathlib.Nat.{not-suc-le-zero, le-of-suc-le-suc, zero-add}
 use native.Mathlib.Omega.{arith}
 use lib.ListN.{length, getD, take, drop, length-drop}
 use lib.Seq.{drop-drop}
-use lib.Dec.{leb, ltb, eqb}
-use borrow.Author.Tests.{leb-true, ltb-true, eqb-true}
+use lib.Dec.{leb, eqb}
+use borrow.Author.Tests.{leb-true, eqb-true}
 use Rattle.base.specs.Choice.{both}
 use Rattle.base.proofs.ChoiceLaws.{both-hold}
 use Rattle.fields.specs.Bytes.{le, run}
@@ -18,12 +18,11 @@ use Rattle.fields.specs.Sizes.{size, sizes, amount}
 use Rattle.fields.specs.Values.{Val, num, txt, value, values, numOf, textOf, numAt, textAt, width}
 use Rattle.fields.specs.Valid.{allows}
 use Rattle.fields.specs.Content.{fill}
-use Rattle.fields.specs.Places.{after, subfieldEnd, subfieldsEnd, headPlace, endingAt}
+use Rattle.fields.specs.Places.{subfieldEnd, subfieldsEnd, headPlace}
 use Rattle.fields.specs.declared.Sub.{Sub}
 use Rattle.fields.specs.declared.Sub.the-variants.{B11, B12, B14, Among, Raw, Text, Fixed}
-use Rattle.fields.specs.declared.Stop.{Stop}
 use Rattle.fields.specs.declared.Stop.the-variants.{At, Bad}
-use Rattle.fields.proofs.SizeLaws.{isNum, some-inj, num-size, num-some, text-some, size-bound, sizes-cons, sizes-bound, at-inj, after-bad, end-nil, end-cons, subfields-bound}
+use Rattle.fields.proofs.SizeLaws.{isNum, some-inj, num-size, num-some, text-some, size-bound, sizes-cons, at-inj, end-nil, end-cons}
 use Rattle.fields.proofs.TupleLaws.{Next}
 use Rattle.fields.proofs.FieldLaws.{filled}
 
@@ -59,7 +58,7 @@ lies (d ∷ ds) (suc j) o = both (isNum d) (both (leb (width d) o) (lies ds j (o
 
 -- ---- what a subfield holds
 
-num-value : (d : Sub) (l : List ℕ) → isNum d ≡ true → value d l ≡ num (le (width d) l)
+pub num-value : (d : Sub) (l : List ℕ) → isNum d ≡ true → value d l ≡ num (le (width d) l)
 unfolding value
 num-value (B11 lo hi) l i = refl
 num-value (B12 lo hi) l i = refl
