@@ -2,4 +2,5 @@ pub mod Forest
 pub mod Rule
 pub mod Acts
 pub mod Edit
+pub mod Reader
 pub mod Opened
