@@ -1,3 +1,6 @@
+pub mod CheckLaws
 pub mod ReaderLaws
 pub mod TupleReader
 pub mod RunLaws
+pub mod TuplesLaws
+pub mod TreeLaws

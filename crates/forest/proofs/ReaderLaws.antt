@@ -10,27 +10,8 @@ use Rattle.base.specs.Choice.{pick, both, either}
 use Rattle.base.specs.Check.{Check, ok, no, bind, fault, refuse}
 use Rattle.base.specs.declared.Fault.{Fault}
 use Rattle.base.proofs.ChoiceLaws.{both-hold}
+use Rattle.forest.proofs.CheckLaws.{never, ok-same, bind-inv, bind-same}
 use Rattle.forest.specs.Reader.{Reader, Read, belongs, faulty, entryThen, readUpTo, readRun, Falls}
-
--- a refusal is no value
-pub never : {A X : Type 0} {n t : ℕ} {a : A} → refuse n t ≡ ok a → X
-never e = absurd (let z : _≡_ {A = ℕ} 0 1 = cc in omega arith)
-
--- values that are checked to be the same are the same
-pub ok-same : {A : Type 0} {a b : A} → ok a ≡ ok b → a ≡ b
-ok-same e = cc
-
--- what came before a value that two tests gave
-pub bind-inv : {A B : Type 0} (c : Check A) (k : A → Check B) (b : B) → bind c k ≡ ok b → (a : A) × (c ≡ ok a) × (k a ≡ ok b)
-unfolding bind
-bind-inv (ok a) k b e = (a, refl, e)
-bind-inv (no f) k b e = absurd (let z : _≡_ {A = ℕ} 0 1 = cc in omega arith)
-
--- what comes after a test need only agree on the value that it gives
-pub bind-same : {A B : Type 0} (c : Check A) (k l : A → Check B) → ((a : A) → c ≡ ok a → k a ≡ l a) → bind c k ≡ bind c l
-unfolding bind
-bind-same (ok a) k l h = h a refl
-bind-same (no f) k l h = refl
 
 module _ {S F : Type 0} (d : Reader S F) where
   -- ---- one turn

@@ -10,7 +10,8 @@ use borrow.Author.Tests.{eq-eqb, ne-eqb}
 use Rattle.base.specs.Choice.{pick, either}
 use Rattle.base.specs.Check.{Check, ok, no, bind, refuse}
 use Rattle.forest.specs.Reader.{Reader, Read, entryThen, readUpTo, Falls}
-use Rattle.forest.proofs.ReaderLaws.{ok-same, bind-inv, bind-same, read-falls, read-bound}
+use Rattle.forest.proofs.CheckLaws.{ok-same, bind-inv, bind-same}
+use Rattle.forest.proofs.ReaderLaws.{read-falls, read-bound}
 
 -- what is kept of the tuples passed, and those left
 pub record Passing (P T : Type 0) : Type 0 where
