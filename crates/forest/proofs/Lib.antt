@@ -4,3 +4,4 @@ pub mod TupleReader
 pub mod RunLaws
 pub mod TuplesLaws
 pub mod TreeLaws
+pub mod EditLaws
