@@ -21,8 +21,8 @@ put-plain c k v kids nil bare kp fp = p-tree bare kp p-nil
 put-plain c k v kids (tree d w ks rest) bare kp (p-tree bare′ ksp rp) =
     by-test Plain (eqb d c) _ _
     (λ _. by-test Plain (eqb k 1) _ _
-      (λ _. p-tree bare kp (p-tree bare′ ksp rp))
-      (λ _. by-test Plain (eqb (count c rest) 0) _ _ (λ _. p-tree bare′ ksp (p-tree bare kp rp)) (λ _. p-tree bare′ ksp (put-plain c (k - 1) v kids rest bare kp rp))))
+    (λ _. p-tree bare kp (p-tree bare′ ksp rp))
+    (λ _. by-test Plain (eqb (count c rest) 0) _ _ (λ _. p-tree bare′ ksp (p-tree bare kp rp)) (λ _. p-tree bare′ ksp (put-plain c (k - 1) v kids rest bare kp rp))))
     (λ _. p-tree bare′ ksp (put-plain c k v kids rest bare kp rp))
 
 -- what a test gives, if it gives something, is plain
@@ -55,8 +55,8 @@ alter-plain n c k v h below nil fp = λ g e. never e
 alter-plain n c k v h below (tree d w ks rest) (p-tree bare kp rp) =
     by-test Gives (eqb d c) _ _
     (λ _. by-test Gives (eqb k 1) _ _
-      (λ _ g e. let (ks′, x, y) = bind-inv (h ks) _ g e in let (b, p) = below ks kp ks′ x in gives (tree d v ks′ rest) (p-tree b p rp) g y)
-      (λ _. behind-plain d w ks _ bare kp (alter-plain n c (k - 1) v h below rest rp)))
+    (λ _ g e. let (ks′, x, y) = bind-inv (h ks) _ g e in let (b, p) = below ks kp ks′ x in gives (tree d v ks′ rest) (p-tree b p rp) g y)
+    (λ _. behind-plain d w ks _ bare kp (alter-plain n c (k - 1) v h below rest rp)))
     (λ _. behind-plain d w ks _ bare kp (alter-plain n c k v h below rest rp))
 
 -- ---- a run of acts
@@ -98,8 +98,8 @@ edit-plains done barren f fp = gives f fp
 edit-plains (act n insert c k v us rest) barren f fp =
     by-test Gives barren _ _ (λ _ g e. never e)
     (λ _. by-test Gives (ltb (suc (count c f)) k) _ _ (λ _ g e. never e)
-      (λ _ g e. let (ks, x, y) = bind-inv (edit (valued v) nil us) _ g e in
-        edit-plains rest barren (put c k v ks f) (put-plain c k v ks f (edit-bare v nil us ks (beside-nil v) x) (edit-plains us (valued v) nil p-nil ks x) fp) g y))
+    (λ _ g e. let (ks, x, y) = bind-inv (edit (valued v) nil us) _ g e in
+    edit-plains rest barren (put c k v ks f) (put-plain c k v ks f (edit-bare v nil us ks (beside-nil v) x) (edit-plains us (valued v) nil p-nil ks x) fp) g y))
 edit-plains (act n delete c k v us rest) barren f fp =
     λ g e. let (f′, x, y) = bind-inv (cut n c k f) _ g e in edit-plains rest barren f′ (cut-plain n c k f fp f′ x) g y
 edit-plains (act n modify c k v us rest) barren f fp =

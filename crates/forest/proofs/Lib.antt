@@ -1,3 +1,4 @@
+pub mod Numbers
 pub mod CheckLaws
 pub mod ReaderLaws
 pub mod TupleReader
@@ -5,3 +6,5 @@ pub mod RunLaws
 pub mod TuplesLaws
 pub mod TreeLaws
 pub mod EditLaws
+pub mod FlatLaws
+pub mod Splice

@@ -38,7 +38,6 @@ sound-none earlier p ts = record { split = refl; passed = refl; plain = p-nil }
 module _ (earlier : List Tup) (p : ℕ) (t : Tup) (ts : List Tup) (kids : Forest) (earlier₁ ts₁ : List Tup)
     (fits : p ≤ length earlier) (low : Low earlier) (parent : t .paix ≡ p) (index : t .atix ≡ suc (occurs (t .natc) (codesOf p earlier)))
     (one : Sound (t ∷ earlier) (suc (length earlier)) ts kids earlier₁ ts₁) where
-
   -- the tuple as the forest writes it
   head : Tup
   head = record { natc = t .natc; atix = suc (occurs (t .natc) (codesOf p earlier)); paix = p; atvl = t .atvl }
@@ -91,7 +90,7 @@ module _ (earlier : List Tup) (p : ℕ) (t : Tup) (ts : List Tup) (kids : Forest
       record {
         split = ap (λ (x : List Tup). t ∷ x) (kids-split ∙ ap (λ (x : List Tup). a ++ x) two-split ∙ sym (append-assoc a r ts′)) ∙ ap (λ (x : Tup). x ∷ ((a ++ r) ++ ts′)) tuple-head;
         passed = two-passed ∙ ap (onto r) kids-passed ∙ sym (onto-append a r (t ∷ earlier)) ∙ ap (λ (x : Tup). onto (a ++ r) (x ∷ earlier)) tuple-head;
-        plain = p-tree bare (one .plain) (two .plain)
+        plain = p-tree bare (one .plain) (two .plain);
       }
 
 -- ---- sound: what is read is a plain forest's
@@ -126,7 +125,7 @@ index-right earlier p t e h = rw e at (eqb-true (t .atix) (suc (occurs (t .natc)
 -- one turn, from what is known of the children and the rest
 turn-sound : (n : ℕ) (earlier : List Tup) (p : ℕ) (barren : Bool) (ts : List Tup) (r : Read (Passing (List Tup) Tup) Forest) → p ≤ length earlier → Low earlier
     → ((e : List Tup) (q : ℕ) (b : Bool) (us : List Tup) (k : Read (Passing (List Tup) Tup) Forest) → q ≤ length e → Low e
-      → readUpTo tuples n q b (passing e us) ≡ ok k → Sound e q us (k .found) (k .end .past) (k .end .left))
+    → readUpTo tuples n q b (passing e us) ≡ ok k → Sound e q us (k .found) (k .end .past) (k .end .left))
     → Turn tuples n p barren (passing earlier ts) r → Sound earlier p ts (r .found) (r .end .past) (r .end .left)
 unfolding wholeRule
 turn-sound n earlier p barren ts r fits low ih (stopped x) = rw x (sound-none earlier p ts)
@@ -194,7 +193,7 @@ run-stop (suc n) earlier p barren (t ∷ ts) (s-out l) = rw (ne-eqb (t .paix) p 
 -- an entry as the forest writes it stands there
 run-tuple : (n : ℕ) (earlier : List Tup) (p c : ℕ) (v : List ℕ) (ts : List Tup)
     → let t : Tup = record { natc = c; atix = suc (occurs c (codesOf p earlier)); paix = p; atvl = v } in
-      runUpTo (suc n) earlier p false (t ∷ ts) ≡ entryOf t (runUpTo n (t ∷ earlier) (suc (length earlier)) (valued v) ts) (λ a b. runUpTo n a p false b)
+    runUpTo (suc n) earlier p false (t ∷ ts) ≡ entryOf t (runUpTo n (t ∷ earlier) (suc (length earlier)) (valued v) ts) (λ a b. runUpTo n a p false b)
 unfolding runUpTo indexed
 run-tuple n earlier p c v ts = rw (eq-eqb p p refl, eq-eqb (suc (occurs c (codesOf p earlier))) (suc (occurs c (codesOf p earlier))) refl)
 
@@ -232,13 +231,13 @@ complete (suc n) earlier p false (tree c v kids rest) ts h fits low (p-tree bare
     let fst : codesOf k (t ∷ earlier) ≡ [] = other-code k t earlier (λ e. omega (arith, e)) ∙ low k (omega arith) in
     let one : Sound (t ∷ earlier) k (a ++ (r ++ ts)) kids e₁ (r ++ ts) = record { split = rw fst; passed = rw fst; plain = kp } in
     let go₁ : runUpTo n (t ∷ earlier) k (valued v) ((a ++ r) ++ ts) ≡ ok (wholeRun kids e₁ (r ++ ts)) =
-        ap (runUpTo n (t ∷ earlier) k (valued v)) (append-assoc a r ts)
-        ∙ rw fst at (complete n (t ∷ earlier) k (valued v) kids (r ++ ts) (omega arith) (omega arith) (low-next earlier t fits low) kp (kids-bare v kids bare)
-          (stop-rest (c ∷ codesOf p earlier) p (suc (k + size kids)) k rest ts (omega arith) s)) in
+    ap (runUpTo n (t ∷ earlier) k (valued v)) (append-assoc a r ts)
+    ∙ rw fst at (complete n (t ∷ earlier) k (valued v) kids (r ++ ts) (omega arith) (omega arith) (low-next earlier t fits low) kp (kids-bare v kids bare)
+    (stop-rest (c ∷ codesOf p earlier) p (suc (k + size kids)) k rest ts (omega arith) s)) in
     let len = kids-length earlier p t (a ++ (r ++ ts)) kids e₁ (r ++ ts) fits low refl refl one in
     let go₂ : runUpTo n e₁ p false (r ++ ts) ≡ ok (wholeRun rest (onto r e₁) ts) =
-        rw (kids-codes earlier p t (a ++ (r ++ ts)) kids e₁ (r ++ ts) fits low refl refl one, len) at
-        (complete n e₁ p false rest ts (omega arith) (omega (arith, len)) (kids-low earlier p t (a ++ (r ++ ts)) kids e₁ (r ++ ts) fits low refl refl one) rp (λ x. absurd (true≢false (sym x))) s) in
+    rw (kids-codes earlier p t (a ++ (r ++ ts)) kids e₁ (r ++ ts) fits low refl refl one, len) at
+    (complete n e₁ p false rest ts (omega arith) (omega (arith, len)) (kids-low earlier p t (a ++ (r ++ ts)) kids e₁ (r ++ ts) fits low refl refl one) rp (λ x. absurd (true≢false (sym x))) s) in
     run-tuple n earlier p c v ((a ++ r) ++ ts)
     ∙ entry-read t (runUpTo n (t ∷ earlier) k (valued v) ((a ++ r) ++ ts)) (λ x y. runUpTo n x p false y) (wholeRun kids e₁ (r ++ ts)) (wholeRun rest (onto r e₁) ts) go₁ go₂
     ∙ ap (λ (x : List Tup). ok (wholeRun (tree c v kids rest) x ts)) (sym (onto-append a r (t ∷ earlier)))
@@ -249,8 +248,8 @@ unfolding treeOf tuplesOf codesOf bind allTaken
 tree-complete f pl =
     let ts : List Tup = tuplesFrom [] 0 1 f in
     let read : runUpTo (length ts) [] 0 false ts ≡ ok (wholeRun f (onto ts []) []) =
-        ap (runUpTo (length ts) [] 0 false) (sym (append-nil ts))
-        ∙ complete (length ts) [] 0 false f [] (omega (arith, from-length [] 0 1 f)) (omega arith) low-none pl (λ x. absurd (true≢false (sym x))) s-end in
+    ap (runUpTo (length ts) [] 0 false) (sym (append-nil ts))
+    ∙ complete (length ts) [] 0 false f [] (omega (arith, from-length [] 0 1 f)) (omega arith) low-none pl (λ x. absurd (true≢false (sym x))) s-end in
     rw read
 
 -- so a plain forest is known by its tuples
