@@ -1,2 +1,4 @@
 pub mod ChoiceLaws
+pub mod CheckLaws
+pub mod KeysLaws
 pub mod WalkLaws

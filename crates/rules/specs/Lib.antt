@@ -15,6 +15,7 @@ pub mod File
 pub mod Modify
 pub mod Change
 pub mod Update
+pub mod Versions
 pub mod Answers
 pub mod Listing
 pub mod Opened

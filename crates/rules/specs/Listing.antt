@@ -4,6 +4,7 @@ use mathlib.Core.List.{List, [], _∷_, _++_}
 use lib.ListN.{length}
 use lib.Dec.{ltb}
 use Rattle.base.specs.Choice.{pick}
+use Rattle.base.specs.Text.{ascii}
 use Rattle.skeleton.specs.Digits.{inFewestDigits}
 use Rattle.skeleton.specs.Emit.{tagBytes}
 use Rattle.forest.specs.Forest.{size}
@@ -18,21 +19,13 @@ unfoldable pub line : List ℕ → List (List ℕ) → List ℕ
 line w [] = w ++ (10 ∷ [])
 line w (v ∷ vs) = w ++ (32 ∷ line v vs)
 
--- "rec tag rcid rver attr coord" and a newline
+-- the first line
 abbrev pub header : List ℕ
-header = 114 ∷ 101 ∷ 99 ∷ 32 ∷ 116 ∷ 97 ∷ 103 ∷ 32 ∷ 114 ∷ 99 ∷ 105 ∷ 100 ∷ 32 ∷ 114 ∷ 118 ∷ 101 ∷ 114 ∷ 32 ∷ 97 ∷ 116 ∷ 116 ∷ 114 ∷ 32 ∷ 99 ∷ 111 ∷ 111 ∷ 114 ∷ 100 ∷ 10 ∷ []
+header = ascii "rec tag rcid rver attr coord\n"
 
--- "total"
-abbrev pub total : List ℕ
-total = 116 ∷ 111 ∷ 116 ∷ 97 ∷ 108 ∷ []
-
--- "refused"
-abbrev pub refusedWord : List ℕ
-refusedWord = 114 ∷ 101 ∷ 102 ∷ 117 ∷ 115 ∷ 101 ∷ 100 ∷ []
-
--- "too long" and a newline
+-- what is printed of an input that is too long
 abbrev pub tooLong : List ℕ
-tooLong = 116 ∷ 111 ∷ 111 ∷ 32 ∷ 108 ∷ 111 ∷ 110 ∷ 103 ∷ 10 ∷ []
+tooLong = ascii "too long\n"
 
 -- a record's number, first tag, RCID, RVER, ATTR entries, coordinate tuples
 unfoldable pub recordLine : ℕ → Rec → List ℕ
@@ -49,8 +42,8 @@ recordLines n (r ∷ rs) = recordLine n r ++ recordLines (n + 1) rs
 
 -- the header, the records after the third and their total; or the refusal's number, file and record
 unfoldable pub printed : Outcome Dataset → List ℕ
-printed (done d) = header ++ (recordLines 4 (d .records) ++ line total (inFewestDigits (length (d .records)) ∷ []))
-printed (refused file n x) = line refusedWord (inFewestDigits (x .number) ∷ inFewestDigits file ∷ inFewestDigits n ∷ [])
+printed (done d) = header ++ (recordLines 4 (d .records) ++ line (ascii "total") (inFewestDigits (length (d .records)) ∷ []))
+printed (refused file n x) = line (ascii "refused") (inFewestDigits (x .number) ∷ inFewestDigits file ∷ inFewestDigits n ∷ [])
 
 -- the program's output for all of its input, of which it reads up to 65,536 bytes
 unfoldable pub listing : List ℕ → List ℕ

@@ -3,6 +3,7 @@ use Prim.Native.Nat.{ℕ, _+_, _*_, _/_, _%_}
 use mathlib.Core.List.{List, [], _∷_, _++_}
 use mathlib.Core.Bool.{Bool, true, false}
 use lib.ListN.{length}
+use Rattle.base.specs.Text.{ascii}
 use Rattle.skeleton.specs.Digits.{inDigits}
 use Rattle.skeleton.specs.File.{Field}
 
@@ -27,20 +28,20 @@ baseOf a b fs = 24 + (4 + a + b) * length fs + 1
 abbrev pub lengthOf : ℕ → ℕ → List Field → ℕ
 lengthOf a b fs = baseOf a b fs + sizes fs
 
--- bytes 5 to 11 of the leader: of the first record "3LE1 09", of the others " D     "
+-- bytes 5 to 11 of the leader, of the first record and of the others
 abbrev pub middle : Bool → List ℕ
-middle true = 51 ∷ 76 ∷ 69 ∷ 49 ∷ 32 ∷ 48 ∷ 57 ∷ []
-middle false = 32 ∷ 68 ∷ 32 ∷ 32 ∷ 32 ∷ 32 ∷ 32 ∷ []
+middle true = ascii "3LE1 09"
+middle false = ascii " D     "
 
--- bytes 17 to 19: of the first record " ! ", of the others blanks
+-- bytes 17 to 19, of the first record and of the others
 abbrev pub marks : Bool → List ℕ
-marks true = 32 ∷ 33 ∷ 32 ∷ []
-marks false = 32 ∷ 32 ∷ 32 ∷ []
+marks true = ascii " ! "
+marks false = ascii "   "
 
 -- the leader of a record of so many bytes
 unfoldable pub leading : ℕ → ℕ → Bool → ℕ → ℕ → List ℕ
 leading a b first len base =
-    inDigits 5 len ++ (middle first ++ (inDigits 5 base ++ (marks first ++ (inDigits 1 a ++ (inDigits 1 b ++ (48 ∷ 52 ∷ []))))))
+    inDigits 5 len ++ (middle first ++ (inDigits 5 base ++ (marks first ++ (inDigits 1 a ++ (inDigits 1 b ++ ascii "04")))))
 
 -- the directory's entry of a field at pos
 abbrev pub entry : ℕ → ℕ → Field → ℕ → List ℕ

@@ -5,13 +5,14 @@ use mathlib.Core.Bool.{Bool, true, false, not}
 use lib.ListN.{length, getD, drop}
 use lib.Dec.{leb, ltb, eqb}
 use Rattle.base.specs.Choice.{pick, both}
+use Rattle.base.specs.Text.{ascii}
 use Rattle.skeleton.specs.Digits.{isDigit, numberAt}
 use Rattle.skeleton.specs.declared.num.Number.{Number}
 use Rattle.skeleton.specs.declared.num.Number.the-variants.{Value, NotDigits}
 use Rattle.skeleton.specs.declared.leader.Head.{Head}
 use Rattle.skeleton.specs.declared.leader.Head.the-variants.{Good, Refused}
 
--- x may stand where a template has t: 35, '#', is any digit, 43, '+', a digit but 0, any other byte is itself
+-- x may stand where a template has t: '#' (35) is any digit, '+' (43) a digit but 0, any other byte is itself
 unfoldable pub fitsByte : ℕ → ℕ → Bool
 fitsByte t x = pick (eqb t 35) (isDigit x) (pick (eqb t 43) (both (leb 49 x) (leb x 57)) (eqb t x))
 
@@ -25,10 +26,10 @@ shaped (t ∷ ts) (x ∷ xs) = both (fitsByte t x) (shaped ts xs)
 unfoldable pub shapedFrom : List ℕ → List ℕ → ℕ → Bool
 shapedFrom t s i = shaped (drop i t) (drop i s)
 
--- the first record's leader, "#####3LE1 09##### ! ++04", and that of all others, "##### D     #####   ++04"
+-- the leader of the first record, and that of all others
 abbrev pub template : Bool → List ℕ
-template true = 35 ∷ 35 ∷ 35 ∷ 35 ∷ 35 ∷ 51 ∷ 76 ∷ 69 ∷ 49 ∷ 32 ∷ 48 ∷ 57 ∷ 35 ∷ 35 ∷ 35 ∷ 35 ∷ 35 ∷ 32 ∷ 33 ∷ 32 ∷ 43 ∷ 43 ∷ 48 ∷ 52 ∷ []
-template false = 35 ∷ 35 ∷ 35 ∷ 35 ∷ 35 ∷ 32 ∷ 68 ∷ 32 ∷ 32 ∷ 32 ∷ 32 ∷ 32 ∷ 35 ∷ 35 ∷ 35 ∷ 35 ∷ 35 ∷ 32 ∷ 32 ∷ 32 ∷ 43 ∷ 43 ∷ 48 ∷ 52 ∷ []
+template true = ascii "#####3LE1 09##### ! ++04"
+template false = ascii "##### D     #####   ++04"
 
 -- the stated length lies within what is left (else 1): record length, base address, width a of a field length, width b of a field position
 abbrev pub within : List ℕ → Number → Number → Head

@@ -1,0 +1,22 @@
+-- What a check that passes went through. Assumes nothing.
+use mathlib.Core.Path.{_≡_, refl}
+use mathlib.Core.Bool.{Bool, true, false}
+use Prim.Native.Nat.{ℕ}
+use native.Mathlib.Omega.{arith}
+use Rattle.base.specs.Choice.{pick}
+use Rattle.base.specs.Check.{Check, ok, no, bind, fault, pass}
+
+-- two tests that pass: the first gave a value, and the second passed on it
+pub bind-inv : {A B : Type 0} (m : Check A) (k : A → Check B) (b : B) → bind m k ≡ ok b → (a : A) × (m ≡ ok a) × (k a ≡ ok b)
+unfolding bind
+bind-inv (ok a) k b e = (a, refl, e)
+bind-inv (no x) k b e = absurd (let z : _≡_ {A = ℕ} 0 1 = cc in omega arith)
+
+-- a test that passed held
+pub pass-inv : (b : Bool) (n i j : ℕ) (u : Unit {0}) → pick b pass (no (fault n i j)) ≡ ok u → b ≡ true
+pass-inv true n i j u e = refl
+pass-inv false n i j u e = absurd (let z : _≡_ {A = ℕ} 0 1 = cc in omega arith)
+
+-- two values that pass alike are equal
+pub ok-inj : {A : Type 0} (x y : A) → ok x ≡ ok y → x ≡ y
+ok-inj x y h = cc

@@ -1,0 +1,1 @@
+// Cases of the second program, answered by the definitions: proofs only.

@@ -1,0 +1,14 @@
+pub mod Builders
+pub mod Samples
+pub mod Papers
+pub mod Neighbours
+pub mod Spelling
+pub mod OutcomeLaws
+pub mod Limits
+pub mod FileLaws
+pub mod Locality
+pub mod Counts
+pub mod Follows
+pub mod Versions
+pub mod ReadOnce
+pub mod Room
