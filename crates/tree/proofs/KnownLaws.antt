@@ -15,7 +15,7 @@ use Rattle.forest.specs.Reader.{Read, readRun, Falls}
 use Rattle.forest.proofs.ReaderLaws.{read-keeps}
 use Rattle.tree.specs.Source.{two, past, hit, count, Spot, spot, tuplesIn}
 use Rattle.tree.specs.Known.{Whole, Reach, there, Fresh, Known, Seen}
-use Rattle.tree.proofs.CountLaws.{past-above, whole-past, whole-next, whole-within, reach-next, hit-parent, hit-code, hit-both, count-none, count-next}
+use Rattle.tree.proofs.CountLaws.{past-above, whole-next, reach-next, hit-parent, hit-code, hit-both, count-none, count-next, count-split}
 
 -- behind a tuple less is left
 pub tuples-fall : (b : List ℕ) (whole : Bool) → Falls (tuplesIn b whole)
@@ -39,7 +39,7 @@ known-into b p at k h e i =
       reached = reach-next b 0 at (i .reached);
       outer = omega arith;
       slow = omega (arith, past-above b at, i .slow);
-      low = λ q l c. fresh-past b at c q (i .reached) (λ x. omega (arith, i .outer)) ∙ i .low q (omega arith) c
+      low = λ q l c. fresh-past b at c q (i .reached) (λ x. omega (arith, i .outer)) ∙ i .low q (omega arith) c;
     }
 
 -- behind the children of an entry
@@ -68,8 +68,11 @@ pub count-run : (b : List ℕ) (whole : Bool) (p q at k : ℕ) (shut : Bool) (r 
 unfolding readRun
 count-run b whole p q at k shut r e l i c =
     (read-keeps (tuplesIn b whole) (λ j s. (p < j) × Known b j (s .offset) (s .place) × (count b 0 (s .offset) c p ≡ count b 0 at c p))
-    (λ j s h x y. (omega (arith, y .1 .outer, y .0), known-into b j (s .offset) (s .place) (ltb-true (s .offset) (length b) h) x (y .1),
-      fresh-past b (s .offset) c p (y .1 .reached) (λ z. omega (arith, y .0)) ∙ y .2))
+    (λ j s h x y. (
+      omega (arith, y .1 .outer, y .0),
+      known-into b j (s .offset) (s .place) (ltb-true (s .offset) (length b) h) x (y .1),
+      fresh-past b (s .offset) c p (y .1 .reached) (λ z. omega (arith, y .0)) ∙ y .2,
+    ))
     (λ j s t h x y z. (y .0, known-back b j (s .place) (t .offset) (t .place) (y .1 .outer) (z .1), z .2))
     _ q shut (spot at k) r e (l, i, refl)) .2
 
@@ -84,17 +87,31 @@ seen-next b p a x code index top many on e f g s =
     ⊎-elim
     (λ (l : top < code). rw (lt-ltb top code l, le-ltb code top (omega arith)) (record {
       none = λ c h. omega (arith, on c, s .none c (omega arith), hit-code b a c p (λ z. omega (arith, z)));
-      some = omega (arith, on code, hit-both b a code p e f)
+      some = omega (arith, on code, hit-both b a code p e f);
     }))
     (λ (l : code ≤ top). ⊎-elim
-      (λ (m : code < top). rw (le-ltb top code l, lt-ltb code top m) (record {
-        none = λ c h. omega (arith, on c, s .none c h, hit-code b a c p (λ z. omega (arith, z)));
-        some = omega (arith, on top, s .some, hit-code b a top p (λ z. omega (arith, z)))
-      }))
-      (λ (m : top ≤ code). let same : code ≡ top = omega arith in
-        rw (le-ltb top code l, le-ltb code top m) (record {
-          none = λ c h. omega (arith, on c, s .none c h, hit-code b a c p (λ z. omega (arith, z)));
-          some = omega (arith, on code, ap (λ (c : ℕ). count b 0 x c p) same, hit-both b a code p e f)
-        }))
-      (lt-or-le code top))
+    (λ (m : code < top). rw (le-ltb top code l, lt-ltb code top m) (record {
+      none = λ c h. omega (arith, on c, s .none c h, hit-code b a c p (λ z. omega (arith, z)));
+      some = omega (arith, on top, s .some, hit-code b a top p (λ z. omega (arith, z)));
+    }))
+    (λ (m : top ≤ code). let same : code ≡ top = omega arith in
+    rw (le-ltb top code l, le-ltb code top m) (record {
+      none = λ c h. omega (arith, on c, s .none c h, hit-code b a c p (λ z. omega (arith, z)));
+      some = omega (arith, on code, ap (λ (c : ℕ). count b 0 x c p) same, hit-both b a code p e f);
+    }))
+    (lt-or-le code top))
     (lt-or-le top code)
+
+-- ---- the index that is due
+
+-- to a code above all earlier ones
+pub due-new : (b : List ℕ) (p at code top many : ℕ) → Seen b p at top many → top < code → 1 ≡ count b 0 at code p + 1
+due-new b p at code top many s l = omega (arith, s .none code l)
+
+-- to the largest code so far
+pub due-top : (b : List ℕ) (p at code top many : ℕ) → Seen b p at top many → top ≡ code → many + 1 ≡ count b 0 at code p + 1
+due-top b p at code top many s e = omega (arith, s .some, ap (λ (c : ℕ). count b 0 at c p) e)
+
+-- to any code, from the entries of the run alone
+pub due-counted : (b : List ℕ) (p start at code n : ℕ) → n ≡ count b start at code p → Reach b 0 start → start ≤ at → Fresh b start p → n + 1 ≡ count b 0 at code p + 1
+due-counted b p start at code n e r h f = omega (arith, count-split b 0 start at code p r h, f code)

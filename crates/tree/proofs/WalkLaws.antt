@@ -12,8 +12,8 @@ use Rattle.base.specs.Check.{Check, ok, no, bind}
 use Rattle.base.specs.declared.Fault.{Fault}
 use Rattle.forest.specs.Reader.{Read, belongs, faulty, entryThen, readRun}
 use Rattle.forest.proofs.ReaderLaws.{read-keeps, run-past, run-faulty, run-entry}
-use Rattle.tree.specs.declared.Walk.{Walk}
-use Rattle.tree.specs.declared.Walk.the-variants.{Bad, Upto}
+use Rattle.tree.specs.declared.walk.Walk.{Walk}
+use Rattle.tree.specs.declared.walk.Walk.the-variants.{Bad, Upto}
 use Rattle.tree.specs.Source.{two, past, hit, count, closed, Spot, spot, tuplesIn, walkOf, runAt, entryAt, remains}
 use Rattle.tree.specs.Known.{Reach, Known}
 use Rattle.tree.proofs.CountLaws.{past-above, reach-next, count-next}
@@ -176,3 +176,20 @@ pub entry-run : (b : List ℕ) (whole : Bool) (at k : ℕ) (shut : Bool) → fau
     → entryAt b whole at k shut ≡ runAt b whole (past b at) k (k + 1) (closed b whole at)
 unfolding entryAt
 entry-run b whole at k shut f = rw f
+
+-- ---- the run at the top
+
+-- a tuple that breaks the rule
+pub remains-bad : (n k : ℕ) (w v : Walk) → w ≡ Bad k → w ≡ v → k ≡ remains n v
+unfolding remains
+remains-bad n k w v e f = ap (remains n) (sym e ∙ f)
+
+-- a tuple is left
+pub remains-left : (n at k : ℕ) (w v : Walk) → w ≡ Upto at k → w ≡ v → at < n → k ≡ remains n v
+unfolding remains
+remains-left n at k w v e f h = sym (rw (lt-ltb at n h)) ∙ ap (remains n) (sym e ∙ f)
+
+-- none is
+pub remains-none : (n at k : ℕ) (w v : Walk) → w ≡ Upto at k → w ≡ v → n ≤ at → 0 ≡ remains n v
+unfolding remains
+remains-none n at k w v e f h = sym (rw (le-ltb at n h)) ∙ ap (remains n) (sym e ∙ f)

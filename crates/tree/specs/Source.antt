@@ -9,11 +9,11 @@ use Rattle.base.specs.Check.{Check, ok, no}
 use Rattle.fields.specs.Bytes.{le, run}
 use Rattle.forest.specs.Reader.{Reader, Read, faulty, readRun}
 use Rattle.base.specs.Check.{refuse}
-use Rattle.tree.specs.declared.Walk.{Walk}
-use Rattle.tree.specs.declared.Walk.the-variants.{Bad, Upto}
+use Rattle.tree.specs.declared.walk.Walk.{Walk}
+use Rattle.tree.specs.declared.walk.Walk.the-variants.{Bad, Upto}
 
 -- the number of two bytes at an offset
-unfoldable pub two : List ℕ → ℕ → ℕ
+abbrev pub two : List ℕ → ℕ → ℕ
 two b at = le 2 (drop at b)
 
 -- behind the tuple at an offset: three numbers and an instruction, 7 bytes, then the value and the byte that ends it
@@ -67,7 +67,7 @@ tuplesIn b whole = record {
   next = λ s. spot (past b (s .offset)) (s .place + 1);
   rest = λ s. length b - s .offset;
   none = tt;
-  one = λ s f g. tt
+  one = λ s f g. tt;
 }
 
 -- what a reading came to: where it ended, or the place of the faulty tuple
