@@ -2,47 +2,17 @@
 ghost use mathlib.Core.Path.{_≡_};
 ghost use mathlib.Core.Bool.{Bool, not};
 ghost use Prim.Native.Nat.{_+_, _≤_, _<_};
-ghost use lib.ListN.{length, drop};
+ghost use lib.ListN.{length};
 ghost use lib.Dec.{eqb};
 ghost use Rattle.base.specs.Choice.{either};
-ghost use Rattle.fields.specs.Bytes.{le, run};
 ghost use Rattle.tree.specs.Source.{two, past, closed};
-
-// A number of 2 bytes.
-pub fn le16(b: &[u8], at: usize) -> u16
-    requires { ⌜ at + 2 ≤ length (now b) ⌝ }
-    ensures { λ r. ⌜ r ≡ le 2 (drop at (now (b .entry))) ⌝ }
-{
-    let low = b[at] as u16;
-    let high = b[at + 1] as u16;
-    low + 256 * high
-}
-
-// The place of the first separator, 1E or 1F, from `at` on, or the end.
-pub fn text_end(b: &[u8], at: usize) -> usize
-    requires { ⌜ at ≤ length (now b) ⌝ }
-    ensures { λ r. ⌜ r ≡ at + run (drop at (now (b .entry))) ⌝ }
-{
-    let mut i = at;
-    while i < b.len() {
-        let x = b[i];
-        if x == 30 {
-            return i;
-        }
-        if x == 31 {
-            return i;
-        }
-        i += 1;
-    }
-    i
-}
 
 // Code, index or parent.
 pub fn number(b: &[u8], at: usize) -> usize
     requires { ⌜ at + 2 ≤ length (now b) ⌝ }
     ensures { λ r. ⌜ r ≡ two (now (b .entry)) at ⌝ }
 {
-    le16(b, at) as usize
+    fields::le16(b, at) as usize
 }
 
 // The offset behind the tuple.
@@ -50,7 +20,7 @@ pub fn behind(b: &[u8], at: usize) -> usize
     requires { ⌜ past (now b) at ≤ length (now b) ⌝ }
     ensures { λ r. ⌜ r ≡ past (now (b .entry)) at ⌝ }
 {
-    text_end(b, at + 7) + 1
+    fields::text_end(b, at + 7) + 1
 }
 
 // It must not stand there: its parent takes no child, or, where the whole rule is asked for, its index is not the one that is due.

@@ -5,7 +5,6 @@ use Rattle.tree.proofs.tuple.behind.Statement.{statement}
 use Rattle.tree.proofs.tuple.behind.Tie as tie
 use Rattle.tree.proofs.tuple.behind.Reads as reads
 use Rattle.tree.proofs.tuple.behind.Lts as lts
-use Rattle.tree.proofs.tuple.text_end.Reads as text-end-reads
 
 add-text-end : tie.Need-add-text-end
 unfolding past
