@@ -6,7 +6,7 @@ use std::collections::{BTreeMap, BTreeSet};
 use second::answer::all;
 use second::batch::{framed, Case, LISTING, READ, UPDATE, WRITE};
 use second::generate::chart::{Chart, Kind, Node};
-use second::generate::{corpus, form, random_case, table, Directed, Intent};
+use second::generate::{corpus, directed, form, random_case, table, Directed, Intent};
 use second::Answered;
 
 const CORPUS: usize = 5000;
@@ -55,9 +55,10 @@ fn every_directed_case_comes_to_what_the_paper_asks_for() {
 
 #[test]
 fn directed_cases_have_names_of_their_own() {
-    let names: Vec<(String, Intent)> = table().into_iter().map(|row| (row.name, row.intent)).collect();
-    let different: BTreeSet<&String> = names.iter().map(|(name, _)| name).collect();
-    let twice: Vec<&String> = different.iter().filter(|n| names.iter().filter(|(m, _)| m == **n).count() > 1).copied().collect();
+    let names: Vec<String> = directed().into_iter().map(|(name, _)| name).collect();
+    let different: BTreeSet<&String> = names.iter().collect();
+    let twice: Vec<&String> =
+        different.iter().filter(|n| names.iter().filter(|m| m == *n).count() > 1).copied().collect();
     assert!(twice.is_empty(), "{twice:?}");
 }
 
@@ -93,9 +94,14 @@ fn expected(case: &Case, chart: &Chart) -> Intent {
 #[test]
 fn cases_made_to_be_accepted_are_accepted() {
     for seed in SEEDS {
-        let (cases, charts): (Vec<Case>, Vec<Chart>) =
-            (0..CORPUS).filter_map(|n| { let made = random_case(seed, n); made.accepted.map(|chart| (made.case, chart)) }).unzip();
-        assert!(cases.len() * 2 > CORPUS, "{} of {CORPUS} are made to be accepted", cases.len());
+        let (cases, charts): (Vec<Case>, Vec<Chart>) = (0..CORPUS)
+            .filter_map(|n| {
+                let made = random_case(seed, n);
+                made.accepted.map(|chart| (made.case, chart))
+            })
+            .unzip();
+        println!("{} of {CORPUS} are made to be accepted", cases.len());
+        assert!(cases.len() * 20 > CORPUS * 9, "about half of the random cases are made to be accepted");
         for ((case, chart), answered) in cases.iter().zip(&charts).zip(all(&cases)) {
             let (seen, expected) = (seen(&answered, case.operation), expected(case, chart));
             assert!(seen == expected, "operation {}: {} and not {}", case.operation, told(&seen), told(&expected));
@@ -118,32 +124,39 @@ fn wanted() -> BTreeSet<(u8, u32, u32)> {
     wanted
 }
 
-#[test]
-fn a_corpus_has_every_answer() {
-    for seed in SEEDS {
-        let cases = corpus(seed, CORPUS);
-        assert_eq!(cases.len(), CORPUS);
-        assert!(framed(&cases).len() < 150_000_000, "{} bytes", framed(&cases).len());
-        let mut met: BTreeMap<(u8, u32, u32), usize> = BTreeMap::new();
-        let mut printed: BTreeMap<String, usize> = BTreeMap::new();
-        for some in cases.chunks(100) {
-            for (case, answered) in some.iter().zip(all(some)) {
-                match seen(&answered, case.operation) {
-                    Intent::Done { .. } => *met.entry((case.operation, 0, 0)).or_default() += 1,
-                    Intent::Refused(number, file, _) => *met.entry((case.operation, number, file)).or_default() += 1,
-                    Intent::Prints(text) => {
-                        *printed.entry(text.split(' ').next().unwrap_or("").to_string()).or_default() += 1;
-                    }
+/// How often each (operation, number, file) and each first word of a listing is the answer.
+type Met = (BTreeMap<(u8, u32, u32), usize>, BTreeMap<String, usize>);
+
+fn answers_met(cases: &[Case]) -> Met {
+    let (mut met, mut printed): Met = Default::default();
+    for some in cases.chunks(100) {
+        for (case, answered) in some.iter().zip(all(some)) {
+            match seen(&answered, case.operation) {
+                Intent::Done { .. } => *met.entry((case.operation, 0, 0)).or_default() += 1,
+                Intent::Refused(number, file, _) => *met.entry((case.operation, number, file)).or_default() += 1,
+                Intent::Prints(text) => {
+                    let word = text.split(' ').next().unwrap_or("");
+                    *printed.entry(word.to_string()).or_default() += 1;
                 }
             }
         }
-        println!("seed {seed}: {met:?} {printed:?}");
-        let missing: Vec<(u8, u32, u32)> = wanted().into_iter().filter(|answer| !met.contains_key(answer)).collect();
-        assert!(missing.is_empty(), "seed {seed} lacks (operation, number, file) {missing:?}");
-        let strange: Vec<_> = met.keys().filter(|answer| !wanted().contains(answer)).collect();
-        assert!(strange.is_empty(), "seed {seed} has (operation, number, file) {strange:?}");
-        assert_eq!(printed.keys().collect::<Vec<_>>(), ["rec", "refused", "too"]);
     }
+    (met, printed)
+}
+
+#[test]
+fn a_corpus_has_every_answer() {
+    let cases = corpus(SEEDS[0], CORPUS);
+    assert_eq!(cases.len(), CORPUS);
+    let bytes: usize = cases.iter().map(|case| case.dataset.len() + case.update.len()).sum();
+    assert!(bytes < 150_000_000, "{bytes} bytes");
+    let (met, printed) = answers_met(&cases);
+    println!("{met:?} {printed:?}");
+    let missing: Vec<(u8, u32, u32)> = wanted().into_iter().filter(|answer| !met.contains_key(answer)).collect();
+    assert!(missing.is_empty(), "no case has (operation, number, file) {missing:?}");
+    let strange: Vec<&(u8, u32, u32)> = met.keys().filter(|answer| !wanted().contains(answer)).collect();
+    assert!(strange.is_empty(), "no case should have (operation, number, file) {strange:?}");
+    assert_eq!(printed.keys().collect::<Vec<_>>(), ["rec", "refused", "too"]);
 }
 
 #[test]

@@ -269,6 +269,51 @@ fn an_inserted_record_may_have_12_492_tuples_and_no_more() {
     assert_eq!(file_refused(update(12_493)), (12, 2, 3));
 }
 
+// ---- 99,999 bytes to the byte ----
+
+/// How many bytes more these fields can take before their written record has that size.
+fn left_of(size: usize, fields: &[Field]) -> usize {
+    size - record(false, 5, 5, fields).len()
+}
+
+#[test]
+fn a_dataset_record_of_100_000_written_bytes_is_12() {
+    let dataset = |size: usize| {
+        let mut system = vec![field("CSID", Vec::new()), field("CRSH", Vec::new())];
+        system[1].body = vec![b'.'; left_of(size, &system)];
+        replaced(&base(), SYSTEM, tight(false, &system))
+    };
+    let (fits, long) = (dataset(99_999), dataset(100_000));
+    assert_eq!(&written(&fits)[parts(&base())[..2].concat().len()..][..5], b"99999");
+    assert!(done(&Case::update(fits, update_file(&[]), ROOM, WORK)).len() > 99_999);
+    assert_eq!(counted(&long), base().len());
+    assert_eq!(refused(&Case::write(long.clone(), ROOM)), (12, 1, SYSTEM));
+    assert_eq!(refused(&Case::update(long, update_file(&[]), ROOM, WORK)), (12, 1, SYSTEM));
+}
+
+#[test]
+fn an_updated_record_of_100_000_written_bytes_is_12() {
+    let emptied = [frid(1, 30, 1, INSERT), foid(7, 8, 9), attr(&[(1, 1, 0, INSERT, "")])];
+    let fits = "v".repeat(left_of(99_999, &emptied));
+    let long = "v".repeat(left_of(100_000, &emptied));
+    let old = [(1, 1, 0, INSERT, "a")];
+    assert_attributes(&old, &[(1, 1, 0, MODIFY, &fits)], &[(1, 1, 0, INSERT, &fits)]);
+    assert_eq!(attribute_clash(&old, &[(1, 1, 0, MODIFY, &long)]), 12);
+}
+
+#[test]
+fn a_merged_general_record_of_100_000_written_bytes_is_12() {
+    let (identification, rest) = (dsid(1, NAME, EDITION, NUMBER + 1), general_rest());
+    let merged = |codes: Field| vec![identification.clone(), rest[0].clone(), codes, rest[2].clone()];
+    let codes = |size| field("ATCS", vec![b'.'; left_of(size, &merged(field("ATCS", Vec::new())))]);
+    let update = |size| {
+        let general = vec![identification.clone(), codes(size)];
+        Case::update(given(&base()), given(&with(update_records(&[]), GENERAL, general)), ROOM, WORK)
+    };
+    assert_same(&done(&update(99_999)), &file(&base_with(GENERAL, merged(codes(99_999)))));
+    assert_eq!(refused(&update(100_000)), (12, 2, 2));
+}
+
 // ---- the skeleton ----
 
 /// The number with which the base dataset is refused at this record after its bytes were changed.
@@ -657,6 +702,7 @@ fn number_4_is_a_wrong_tag_order_or_absence() {
     let wrong = [
         (INFORMATION, vec![irid(1, 20, 1, INSERT), foid(1, 1, 1)]),
         (INFORMATION, vec![irid(1, 20, 1, INSERT), inas(1, 5, 6, INSERT, &[]), attr(&[])]),
+        (INFORMATION, vec![irid(1, 20, 1, INSERT), attr(&[]), attr(&[])]),
         (POINT, vec![prid(1, 1, INSERT)]),
         (POINT, vec![prid(1, 1, INSERT), c2it(0, 0), inas(1, 5, 6, INSERT, &[])]),
         (POINT, vec![c2it(0, 0), prid(1, 1, INSERT)]),

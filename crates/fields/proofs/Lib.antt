@@ -1,1 +1,11 @@
+pub mod ByteLaws
+pub mod SizeLaws
+pub mod RowLaws
 pub mod TupleLaws
+pub mod CountLaws
+pub mod FieldLaws
+pub mod FormatLaws
+pub mod ValueLaws
+pub mod EvenLaws
+pub mod JoinLaws
+pub mod WiderLaws

@@ -4,4 +4,6 @@ pub mod Sizes
 pub mod Values
 pub mod Content
 pub mod Valid
+pub mod Places
+pub mod Rows
 pub mod Opened

@@ -1,4 +1,20 @@
 // The contents of fields.
+pub mod counting;
+pub mod head;
+pub mod number;
+pub mod row;
+pub mod subfield;
+pub mod text;
+pub mod tuples;
+
+pub use counting::tally_of;
+pub use head::head_place;
+pub use number::le8;
+pub use number::le16;
+pub use number::le32;
+pub use number::signed;
+pub use text::text_end;
+pub use tuples::tuple_at;
 
 // The formats of fields. New: every instruction in it is insert; Gone: it is delete, and nothing follows.
 pub enum Format {
@@ -36,8 +52,20 @@ pub enum Sub {
     Fixed(usize),
 }
 
+// Where subfields end, or that they do not stand.
+pub enum Stop {
+    At(usize),
+    Bad,
+}
+
 // How many tuples fill a field, or the number of the first that does not stand, 0 for the head.
 pub enum Tally {
     Whole(usize),
     Short(usize),
+}
+
+// Where the tuple at a place ends, or that there is none.
+pub enum Tuple {
+    Until(usize),
+    Over,
 }

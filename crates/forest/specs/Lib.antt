@@ -2,4 +2,6 @@ pub mod Forest
 pub mod Rule
 pub mod Acts
 pub mod Edit
+pub mod Flat
+pub mod Reader
 pub mod Opened

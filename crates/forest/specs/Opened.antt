@@ -3,8 +3,10 @@ use Rattle.forest.specs.Forest.{size, occurs, tuplesFrom, tuplesOf, valu
 use Rattle.forest.specs.Rule.{codesOf, indexed, entryOf, runUpTo, allTaken, treeOf}
 use Rattle.forest.specs.Acts.{deletes, actOf, actsUpTo, actsOf}
 use Rattle.forest.specs.Edit.{count, put, behind, cut, alter, edit, edited}
+use Rattle.forest.specs.Flat.{flat, push, named, over, countFlat, spot, pushed, locate, deeper, after, editFlat}
+use Rattle.forest.specs.Reader.{entryThen, readUpTo, readRun}
 
 -- all of them
 unfoldable pub opened : Unit {0}
-unfolding size occurs tuplesFrom tuplesOf valued beside codesOf indexed entryOf runUpTo allTaken treeOf deletes actOf actsUpTo actsOf count put behind cut alter edit edited
+unfolding size occurs tuplesFrom tuplesOf valued beside codesOf indexed entryOf runUpTo allTaken treeOf deletes actOf actsUpTo actsOf count put behind cut alter edit edited flat push named over countFlat spot pushed locate deeper after editFlat entryThen readUpTo readRun
 opened = tt

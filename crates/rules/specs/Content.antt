@@ -30,18 +30,18 @@ unfoldable pub insertOnly : Mode → Bool
 insertOnly InDataset = true
 insertOnly InUpdate = false
 
--- the identifier's; new: every instruction is insert
+-- the format of the identifier; new: every instruction is insert
 unfoldable pub identFormat : Bool → Kind → Format
 identFormat new Info = pick new IridNew Irid
 identFormat new Point = pick new PridNew Prid
 identFormat new Multi = pick new MridNew Mrid
 identFormat new Feature = pick new FridNew Frid
 
--- an INAS is inserted, or, in a modify, deleted: IUIN is its tenth byte
+-- the format of an INAS: it is inserted, or, in a modify, deleted; IUIN is its tenth byte
 unfoldable pub inasFormat : Bool → List ℕ → Format
 inasFormat new b = pick (both (not new) (eqb (getD b 9 0) 2)) InasGone InasNew
 
--- that of any other field (the last has no test: number 4 leaves no other tag)
+-- the format of any other field (the last has no test: number 4 leaves no other tag)
 unfoldable pub formatOf : Bool → ℕ → List ℕ → Format
 formatOf new t b =
     pick (eqb t ATTR) (pick new AttrNew Attr)

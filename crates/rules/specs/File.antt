@@ -71,7 +71,7 @@ pub record Stored : Type 0 where
   pub sent : List (List Field)
   pub dataset : Dataset
 
--- of the fields of all its records, and its records of the four kinds
+-- a dataset, from the fields of all its records and its records of the four kinds
 abbrev pub storedAs : List (List Field) → List Rec → Stored
 storedAs rs recs =
     record { sent = drop 3 rs; dataset = record { descriptive = getD rs 0 []; general = getD rs 1 []; systems = getD rs 2 []; records = recs } }
@@ -101,7 +101,7 @@ pub record Sent : Type 0 where
   pub general : List Field
   pub records : List (List Field)
 
--- of the fields of all its records
+-- an update, from the fields of all its records
 abbrev pub sentAs : List (List Field) → Sent
 sentAs rs = record { general = getD rs 1 []; records = drop 2 rs }
 

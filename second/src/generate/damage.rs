@@ -6,7 +6,8 @@ use crate::build::Field;
 /// One thing done to the records of a file.
 pub fn fields(random: &mut Random, records: &mut Vec<Vec<Field>>) {
     let at = random.below(records.len());
-    match random.below(20) {
+    match random.below(24) {
+        20..=23 => tuples(random, records),
         0 => drop(records.remove(at)),
         1 => records.insert(at, records[at].clone()),
         2 => {
@@ -79,6 +80,46 @@ fn body(random: &mut Random, field: &mut Field) {
     }
 }
 
+/// What stands before the tuples of an ATTR or INAS field, and the tuples.
+fn split_tuples(field: &Field) -> (Vec<u8>, Vec<Vec<u8>>) {
+    let head = match &field.tag {
+        b"ATTR" => 0,
+        b"INAS" => field.body.len().min(10),
+        _ => field.body.len(),
+    };
+    let (head, mut rest) = field.body.split_at(head);
+    let mut list = Vec::new();
+    while let Some(length) = rest.iter().skip(7).position(|byte| *byte == 0x1f) {
+        let (tuple, behind) = rest.split_at(7 + length + 1);
+        list.push(tuple.to_vec());
+        rest = behind;
+    }
+    (head.to_vec(), list)
+}
+
+/// One tuple of an attribute field lost, doubled, moved, led elsewhere, counted otherwise, or its value changed.
+fn tuples(random: &mut Random, records: &mut [Vec<Field>]) {
+    let mut fields: Vec<&mut Field> = records.iter_mut().flatten().filter(|f| !split_tuples(f).1.is_empty()).collect();
+    if fields.is_empty() {
+        return;
+    }
+    let at = random.below(fields.len());
+    let (head, mut list) = split_tuples(fields[at]);
+    let (one, other) = (random.below(list.len()), random.below(list.len()));
+    match random.below(6) {
+        0 => drop(list.remove(one)),
+        1 => list.insert(one, list[other].clone()),
+        2 => list.swap(one, other),
+        3 => list[one][2] = list[one][2].wrapping_add(random.pick(&[1, 255])),
+        4 => list[one][4] = random.pick(&[0, one as u8, other as u8, (one as u8).wrapping_add(1)]),
+        _ => {
+            let value = if list[one].len() > 8 { Vec::new() } else { b"v".to_vec() };
+            list[one].splice(7.., value.into_iter().chain([0x1f]));
+        }
+    }
+    fields[at].body = [head, list.concat()].concat();
+}
+
 /// The widths of the subfields that lie at fixed places, and of those that repeat behind them.
 fn layout(tag: &[u8; 4]) -> (&'static [usize], &'static [usize]) {
     match tag {
@@ -124,13 +165,22 @@ fn subfields(field: &Field) -> Vec<(usize, usize)> {
     found
 }
 
+/// One of the places; often one of a single byte, where instructions, names and orientations lie.
+fn chosen(random: &mut Random, places: &[(usize, usize)]) -> (usize, usize) {
+    let single: Vec<(usize, usize)> = places.iter().copied().filter(|(_, width)| *width == 1).collect();
+    if !single.is_empty() && random.percent(40) {
+        return random.pick(&single);
+    }
+    random.pick(places)
+}
+
 /// One subfield set to a value at or beside a boundary, or moved by one.
 fn subfield(random: &mut Random, field: &mut Field) {
     let places = subfields(field);
     if places.is_empty() {
         return body(random, field);
     }
-    let (at, width) = random.pick(&places);
+    let (at, width) = chosen(random, &places);
     let bytes = &mut field.body[at..at + width];
     let mut wide = [0; 4];
     wide[..width].copy_from_slice(bytes);

@@ -32,7 +32,13 @@ impl Form<'_> {
     fn share(&mut self, all: usize) -> usize {
         match self {
             Form::Written => all,
-            Form::Free(random) => if random.percent(40) { random.between(1, all) } else { all },
+            Form::Free(random) => {
+                if random.percent(40) {
+                    random.between(1, all)
+                } else {
+                    all
+                }
+            }
         }
     }
 

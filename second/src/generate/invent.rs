@@ -262,7 +262,11 @@ fn unread_body(random: &mut Random) -> Vec<u8> {
 fn any_tag(random: &mut Random) -> [u8; 4] {
     let free = [random.below(256) as u8, random.below(256) as u8, 0x1e, 0x1f];
     let tag = random.pick(&[*b"0000", *b"0001", *b"ABCD", *b"DSID", *b"PRID", *b"ATTR", *b"    ", free]);
-    if tag[0] == 0x1e { *b"\x1f\x1e\x1e\x1e" } else { tag }
+    if tag[0] == 0x1e {
+        *b"\x1f\x1e\x1e\x1e"
+    } else {
+        tag
+    }
 }
 
 pub fn descriptive(random: &mut Random) -> Vec<Field> {

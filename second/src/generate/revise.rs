@@ -18,7 +18,8 @@ pub struct Revised {
     pub chart: Chart,
 }
 
-/// An update for a chart whose update number can grow. A careless one may delete what others name.
+/// An update for a chart whose update number can grow. A careless one may delete what others name
+/// and may miss a place in a tree.
 pub fn revise(random: &mut Random, chart: &Chart, careless: bool) -> Revised {
     let mut chart = chart.clone();
     let general = invent::next_general(random, &chart.general);
@@ -134,13 +135,13 @@ impl Acts {
         let item = &mut self.chart.items[place];
         if item.rver < LAST {
             item.rver += 1;
-            self.records.push(modified(random, item, &keys));
+            self.records.push(modified(random, item, &keys, self.careless));
         }
     }
 }
 
 /// Edits on one record, made on it and told as the fields of a modify.
-fn modified(random: &mut Random, item: &mut Item, keys: &[Key]) -> Vec<Field> {
+fn modified(random: &mut Random, item: &mut Item, keys: &[Key], careless: bool) -> Vec<Field> {
     let mut fields = vec![form::identifier(item, MODIFY)];
     let kind = item.key.0;
     if kind == Kind::Feature && random.percent(50) {
@@ -149,6 +150,9 @@ fn modified(random: &mut Random, item: &mut Item, keys: &[Key]) -> Vec<Field> {
     if kind.has_attributes() && random.percent(75) {
         let mut sent = Vec::new();
         edit_run(random, &mut item.attributes, 0, &mut sent);
+        if careless && random.percent(60) {
+            misplace(random, &mut sent);
+        }
         fields.push(build::field("ATTR", form::tuples(&sent)));
     }
     if random.percent(50) {
@@ -180,6 +184,19 @@ fn edit_run(random: &mut Random, run: &mut Vec<Node>, parent: u16, sent: &mut Ve
             }
             _ => insert_entry(random, run, parent, sent),
         }
+    }
+}
+
+/// One tuple that may no longer fit the tree: another index, parent, instruction or value.
+fn misplace(random: &mut Random, sent: &mut [Sent]) {
+    let at = random.below(sent.len());
+    let tuple = &mut sent[at];
+    match random.below(4) {
+        0 => tuple.index += 1,
+        1 => tuple.parent = random.below(at + 1) as u16,
+        2 => tuple.instruction = random.pick(&[INSERT, DELETE, MODIFY]),
+        _ if tuple.value.is_empty() => tuple.value = b"v".to_vec(),
+        _ => tuple.value.clear(),
     }
 }
 

@@ -1,12 +1,13 @@
 //! Random cases: what a call is asked, on which files, in what rooms.
 
 use super::chart::Chart;
+use super::damage;
 use super::form::{self, Form};
 use super::invent;
 use super::random::Random;
 use super::revise::{revise, Revised};
-use super::damage;
 use crate::batch::{Case, LISTING, READ, UPDATE, WRITE};
+use crate::build::Field;
 
 /// The workspace that the updater asks for.
 const WORKSPACE: usize = 400_000;
@@ -40,13 +41,15 @@ enum Fate {
 }
 
 /// The bytes of a file in a free form, after its fate.
-fn arrived(random: &mut Random, mut records: Vec<Vec<crate::build::Field>>, fate: Fate) -> Vec<u8> {
+fn arrived(random: &mut Random, mut records: Vec<Vec<Field>>, fate: Fate) -> Vec<u8> {
+    // A second fault now and then shows which of the two is answered.
+    let times = random.pick(&[1, 1, 2]);
     if fate == Fate::Fields {
-        damage::fields(random, &mut records);
+        (0..times).for_each(|_| damage::fields(random, &mut records));
     }
     let mut file = Form::Free(random).file(&records);
-    for _ in 0..if fate == Fate::Bytes { random.pick(&[1, 1, 2]) } else { 0 } {
-        damage::bytes(random, &mut file);
+    if fate == Fate::Bytes {
+        (0..times).for_each(|_| damage::bytes(random, &mut file));
     }
     file
 }
@@ -74,17 +77,17 @@ fn update_case(random: &mut Random, old: &Chart) -> Scattered {
     let (dataset_fate, update_fate) = match random.below(20) {
         0..=1 => (Fate::Fields, Fate::Whole),
         2 => (Fate::Bytes, Fate::Whole),
-        3..=6 => (Fate::Whole, Fate::Fields),
-        7 => (Fate::Whole, Fate::Bytes),
+        3..=7 => (Fate::Whole, Fate::Fields),
+        8 => (Fate::Whole, Fate::Bytes),
         _ => (Fate::Whole, Fate::Whole),
     };
-    let careless = random.percent(8);
+    let careless = random.percent(10);
     let Revised { records, chart } = revise(random, old, careless);
     let given = form::records(old, &mut Form::Free(random));
     let dataset = arrived(random, given, dataset_fate);
     let update = arrived(random, records, update_fate);
     let (out, roomy) = room(random, &chart);
-    let work = if random.percent(90) { WORKSPACE } else { any_workspace(random) };
+    let work = if random.percent(93) { WORKSPACE } else { any_workspace(random) };
     let sound = dataset_fate == Fate::Whole && update_fate == Fate::Whole && !careless;
     let accepted = (sound && roomy && work >= WORKSPACE).then_some(chart);
     Scattered { case: Case::update(dataset, update, out, work as u32), accepted }
@@ -97,12 +100,12 @@ fn any_workspace(random: &mut Random) -> usize {
 /// An output slice for what the chart's written form needs, and whether it is long enough.
 fn room(random: &mut Random, chart: &Chart) -> (u32, bool) {
     let needed = form::written(chart).len();
-    let length = match random.below(20) {
+    let length = match random.below(40) {
         0 => 0,
-        1 => needed - 1,
-        2 => random.below(needed),
-        3..=10 => needed,
-        11 => needed + 1,
+        1..=2 => needed - 1,
+        3 => random.below(needed),
+        4..=20 => needed,
+        21 => needed + 1,
         _ => needed + random.between(1, 3000),
     };
     (length as u32, length >= needed)

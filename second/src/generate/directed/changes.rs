@@ -10,7 +10,9 @@ pub fn rows(table: &mut Table) {
     records(table);
     lives(table);
     entries_inserted(table);
-    entries_changed(table);
+    entries_inserted_below(table);
+    entries_valued(table);
+    entries_deleted(table);
     example(table);
     associations(table);
     places(table);
@@ -24,7 +26,12 @@ fn nothing(table: &mut Table) {
     let mut result = after();
     result.truncate(3);
     table.update_done("no records on no records", &bare, &heading(), &result);
-    let numbers = [(INFORMATION, irid(5, 30, 3, 3)), (POINT, prid(7, 2, 3)), (MULTI, mrid(8, 5, 3)), (FEATURE, frid(3, 40, 3, 3))];
+    let numbers = [
+        (INFORMATION, irid(5, 30, 3, 3)),
+        (POINT, prid(7, 2, 3)),
+        (MULTI, mrid(8, 5, 3)),
+        (FEATURE, frid(3, 40, 3, 3)),
+    ];
     for (number, id) in numbers {
         let mut stored = id.clone();
         *stored.body.last_mut().expect("RUIN") = 1;
@@ -72,56 +79,85 @@ fn lives(table: &mut Table) {
 }
 
 /// The first feature after a modify of its attributes.
-fn edited(table: &mut Table, name: &str, sent: &[Tuple], tree: &[Tuple]) {
-    table.acts_done(&format!("attributes: {name}"), &[edit(sent)], &after_with(FEATURE, feature(3, tree)));
+fn edited(table: &mut Table, name: &str, sent: &[Tuple], parts: &[&[Tuple]]) {
+    let result = after_with(FEATURE, feature(3, &parts.concat()));
+    table.acts_done(&format!("attributes: {name}"), &[edit(sent)], &result);
 }
 
-/// Every legal place of an insert.
+/// Tuples whose parents behind this place have moved by so many places.
+fn moved(tuples: &[Tuple<'static>], behind: u16, by: i16) -> Vec<Tuple<'static>> {
+    let parent = |place: u16| if place > behind { place.wrapping_add_signed(by) } else { place };
+    tuples.iter().map(|t| (t.0, t.1, parent(t.2), t.3, t.4)).collect()
+}
+
+/// The feature's attributes with another value at a place.
+fn valued(place: usize, value: &'static str) -> Vec<Tuple<'static>> {
+    let mut tree = TREE.to_vec();
+    tree[place - 1].4 = value;
+    tree
+}
+
+/// Every legal place of an insert at the top.
 fn entries_inserted(table: &mut Table) {
-    let [a, empty, b, c, complex, d, last] = TREE;
-    let second = |t: Tuple<'static>| (t.0, 2, t.2, t.3, t.4);
-    edited(table, "a new code at the end", &[(30, 1, 0, 1, "n")], &[a, empty, b, c, complex, d, last, (30, 1, 0, 1, "n")]);
-    let before = [(21, 1, 0, 1, "n"), second(a), (22, 1, 0, 1, ""), (25, 1, 3, 1, "b"), (25, 2, 3, 1, "c"), (26, 1, 3, 1, ""), (27, 1, 6, 1, "d"), last];
-    edited(table, "before the first of its code", &[(21, 1, 0, 1, "n")], &before);
-    let behind = [a, (21, 2, 0, 1, "n"), (22, 1, 0, 1, ""), (25, 1, 3, 1, "b"), (25, 2, 3, 1, "c"), (26, 1, 3, 1, ""), (27, 1, 6, 1, "d"), last];
-    edited(table, "behind the last of its code, before other codes", &[(21, 2, 0, 1, "n")], &behind);
-    let between = [a, empty, b, c, complex, d, (22, 2, 0, 1, "n"), (22, 3, 0, 1, "")];
-    edited(table, "between two of its code, behind a subtree", &[(22, 2, 0, 1, "n")], &between);
-    edited(table, "behind the last of its code", &[(22, 3, 0, 1, "n")], &[a, empty, b, c, complex, d, last, (22, 3, 0, 1, "n")]);
-    let below = [a, empty, b, c, (25, 3, 2, 1, "n"), (26, 1, 2, 1, ""), (27, 1, 6, 1, "d"), last];
-    edited(table, "below another, behind its code", &[(22, 1, 0, 3, ""), (25, 3, 1, 1, "n")], &below);
-    let as_last = [a, empty, b, c, complex, d, (28, 1, 2, 1, "n"), last];
-    edited(table, "below another, a new code", &[(22, 1, 0, 3, ""), (28, 1, 1, 1, "n")], &as_last);
-    let deep = [a, empty, b, c, complex, d, (27, 2, 5, 1, "n"), last];
-    edited(table, "two levels down", &[(22, 1, 0, 3, ""), (26, 1, 1, 3, ""), (27, 2, 2, 1, "n")], &deep);
-    let tree = [a, empty, b, c, complex, d, last, (40, 1, 0, 1, ""), (41, 1, 8, 1, ""), (42, 1, 9, 1, "x"), (41, 2, 8, 1, "y")];
-    edited(table, "a tree of its own", &[(40, 1, 0, 1, ""), (41, 1, 1, 1, ""), (42, 1, 2, 1, "x"), (41, 2, 1, 1, "y")], &tree);
-    edited(table, "a child into an empty entry", &[(22, 2, 0, 3, ""), (1, 1, 1, 1, "n")], &[a, empty, b, c, complex, d, last, (1, 1, 7, 1, "n")]);
+    let new = |code, index| (code, index, 0, 1, "n");
+    let later = moved(&TREE[1..], 1, 1);
+    edited(table, "a new code at the end", &[new(30, 1)], &[&TREE, &[new(30, 1)]]);
+    let pushed = [new(21, 1), (21, 2, 0, 1, "a")];
+    edited(table, "before the first of its code", &[new(21, 1)], &[&pushed, &later]);
+    let behind = [TREE[0], new(21, 2)];
+    edited(table, "behind the last of its code, before other codes", &[new(21, 2)], &[&behind, &later]);
+    let between = [new(22, 2), (22, 3, 0, 1, "")];
+    edited(table, "between two of its code, behind a subtree", &[new(22, 2)], &[&TREE[..6], &between]);
+    edited(table, "behind the last of its code", &[new(22, 3)], &[&TREE, &[new(22, 3)]]);
+    let subtree = [(40, 1, 0, 1, ""), (41, 1, 1, 1, ""), (42, 1, 2, 1, "x"), (41, 2, 1, 1, "y")];
+    edited(table, "a tree of its own", &subtree, &[&TREE, &moved(&subtree, 0, 7)]);
 }
 
-fn entries_changed(table: &mut Table) {
-    let [a, empty, b, c, complex, d, last] = TREE;
-    edited(table, "an empty ATTR", &[], &TREE);
-    edited(table, "a value set", &[(21, 1, 0, 3, "new")], &[(21, 1, 0, 1, "new"), empty, b, c, complex, d, last]);
-    edited(table, "a value emptied", &[(21, 1, 0, 3, "")], &[(21, 1, 0, 1, ""), empty, b, c, complex, d, last]);
-    edited(table, "a value set on an empty entry", &[(22, 2, 0, 3, "v")], &[a, empty, b, c, complex, d, (22, 2, 0, 1, "v")]);
-    edited(table, "an empty value sent to a complex entry", &[(22, 1, 0, 3, "")], &TREE);
-    edited(table, "a value set below", &[(22, 1, 0, 3, ""), (25, 2, 1, 3, "z")], &[a, empty, b, (25, 2, 2, 1, "z"), complex, d, last]);
-    edited(table, "a subtree deleted, with a value that is ignored", &[(22, 1, 0, 2, "any")], &[a, (22, 1, 0, 1, "")]);
-    edited(table, "a first of its code deleted below", &[(22, 1, 0, 3, ""), (25, 1, 1, 2, "")], &[a, empty, (25, 1, 2, 1, "c"), (26, 1, 2, 1, ""), (27, 1, 4, 1, "d"), last]);
-    let none = changed_in(after_with(FEATURE, feature(3, &[])), FEATURE, |f| drop(f.remove(2)));
-    table.acts_done("attributes: all deleted", &[edit(&[(22, 2, 0, 2, ""), (22, 1, 0, 2, ""), (21, 1, 0, 2, "")])], &none);
-    let children_gone = [(22, 1, 0, 3, ""), (26, 1, 1, 3, ""), (27, 1, 2, 2, "")];
-    edited(table, "a last child deleted: the parent stays", &children_gone, &[a, empty, b, c, complex, last]);
-    let then_valued = [children_gone[0], children_gone[1], children_gone[2], (26, 1, 1, 3, "v")];
-    edited(table, "and takes a value", &then_valued, &[a, empty, b, c, (26, 1, 2, 1, "v"), last]);
+fn entries_inserted_below(table: &mut Table) {
+    let lead = (22, 1, 0, 3, "");
+    let inserted = (25, 3, 2, 1, "n");
+    let result: [&[Tuple]; 3] = [&TREE[..4], &[inserted], &moved(&TREE[4..], 4, 1)];
+    edited(table, "below another, behind its code", &[lead, (25, 3, 1, 1, "n")], &result);
+    let result: [&[Tuple]; 3] = [&TREE[..6], &[(28, 1, 2, 1, "n")], &TREE[6..]];
+    edited(table, "below another, a new code", &[lead, (28, 1, 1, 1, "n")], &result);
+    let result: [&[Tuple]; 3] = [&TREE[..6], &[(27, 2, 5, 1, "n")], &TREE[6..]];
+    edited(table, "two levels down", &[lead, (26, 1, 1, 3, ""), (27, 2, 2, 1, "n")], &result);
+    let sent = [(22, 2, 0, 3, ""), (1, 1, 1, 1, "n")];
+    edited(table, "a child into an empty entry", &sent, &[&TREE, &[(1, 1, 7, 1, "n")]]);
+}
+
+fn entries_valued(table: &mut Table) {
+    let lead = (22, 1, 0, 3, "");
+    edited(table, "an empty ATTR", &[], &[&TREE]);
+    edited(table, "a value set", &[(21, 1, 0, 3, "new")], &[&valued(1, "new")]);
+    edited(table, "a value emptied", &[(21, 1, 0, 3, "")], &[&valued(1, "")]);
+    edited(table, "a value set on an empty entry", &[(22, 2, 0, 3, "v")], &[&valued(7, "v")]);
+    edited(table, "an empty value sent to a complex entry", &[lead], &[&TREE]);
+    edited(table, "a value set below", &[lead, (25, 2, 1, 3, "z")], &[&valued(4, "z")]);
     let emptied = [(21, 1, 0, 3, ""), (1, 1, 1, 1, "n")];
-    let under = [(21, 1, 0, 1, ""), (1, 1, 1, 1, "n"), (22, 1, 0, 1, ""), (25, 1, 3, 1, "b"), (25, 2, 3, 1, "c"), (26, 1, 3, 1, ""), (27, 1, 6, 1, "d"), last];
-    edited(table, "a value emptied by a modify that leads to a child", &emptied, &under);
-    let after_delete = [(22, 1, 0, 3, ""), (25, 1, 1, 2, ""), (25, 1, 1, 3, "z"), (21, 1, 0, 3, "y")];
-    let both = [(21, 1, 0, 1, "y"), empty, (25, 1, 2, 1, "z"), (26, 1, 2, 1, ""), (27, 1, 4, 1, "d"), last];
-    edited(table, "behind a delete to its siblings and ancestors", &after_delete, &both);
-    edited(table, "deleted and inserted again", &[(21, 1, 0, 2, ""), (21, 1, 0, 1, "w")], &[(22, 1, 0, 1, ""), (25, 1, 1, 1, "b"), (25, 2, 1, 1, "c"), (26, 1, 1, 1, ""), (27, 1, 4, 1, "d"), (22, 2, 0, 1, ""), (21, 1, 0, 1, "w")]);
+    let under = [(21, 1, 0, 1, ""), (1, 1, 1, 1, "n")];
+    let later = moved(&TREE[1..], 1, 1);
+    edited(table, "a value emptied by a modify that leads to a child", &emptied, &[&under, &later]);
+}
+
+fn entries_deleted(table: &mut Table) {
+    let lead = (22, 1, 0, 3, "");
+    let (first, last) = ([TREE[0]], [(22, 1, 0, 1, "")]);
+    edited(table, "a subtree deleted, with a value that is ignored", &[(22, 1, 0, 2, "any")], &[&first, &last]);
+    let one_child: [&[Tuple]; 3] = [&TREE[..2], &[(25, 1, 2, 1, "c")], &moved(&TREE[4..], 4, -1)];
+    edited(table, "a first of its code deleted below", &[lead, (25, 1, 1, 2, "")], &one_child);
+    let none = changed_in(after_with(FEATURE, feature(3, &[])), FEATURE, |f| drop(f.remove(2)));
+    let all = edit(&[(22, 2, 0, 2, ""), (22, 1, 0, 2, ""), (21, 1, 0, 2, "")]);
+    table.acts_done("attributes: all deleted", &[all], &none);
+    let childless = [lead, (26, 1, 1, 3, ""), (27, 1, 2, 2, "")];
+    edited(table, "a last child deleted: the parent stays", &childless, &[&TREE[..5], &TREE[6..]]);
+    let then_valued = [&childless[..], &[(26, 1, 1, 3, "v")]].concat();
+    edited(table, "and takes a value", &then_valued, &[&TREE[..4], &[(26, 1, 2, 1, "v")], &TREE[6..]]);
+    let around = [lead, (25, 1, 1, 2, ""), (25, 1, 1, 3, "z"), (21, 1, 0, 3, "y")];
+    let both: [&[Tuple]; 3] = [&valued(1, "y")[..2], &[(25, 1, 2, 1, "z")], &moved(&TREE[4..], 4, -1)];
+    edited(table, "behind a delete to its siblings and ancestors", &around, &both);
+    let again = [(21, 1, 0, 2, ""), (21, 1, 0, 1, "w")];
+    edited(table, "deleted and inserted again", &again, &[&moved(&TREE[1..], 0, -1), &[(21, 1, 0, 1, "w")]]);
 }
 
 fn associations(table: &mut Table) {
@@ -138,7 +174,15 @@ fn associations(table: &mut Table) {
     let again = modify(&[inas(5, 1, 1, 2, &[]), bare]);
     table.acts_done("an association deleted and inserted: it moves to the end", &[again], &after_with(FEATURE, moved));
     let all_gone = modify(&[inas(6, 1, 1, 2, &[]), inas(5, 1, 1, 2, &[])]);
-    table.acts_done("all associations deleted", &[all_gone], &after_with(FEATURE, with_lists(3, &[places])));
+    table.acts_done(
+        "all associations deleted",
+        &[all_gone],
+        &after_with(FEATURE, with_lists(3, std::slice::from_ref(&places))),
+    );
+    let third = inas(5, 3, 3, 1, &[]);
+    let first_of_three = modify(&[third.clone(), inas(5, 1, 1, 2, &[])]);
+    let kept = with_lists(3, &[six.clone(), third, places.clone()]);
+    table.acts_done("the first of three associations deleted", &[first_of_three], &after_with(FEATURE, kept));
     let passing = modify(&[inas(99, 1, 1, 1, &[]), inas(99, 1, 1, 2, &[])]);
     table.acts_done("an association that named nothing", &[passing], &after_with(FEATURE, feature(3, &TREE)));
 }
@@ -166,6 +210,10 @@ fn places(table: &mut Table) {
     result.insert(AS_MULTI - 1, records[2].clone());
     result.insert(AS_POINT - 1, records[1].clone());
     table.acts_done("places appended over several fields", &records, &result);
+    let first_gone = [&records[..], &[vec![frid(3, 40, 4, 3), spas(&[gone(point)])]]].concat();
+    result[FEATURE + 1][0] = frid(3, 40, 4, 1);
+    result[FEATURE + 1][5] = spas(&[multi, new, other]);
+    table.acts_done("the first of four places deleted", &first_gone, &result);
 }
 
 /// On the tuples (1,1), (2,2), (3,3).
@@ -180,7 +228,11 @@ fn coordinates(table: &mut Table) {
         ("insert at 1", modify(cocc(1, 1, 2), &[new()]), &[(8, 8), (9, 9), (1, 1), (2, 2), (3, 3)]),
         ("insert at 3", modify(cocc(1, 3, 2), &[new()]), &[(1, 1), (2, 2), (8, 8), (9, 9), (3, 3)]),
         ("insert at 4 appends (P2)", modify(cocc(1, 4, 2), &[new()]), &[(1, 1), (2, 2), (3, 3), (8, 8), (9, 9)]),
-        ("insert over two fields", modify(cocc(1, 2, 2), &[c2il(&[(8, 8)]), c2il(&[]), c2il(&[(9, 9)])]), &[(1, 1), (8, 8), (9, 9), (2, 2), (3, 3)]),
+        (
+            "insert over two fields",
+            modify(cocc(1, 2, 2), &[c2il(&[(8, 8)]), c2il(&[]), c2il(&[(9, 9)])]),
+            &[(1, 1), (8, 8), (9, 9), (2, 2), (3, 3)],
+        ),
         ("modify at 1", modify(cocc(3, 1, 2), &[new()]), &[(8, 8), (9, 9), (3, 3)]),
         ("modify to the last", modify(cocc(3, 2, 2), &[new()]), &[(1, 1), (8, 8), (9, 9)]),
         ("modify of all", modify(cocc(3, 1, 3), &[new(), c2il(&[(-1, -1)])]), &[(8, 8), (9, 9), (-1, -1)]),
@@ -201,7 +253,8 @@ fn coordinates(table: &mut Table) {
 fn written_form(table: &mut Table) {
     let mut loose = dataset();
     loose[INFORMATION] = vec![irid(6, 31, 1, 1), attr(&[])];
-    loose[MULTI - 1] = vec![mrid(8, 4, 1), inas(5, 1, 2, 1, &[]), c2il(&[]), c2il(&[(1, 1)]), c2il(&[(2, 2), (3, 3)]), c2il(&[])];
+    loose[MULTI - 1] =
+        vec![mrid(8, 4, 1), inas(5, 1, 2, 1, &[]), c2il(&[]), c2il(&[(1, 1)]), c2il(&[(2, 2), (3, 3)]), c2il(&[])];
     loose[FEATURE - 1].truncate(5);
     loose[FEATURE - 1].extend([spas(&PLACES[..1]), spas(&[]), spas(&PLACES[1..])]);
     loose[BARE_FEATURE - 1].extend([attr(&[]), spas(&[])]);
@@ -214,23 +267,56 @@ fn written_form(table: &mut Table) {
     table.dataset_done("unread fields kept, also empty ones", file(&unread), &unread);
 }
 
-/// The update of 10a-4.2 on the tree of 10a-4.1 (P1).
+/// The tree of 10a-4.1.
+const VACHON: [Tuple; 10] = [
+    (21, 1, 0, 1, "Vachon"),
+    (22, 1, 0, 1, ""),
+    (25, 1, 2, 1, "42.0"),
+    (26, 1, 2, 1, ""),
+    (29, 1, 4, 1, "17"),
+    (29, 2, 4, 1, "43"),
+    (23, 1, 0, 1, "12"),
+    (24, 1, 0, 1, ""),
+    (27, 1, 8, 1, "123"),
+    (28, 1, 8, 1, "Canada"),
+];
+
+/// The update of 10a-4.2.
+const VACHON_SENT: [Tuple; 11] = [
+    (22, 1, 0, 3, ""),
+    (26, 1, 1, 3, ""),
+    (29, 2, 2, 1, "32"),
+    (29, 3, 2, 3, "7"),
+    (35, 1, 2, 1, ""),
+    (36, 1, 5, 1, "22"),
+    (37, 1, 5, 1, "123"),
+    (32, 1, 0, 1, "abc"),
+    (23, 1, 0, 2, ""),
+    (24, 1, 0, 3, ""),
+    (28, 1, 10, 3, "Germany"),
+];
+
+/// What P1 says that the update gives.
+const VACHON_AFTER: [Tuple; 14] = [
+    (21, 1, 0, 1, "Vachon"),
+    (22, 1, 0, 1, ""),
+    (25, 1, 2, 1, "42.0"),
+    (26, 1, 2, 1, ""),
+    (29, 1, 4, 1, "17"),
+    (29, 2, 4, 1, "32"),
+    (29, 3, 4, 1, "7"),
+    (35, 1, 4, 1, ""),
+    (36, 1, 8, 1, "22"),
+    (37, 1, 8, 1, "123"),
+    (24, 1, 0, 1, ""),
+    (27, 1, 11, 1, "123"),
+    (28, 1, 11, 1, "Germany"),
+    (32, 1, 0, 1, "abc"),
+];
+
 fn example(table: &mut Table) {
-    let stored: [Tuple; 10] = [
-        (21, 1, 0, 1, "Vachon"), (22, 1, 0, 1, ""), (25, 1, 2, 1, "42.0"), (26, 1, 2, 1, ""), (29, 1, 4, 1, "17"),
-        (29, 2, 4, 1, "43"), (23, 1, 0, 1, "12"), (24, 1, 0, 1, ""), (27, 1, 8, 1, "123"), (28, 1, 8, 1, "Canada"),
-    ];
-    let sent: [Tuple; 11] = [
-        (22, 1, 0, 3, ""), (26, 1, 1, 3, ""), (29, 2, 2, 1, "32"), (29, 3, 2, 3, "7"), (35, 1, 2, 1, ""),
-        (36, 1, 5, 1, "22"), (37, 1, 5, 1, "123"), (32, 1, 0, 1, "abc"), (23, 1, 0, 2, ""), (24, 1, 0, 3, ""),
-        (28, 1, 10, 3, "Germany"),
-    ];
-    let result: [Tuple; 14] = [
-        (21, 1, 0, 1, "Vachon"), (22, 1, 0, 1, ""), (25, 1, 2, 1, "42.0"), (26, 1, 2, 1, ""), (29, 1, 4, 1, "17"),
-        (29, 2, 4, 1, "32"), (29, 3, 4, 1, "7"), (35, 1, 4, 1, ""), (36, 1, 8, 1, "22"), (37, 1, 8, 1, "123"),
-        (24, 1, 0, 1, ""), (27, 1, 11, 1, "123"), (28, 1, 11, 1, "Germany"), (32, 1, 0, 1, "abc"),
-    ];
-    let before = changed(FEATURE, |f| *f = feature(2, &stored));
-    let update = [heading(), vec![edit(&sent)]].concat();
-    table.update_done("the example of 10a-4.2 (P1)", &before, &update, &after_with(FEATURE, feature(3, &result)));
+    let before = changed(FEATURE, |f| *f = feature(2, &VACHON));
+    let update = [heading(), vec![edit(&VACHON_SENT)]].concat();
+    let result = after_with(FEATURE, feature(3, &VACHON_AFTER));
+    table.update_done("the example of 10a-4.2 (P1)", &before, &update, &result);
 }

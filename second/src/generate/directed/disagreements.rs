@@ -143,7 +143,9 @@ fn absent_coordinates(table: &mut Table) {
 }
 
 fn versions(table: &mut Table) {
-    for (rver, what) in [(4, "the same"), (3, "a lower"), (6, "a version too great"), (1, "the first"), (65534, "the last")] {
+    for (rver, what) in
+        [(4, "the same"), (3, "a lower"), (6, "a version too great"), (1, "the first"), (65534, "the last")]
+    {
         table.act(&format!("delete with {what} RVER"), vec![mrid(8, rver, 2)], 10);
         table.act(&format!("modify with {what} RVER"), vec![mrid(8, rver, 3)], 10);
     }

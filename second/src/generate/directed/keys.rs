@@ -32,13 +32,23 @@ fn twice_in_a_record(table: &mut Table) {
     let feature = |more: &[Field]| [&[frid(NEW, 1, 1, 1), foid(0, 0, 0)], more].concat();
     let place = |ornt, smin| (110, 7, ornt, smin, 0, 1);
     let rows: [(&str, usize, Vec<Field>); 5] = [
-        ("an association twice", AS_INFORMATION, vec![irid(NEW, 1, 1, 1), inas(5, 1, 1, 1, &[]), inas(5, 1, 1, 1, &[])]),
-        ("an association twice, not side by side", AS_MULTI, vec![
-            mrid(NEW, 1, 1), inas(5, 1, 1, 1, &[(1, 1, 0, 1, "v")]), inas(6, 1, 1, 1, &[]), inas(5, 1, 1, 1, &[]),
-        ]),
+        (
+            "an association twice",
+            AS_INFORMATION,
+            vec![irid(NEW, 1, 1, 1), inas(5, 1, 1, 1, &[]), inas(5, 1, 1, 1, &[])],
+        ),
+        (
+            "an association twice, not side by side",
+            AS_MULTI,
+            vec![mrid(NEW, 1, 1), inas(5, 1, 1, 1, &[(1, 1, 0, 1, "v")]), inas(6, 1, 1, 1, &[]), inas(5, 1, 1, 1, &[])],
+        ),
         ("a place twice in one SPAS", AS_FEATURE, feature(&[spas(&[place(1, 0), place(2, 5)])])),
         ("a place twice in two SPAS", AS_FEATURE, feature(&[spas(&[place(1, 0)]), spas(&[place(1, 0)])])),
-        ("a place twice, an empty SPAS between", AS_FEATURE, feature(&[spas(&[place(1, 0)]), spas(&[]), spas(&[place(255, 1)])])),
+        (
+            "a place twice, an empty SPAS between",
+            AS_FEATURE,
+            feature(&[spas(&[place(1, 0)]), spas(&[]), spas(&[place(255, 1)])]),
+        ),
     ];
     for (name, at, fields) in rows {
         table.specimen(name, at, 7, fields);
@@ -61,8 +71,16 @@ fn inserted_while_present(table: &mut Table) {
     table.act("a modify inserts a deleted association twice", modify(&back), 7);
     let place = |saui| (110, 7, 2, 9, 9, saui);
     table.act("a modify inserts a place that is there", modify(&[spas(&[place(1)])]), 7);
-    table.act("a modify inserts a new place twice", modify(&[spas(&[(110, 99, 1, 0, 0, 1), (110, 99, 2, 0, 0, 1)])]), 7);
-    table.act("a modify inserts a place twice after its delete", modify(&[spas(&[place(2), place(1)]), spas(&[place(1)])]), 7);
+    table.act(
+        "a modify inserts a new place twice",
+        modify(&[spas(&[(110, 99, 1, 0, 0, 1), (110, 99, 2, 0, 0, 1)])]),
+        7,
+    );
+    table.act(
+        "a modify inserts a place twice after its delete",
+        modify(&[spas(&[place(2), place(1)]), spas(&[place(1)])]),
+        7,
+    );
 }
 
 /// What is no key: numbers of another kind, the general record's, other roles, other orientations.
@@ -70,7 +88,13 @@ fn same_numbers(table: &mut Table) {
     table.good_specimen("a point with a feature's RCID", AS_POINT, vec![prid(3, 1, 1), c2it(0, 0)]);
     table.good_specimen("a multi point with a point's RCID", AS_MULTI, vec![mrid(7, 1, 1)]);
     table.good_specimen("an information type with the general record's RCID", AS_INFORMATION, vec![irid(1, 1, 1, 1)]);
-    let roles = vec![irid(NEW, 1, 1, 1), inas(5, 1, 1, 1, &[]), inas(5, 1, 2, 1, &[]), inas(5, 2, 1, 1, &[]), inas(6, 1, 1, 1, &[])];
+    let roles = vec![
+        irid(NEW, 1, 1, 1),
+        inas(5, 1, 1, 1, &[]),
+        inas(5, 1, 2, 1, &[]),
+        inas(5, 2, 1, 1, &[]),
+        inas(6, 1, 1, 1, &[]),
+    ];
     table.good_specimen("associations that differ in one part of the key", AS_INFORMATION, roles);
     let mut records = dataset();
     records.insert(AS_MULTI - 1, vec![mrid(7, 1, 1)]);
@@ -98,7 +122,11 @@ fn loose_in_a_dataset(table: &mut Table) {
         table.dataset(&format!("loose: {name}"), &records, 11, at);
         loose_result(table, &format!("inserted, loose: {name}"), &[fields], at);
     }
-    table.good_specimen("an information type that names itself", AS_INFORMATION, vec![irid(NEW, 1, 1, 1), inas(NEW, 1, 1, 1, &[])]);
+    table.good_specimen(
+        "an information type that names itself",
+        AS_INFORMATION,
+        vec![irid(NEW, 1, 1, 1), inas(NEW, 1, 1, 1, &[])],
+    );
     let mut forward = dataset();
     forward[3].push(inas(6, 1, 1, 1, &[]));
     table.dataset_done("a name of a later record", file(&forward), &forward);

@@ -20,7 +20,8 @@ fn prints(table: &mut Table, name: &str, input: Vec<u8>, printed: &str) {
 }
 
 fn tables(table: &mut Table) {
-    let base = "4 IRID 5 2 1 0\n5 IRID 6 1 0 0\n6 PRID 7 1 0 1\n7 MRID 8 4 0 3\n8 FRID 3 2 7 0\n9 FRID 4 1 0 0\ntotal 6\n";
+    let base =
+        "4 IRID 5 2 1 0\n5 IRID 6 1 0 0\n6 PRID 7 1 0 1\n7 MRID 8 4 0 3\n8 FRID 3 2 7 0\n9 FRID 4 1 0 0\ntotal 6\n";
     prints(table, "a record of each kind", file(&dataset()), &format!("{HEADER}{base}"));
     prints(table, "no records", file(&dataset()[..3]), &format!("{HEADER}total 0\n"));
     let three = [(1, 1, 0, 1, ""), (2, 1, 1, 1, "a"), (2, 2, 1, 1, "b")];
@@ -28,7 +29,12 @@ fn tables(table: &mut Table) {
         dataset()[..3].to_vec(),
         vec![vec![prid(7, 1, 1), c2it(0, 0)], vec![frid(3, 1, 2, 1), foid(0, 0, 0), attr(&three)]],
     ];
-    prints(table, "the paper's sample", file(&sample.concat()), &format!("{HEADER}4 PRID 7 1 0 1\n5 FRID 3 2 3 0\ntotal 2\n"));
+    prints(
+        table,
+        "the paper's sample",
+        file(&sample.concat()),
+        &format!("{HEADER}4 PRID 7 1 0 1\n5 FRID 3 2 3 0\ntotal 2\n"),
+    );
     let split = vec![mrid(0xfffffffe, 65534, 1), c2il(&[(1, 1)]), c2il(&[]), c2il(&[(1, 1), (1, 1)])];
     let named = vec![irid(1, 1, 1, 1), attr(&[]), inas(1, 1, 1, 1, &three)];
     let records = [dataset()[..3].to_vec(), vec![named, split]].concat();

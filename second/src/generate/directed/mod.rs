@@ -23,7 +23,10 @@ pub enum Intent {
     /// Number, file, record.
     Refused(u32, u32, usize),
     /// What is written (nothing by the reader), and how many records the dataset or the result has.
-    Done { written: Vec<u8>, count: usize },
+    Done {
+        written: Vec<u8>,
+        count: usize,
+    },
     Prints(String),
 }
 

@@ -8,6 +8,7 @@ use crate::build::*;
 
 pub fn rows(table: &mut Table) {
     within_a_record(table);
+    key_again(table);
     among_records(table);
     dataset_before_update(table);
     first_pass_before_eight(table);
@@ -23,31 +24,47 @@ fn within_a_record(table: &mut Table) {
     let loop_to_itself = [(1, 1, 1, 1, "")];
     let rows: [(&str, usize, Vec<Field>, u32); 7] = [
         ("4 before 5", AS_POINT, vec![prid(0, 1, 1), attr(&[]), c2it(0, 0)], 4),
-        ("4 at the end before 5 at the start", AS_FEATURE, vec![frid(0, 65535, 0, 1), foid(0, 0, 0), spas(&[]), empty("MASK")], 4),
-        ("5 at the end before 6", AS_FEATURE, vec![frid(NEW, 1, 1, 1), foid(0, 0, 0), attr(&loop_to_itself), spas(&[(110, 7, 3, 0, 0, 1)])], 5),
+        (
+            "4 at the end before 5 at the start",
+            AS_FEATURE,
+            vec![frid(0, 65535, 0, 1), foid(0, 0, 0), spas(&[]), empty("MASK")],
+            4,
+        ),
+        (
+            "5 at the end before 6",
+            AS_FEATURE,
+            vec![frid(NEW, 1, 1, 1), foid(0, 0, 0), attr(&loop_to_itself), spas(&[(110, 7, 3, 0, 0, 1)])],
+            5,
+        ),
         ("5 before 6 in one tuple", AS_INFORMATION, vec![irid(NEW, 1, 1, 1), attr(&[(1, 0, 1, 1, "")])], 5),
         ("6 before 7", AS_INFORMATION, twice(&loop_to_itself), 6),
         ("5 before 7", AS_INFORMATION, twice(&[(1, 1, 0, 4, "")]), 5),
-        ("6 in a record whose references are loose", AS_MULTI, vec![mrid(NEW, 1, 1), inas(99, 1, 1, 1, &loop_to_itself)], 6),
+        (
+            "6 in a record whose references are loose",
+            AS_MULTI,
+            vec![mrid(NEW, 1, 1), inas(99, 1, 1, 1, &loop_to_itself)],
+            6,
+        ),
     ];
     for (name, place, fields, number) in rows {
         table.specimen(name, place, number, fields);
     }
-    let key_again = |fields: Vec<Field>| {
-        let mut records = dataset();
-        records.insert(AS_INFORMATION - 1, fields);
-        records
-    };
-    let six = key_again(vec![irid(5, 1, 1, 1), attr(&loop_to_itself)]);
-    table.dataset("6 before a key that stands twice", &six, 6, AS_INFORMATION);
-    let five = key_again(vec![irid(5, 65535, 1, 1)]);
-    table.dataset("5 before a key that stands twice", &five, 5, AS_INFORMATION);
-    let mut bounds = file(&key_again(vec![irid(0, 1, 1, 1), empty("ABCD")]));
-    let start = file(&dataset()[..5]).len();
+}
+
+/// A record whose key stands already has no 7 before its own smaller numbers.
+fn key_again(table: &mut Table) {
+    let at = AS_INFORMATION;
+    let again =
+        |fields: Vec<Field>| [dataset()[..at - 1].to_vec(), vec![fields], dataset()[at - 1..].to_vec()].concat();
+    let six = again(vec![irid(5, 1, 1, 1), attr(&[(1, 1, 1, 1, "")])]);
+    table.dataset("6 before a key that stands twice", &six, 6, at);
+    table.dataset("5 before a key that stands twice", &again(vec![irid(5, 65535, 1, 1)]), 5, at);
+    let mut bounds = file(&again(vec![irid(0, 1, 1, 1), empty("ABCD")]));
+    let start = file(&dataset()[..at - 1]).len();
     bounds[start + 28] = b' ';
-    table.dataset_bytes("3 before 4", bounds.clone(), 3, AS_INFORMATION);
+    table.dataset_bytes("3 before 4", bounds.clone(), 3, at);
     bounds[start + 10] = b'!';
-    table.dataset_bytes("2 before 3", bounds, 2, AS_INFORMATION);
+    table.dataset_bytes("2 before 3", bounds, 2, at);
 }
 
 /// The earlier record, whatever the numbers.
@@ -103,14 +120,18 @@ fn first_pass_before_eight(table: &mut Table) {
         ("5", 5, vec![irid(0, 1, 1, 1)]),
         ("6", 6, vec![irid(NEW, 1, 1, 1), attr(&[(1, 2, 0, 1, "")])]),
         ("7 within an inserted record", 7, vec![irid(NEW, 1, 1, 1), inas(5, 1, 1, 1, &[]), inas(5, 1, 1, 1, &[])]),
-        ("7 of places within an inserted record", 7, vec![frid(NEW, 1, 1, 1), foid(0, 0, 0), spas(&[PLACES[0], PLACES[0]])]),
+        (
+            "7 of places within an inserted record",
+            7,
+            vec![frid(NEW, 1, 1, 1), foid(0, 0, 0), spas(&[PLACES[0], PLACES[0]])],
+        ),
     ];
     for (name, number, fields) in rows {
         table.update(&format!("{name} at record 4 before 8"), &unfollowing(&[good.clone(), fields.clone()]), number, 4);
         let absent = vec![prid(99, 1, 2)];
         table.acts(&format!("{name} at record 4 before 9 at record 3"), &[absent, fields], number);
     }
-    let mut cut = file(&unfollowing(&[good.clone()]));
+    let mut cut = file(&unfollowing(std::slice::from_ref(&good)));
     cut.pop();
     table.update_bytes("1 before 8", cut, 1, 3);
     let mut behind = file(&unfollowing(&[good]));
@@ -187,12 +208,20 @@ fn rooms(table: &mut Table) {
     for out in [0, 1, length - 1] {
         let refused = Intent::Refused(13, 3, 0);
         table.row(&format!("write: {out} bytes of room"), Case::write(bytes.clone(), out), refused.clone());
-        table.row(&format!("update: {out} bytes of room"), Case::update(bytes.clone(), update.clone(), out, WORK), refused);
+        table.row(
+            &format!("update: {out} bytes of room"),
+            Case::update(bytes.clone(), update.clone(), out, WORK),
+            refused,
+        );
     }
     for out in [length, length + 1, length + 1000] {
         let done = |written: &[u8]| Intent::Done { written: written.to_vec(), count: 9 };
         table.row(&format!("write: {out} bytes of room"), Case::write(bytes.clone(), out), done(&bytes));
-        table.row(&format!("update: {out} bytes of room"), Case::update(bytes.clone(), update.clone(), out, WORK), done(&written));
+        table.row(
+            &format!("update: {out} bytes of room"),
+            Case::update(bytes.clone(), update.clone(), out, WORK),
+            done(&written),
+        );
     }
     for work in [0, 1, WORK - 1] {
         for (name, given, sent) in [("good files", &bytes, &update), ("empty files", &Vec::new(), &Vec::new())] {

@@ -4,6 +4,7 @@ use super::base::*;
 use super::{with_heading, Intent, Table, WORK};
 use crate::batch::Case;
 use crate::build::*;
+use crate::generate::form::least_widths;
 
 /// Room for any result of these cases but the huge ones.
 const WIDE: u32 = 500_000;
@@ -18,6 +19,8 @@ pub fn rows(table: &mut Table) {
     inserted(table);
     grown(table);
     order_of_acts(table);
+    deepest(table);
+    widest(table);
 }
 
 /// A multi point of n tuples.
@@ -27,7 +30,7 @@ fn multi(rcid: u32, rver: u16, ruin: u8, count: usize) -> Vec<Field> {
 
 /// The file with one record in narrow widths: short enough to be read, and maybe too long to be written.
 fn narrow(records: &[Vec<Field>], number: usize) -> Vec<u8> {
-    let widths = |n: usize, fields: &[Field]| if n + 1 == number { super::super::form::least_widths(fields) } else { (5, 5) };
+    let widths = |n: usize, fields: &[Field]| if n + 1 == number { least_widths(fields) } else { (5, 5) };
     let one = |(n, fields): (usize, &Vec<Field>)| {
         let (a, b) = widths(n, fields);
         record(n == 0, a, b, fields)
@@ -128,7 +131,7 @@ fn grown(table: &mut Table) {
         let case = Case::update(file(&full), file(&with_heading(acts)), WIDE, WORK);
         table.row(&format!("update: {name}"), case, Intent::Refused(number, 2, record));
     };
-    refuse("a tuple more than can be written", &[add.clone()], 12, 3);
+    refuse("a tuple more than can be written", std::slice::from_ref(&add), 12, 3);
     refuse("a tuple more than can be written, cut afterwards", &[add.clone(), cut], 12, 3);
     refuse("12 at record 3 before 9 at record 4", &[add, vec![prid(99, 2, 2)]], 12, 3);
     let smaller = vec![mrid(1, 2, 3), cocc(2, 1, 1)];
@@ -153,6 +156,40 @@ fn order_of_acts(table: &mut Table) {
     let loose = vec![mrid(1, 2, 3), inas(99, 1, 1, 1, &[])];
     let case = Case::update(file(&full), file(&with_heading(&[loose])), WIDE, WORK);
     table.row("update: 12 before a loose result", case, Intent::Refused(12, 2, 3));
+}
+
+/// The most entries that a written information type holds.
+const MOST_ENTRIES: u16 = 12_491;
+
+/// A tree as deep as a record is long, and an update that leads all the way down.
+fn deepest(table: &mut Table) {
+    let chain: Vec<Tuple> = (0..MOST_ENTRIES).map(|depth| (1, 1, depth, 1, "")).collect();
+    let full = |rver, chain: &[Tuple]| [dataset()[..3].to_vec(), vec![vec![irid(1, 1, rver, 1), attr(chain)]]].concat();
+    table.dataset_done("the deepest tree", file(&full(1, &chain)), &full(1, &chain));
+    let mut sent: Vec<Tuple> = chain.iter().map(|t| (t.0, t.1, t.2, 3, t.4)).collect();
+    sent[usize::from(MOST_ENTRIES) - 1].3 = 2;
+    let update = with_heading(&[vec![irid(1, 1, 2, 3), attr(&sent)]]);
+    let mut result = full(2, &chain[..chain.len() - 1]);
+    result[1] = after()[1].clone();
+    table.update_done("the deepest entry deleted", &full(1, &chain), &update, &result);
+    sent[usize::from(MOST_ENTRIES) - 1].3 = 1;
+    let update = with_heading(&[vec![irid(1, 1, 2, 3), attr(&sent)]]);
+    let case = Case::update(file(&full(1, &chain)), file(&update), WIDE, WORK);
+    table.row("update: one more than the deepest tree holds", case, Intent::Refused(12, 2, 3));
+}
+
+/// As many entries of one code as a record holds, and others put among them.
+fn widest(table: &mut Table) {
+    let run: Vec<Tuple> = (1..=MOST_ENTRIES).map(|index| (1, index, 0, 1, "")).collect();
+    let full = |rver, run: &[Tuple]| [dataset()[..3].to_vec(), vec![vec![irid(1, 1, rver, 1), attr(run)]]].concat();
+    table.dataset_done("the widest tree", file(&full(1, &run)), &full(1, &run));
+    let sent = [(1, 1, 0, 2, ""), (1, MOST_ENTRIES, 0, 1, ""), (1, 6000, 0, 3, "m"), (1, 6001, 0, 2, "")];
+    let update = with_heading(&[vec![irid(1, 1, 2, 3), attr(&sent)]]);
+    let mut left = run[..run.len() - 1].to_vec();
+    left[5999].4 = "m";
+    let mut result = full(2, &left);
+    result[1] = after()[1].clone();
+    table.update_done("edits in the widest tree", &full(1, &run), &update, &result);
 }
 
 /// The longest file.

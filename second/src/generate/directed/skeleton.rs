@@ -26,8 +26,7 @@ fn update() -> Records {
 
 /// The file with the bytes of one record changed.
 fn edited(records: &Records, number: usize, edit: impl FnOnce(&mut Vec<u8>)) -> Vec<u8> {
-    let mut pieces: Vec<Vec<u8>> =
-        records.iter().enumerate().map(|(n, fields)| record(n == 0, 5, 5, fields)).collect();
+    let mut pieces: Vec<Vec<u8>> = records.iter().enumerate().map(|(n, fields)| record(n == 0, 5, 5, fields)).collect();
     edit(&mut pieces[number - 1]);
     pieces.concat()
 }

@@ -27,7 +27,10 @@ fn whole_trees(table: &mut Table) {
         ("ATIX 1 and 3", &[(1, 1, 0, 1, "a"), (1, 3, 0, 1, "b")]),
         ("ATIX 2 before 1", &[(1, 2, 0, 1, "a"), (1, 1, 0, 1, "b")]),
         ("ATIX counted on in a child", &[(1, 1, 0, 1, ""), (1, 2, 1, 1, "b")]),
-        ("ATIX counted on under the next parent", &[(1, 1, 0, 1, ""), (2, 1, 1, 1, ""), (1, 2, 0, 1, ""), (2, 2, 3, 1, "")]),
+        (
+            "ATIX counted on under the next parent",
+            &[(1, 1, 0, 1, ""), (2, 1, 1, 1, ""), (1, 2, 0, 1, ""), (2, 2, 3, 1, "")],
+        ),
         ("a value beside a child", &[(1, 1, 0, 1, "v"), (2, 1, 1, 1, "w")]),
         ("a value beside a grandchild", &[(1, 1, 0, 1, ""), (2, 1, 1, 1, "v"), (3, 1, 2, 1, "w")]),
     ];
@@ -42,8 +45,14 @@ fn whole_trees(table: &mut Table) {
 fn good_trees(table: &mut Table) {
     let rows: [(&str, &[Tuple]); 4] = [
         ("codes that repeat apart", &[(1, 1, 0, 1, "a"), (2, 1, 0, 1, ""), (1, 2, 0, 1, "b"), (2, 2, 0, 1, "")]),
-        ("a code inside itself", &[(1, 1, 0, 1, ""), (1, 1, 1, 1, ""), (1, 1, 2, 1, "v"), (1, 2, 1, 1, ""), (1, 2, 0, 1, "")]),
-        ("back to the top from the third level", &[(1, 1, 0, 1, ""), (2, 1, 1, 1, ""), (3, 1, 2, 1, "v"), (4, 1, 0, 1, "")]),
+        (
+            "a code inside itself",
+            &[(1, 1, 0, 1, ""), (1, 1, 1, 1, ""), (1, 1, 2, 1, "v"), (1, 2, 1, 1, ""), (1, 2, 0, 1, "")],
+        ),
+        (
+            "back to the top from the third level",
+            &[(1, 1, 0, 1, ""), (2, 1, 1, 1, ""), (3, 1, 2, 1, "v"), (4, 1, 0, 1, "")],
+        ),
         ("an empty entry without children", &[(1, 1, 0, 1, "")]),
     ];
     for (name, tree) in rows {
@@ -68,7 +77,8 @@ fn parents_sent(table: &mut Table) {
         ("a delete tuple as parent, further down", &[(22, 1, 0, 3, ""), (26, 1, 1, 2, ""), (27, 1, 2, 1, "")]),
         ("a PAIX of all ones", &[(22, 1, 0, 3, ""), (25, 1, 65535, 3, "z")]),
     ];
-    let other_edition = |acts: &[Vec<Field>]| [vec![heading()[0].clone(), vec![dsid(2, "CHART", 4, 8)]], acts.to_vec()].concat();
+    let other_edition =
+        |acts: &[Vec<Field>]| [vec![heading()[0].clone(), vec![dsid(2, "CHART", 4, 8)]], acts.to_vec()].concat();
     for (name, tuples) in rows {
         table.act(&format!("modify with {name}"), edit(tuples), 6);
         table.update(&format!("modify with {name}, before 8"), &other_edition(&[edit(tuples)]), 6, 3);
@@ -89,7 +99,8 @@ fn applied(table: &mut Table) {
         ("a value sent after a child was put", &[(22, 2, 0, 3, ""), (30, 1, 1, 1, ""), (22, 2, 0, 3, "v")]),
         ("a child under a value that was set before", &[(22, 2, 0, 3, "v"), (30, 1, 1, 1, "")]),
     ];
-    let wrong_update = |acts: &[Vec<Field>]| [vec![heading()[0].clone(), vec![dsid(2, "CHART", 3, 9)]], acts.to_vec()].concat();
+    let wrong_update =
+        |acts: &[Vec<Field>]| [vec![heading()[0].clone(), vec![dsid(2, "CHART", 3, 9)]], acts.to_vec()].concat();
     for (name, tuples) in rows {
         table.act(&format!("modify with {name}"), edit(tuples), 6);
         table.update(&format!("modify with {name}, after 8"), &wrong_update(&[edit(tuples)]), 8, 2);

@@ -106,10 +106,18 @@ fn identifier_bounds(table: &mut Table) {
     for (place, id, others) in kinds() {
         let tag = String::from_utf8_lossy(&id.tag).to_string();
         let with_id = |id: Field| [vec![id], others.clone()].concat();
-        table.good_specimen(&format!("{tag} with the greatest RCID"), place, with_id(with(id.clone(), 1, &[254, 255, 255, 255])));
+        table.good_specimen(
+            &format!("{tag} with the greatest RCID"),
+            place,
+            with_id(with(id.clone(), 1, &[254, 255, 255, 255])),
+        );
         table.good_specimen(&format!("{tag} with RCID 1"), place, with_id(with(id.clone(), 1, &[1, 0, 0, 0])));
         if id.body.len() == 10 {
-            table.good_specimen(&format!("{tag} with the greatest code"), place, with_id(with(id.clone(), 5, &[254, 255])));
+            table.good_specimen(
+                &format!("{tag} with the greatest code"),
+                place,
+                with_id(with(id.clone(), 5, &[254, 255])),
+            );
             table.good_specimen(&format!("{tag} with code 0"), place, with_id(with(id.clone(), 5, &[0, 0])));
         }
         let mut records = dataset();
@@ -208,7 +216,8 @@ fn spatial(table: &mut Table) {
         let fields = vec![frid(NEW, 1, 1, 1), foid(0, 0, 0), list];
         table.specimen(&format!("SPAS with {name}"), AS_FEATURE, 5, fields);
     }
-    let (cut, rest) = (field("SPAS", spas(&PLACES).body[..7].to_vec()), field("SPAS", spas(&PLACES).body[7..].to_vec()));
+    let (cut, rest) =
+        (field("SPAS", spas(&PLACES).body[..7].to_vec()), field("SPAS", spas(&PLACES).body[7..].to_vec()));
     table.specimen("a tuple over two SPAS", AS_FEATURE, 5, vec![frid(NEW, 1, 1, 1), foid(0, 0, 0), cut, rest]);
 }
 
@@ -278,7 +287,11 @@ fn accepted(table: &mut Table) {
     table.good_specimen("coordinates of separators", AS_MULTI, vec![mrid(NEW, 1, 1), c2il(&separators)]);
     table.good_specimen("a point at -1, -1", AS_POINT, vec![prid(0x1e1f1e1f, 1, 1), c2it(-1, -1)]);
     let codes = [(0x1e1f, 1, 0, 1, "v"), (65534, 1, 0, 1, ""), (0, 1, 2, 1, "\u{7f}\u{80}\0 ")];
-    table.good_specimen("codes and values at their bounds", AS_INFORMATION, vec![irid(NEW, 0x1f1e, 1, 1), attr(&codes)]);
+    table.good_specimen(
+        "codes and values at their bounds",
+        AS_INFORMATION,
+        vec![irid(NEW, 0x1f1e, 1, 1), attr(&codes)],
+    );
     let named = inas(5, 65534, 0, 1, &codes);
     table.good_specimen("an association at the bounds", AS_POINT, vec![prid(NEW, 1, 1), named, c2it(0, 0)]);
     table.good_specimen("a multi point of nothing", AS_MULTI, vec![mrid(NEW, 1, 1)]);

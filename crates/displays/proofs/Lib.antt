@@ -1,0 +1,5 @@
+pub mod Room
+pub mod Ruled
+pub mod Form
+pub mod Demand
+pub mod Own

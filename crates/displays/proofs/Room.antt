@@ -1,0 +1,119 @@
+-- Room decides 13 and 15 and nothing else. Assumes nothing.
+use Prim.Native.Nat.{ℕ, _-_, _≤_, _<_}
+use mathlib.Core.Path.{_≡_, refl, sym, ap, _∙_}
+use mathlib.Core.Bool.{true, false}
+use mathlib.Core.List.{List}
+use native.Mathlib.Omega.{arith}
+use borrow.Author.Tests.{lt-ltb, le-ltb}
+use lib.ListN.{length, replicate}
+use lib.Seq.{take-append-seam}
+use lib.Dec.{eqb, ltb}
+use Rattle.base.specs.Choice.{pick}
+use Rattle.base.specs.Check.{fault}
+use Rattle.base.specs.declared.Fault.{Fault}
+use Rattle.rules.specs.Written.{Dataset, writtenBytes, count}
+use Rattle.rules.specs.Outcome.{Outcome, done, refused, andThen}
+use Rattle.rules.specs.File.{readDataset, writable, readUpdate}
+use Rattle.rules.specs.Update.{updated}
+use Rattle.rules.specs.Answers.{refusal, success, Written, notTooLong, roomFor, outputOf, enoughWork, updateOutcome, update}
+use Rattle.rules.proofs.OutcomeLaws.{andThen-assoc}
+use Rattle.numbers.specs.Fair.{fair, FairOutcome, fair-done, fair-refused}
+use Rattle.numbers.proofs.Checks.{fair-then}
+use Rattle.numbers.proofs.Files.{fair-read, fair-sent, fair-writable, fair-length, fair-updated}
+use Rattle.sequence.proofs.Tests.{by-bool}
+use Rattle.updates.proofs.Streams.{alike}
+use Rattle.displays.specs.Display.{Handed, taken, after, ruled}
+
+-- a result in an output slice of so many bytes: 13, or what is written
+unfoldable pub inRoom : ℕ → Dataset → Outcome Written
+inRoom room r = pick (ltb room (length (writtenBytes r))) (refused 3 0 (fault 13 0 0)) (done (record { bytes = writtenBytes r; records = count r }))
+
+-- the updater: 15, then what the rules alone say, then 13
+pub room-decides : (room work : ℕ) (c f : List ℕ) → updateOutcome room work c f ≡ andThen (enoughWork work) (λ _. andThen (ruled c f) (λ r. inRoom room r))
+unfolding updateOutcome ruled roomFor inRoom andThen
+room-decides room work c f =
+    alike (enoughWork work) _ _ (λ _ _.
+    alike (notTooLong 1 c) _ _ (λ _ _.
+    alike (notTooLong 2 f) _ _ (λ _ _.
+    alike (readDataset c) _ _ (λ d _.
+    alike (writable d) _ _ (λ w _.
+    alike (readUpdate f) _ _ (λ u _.
+    alike (updated w u) _ _ (λ r _. sym (andThen-assoc (notTooLong 3 (writtenBytes r)) (λ _. done r) (λ r. inRoom room r)))
+    ∙ sym (andThen-assoc (updated w u) _ _))
+    ∙ sym (andThen-assoc (readUpdate f) _ _))
+    ∙ sym (andThen-assoc (writable d) _ _))
+    ∙ sym (andThen-assoc (readDataset c) _ _))
+    ∙ sym (andThen-assoc (notTooLong 2 f) _ _))
+    ∙ sym (andThen-assoc (notTooLong 1 c) _ _))
+
+-- the rules alone never refuse with 0, 13 or 15
+pub ruled-fair : (c f : List ℕ) → FairOutcome (ruled c f)
+unfolding ruled
+ruled-fair c f =
+    fair-then _ _ (fair-length 1 c) (λ _.
+    fair-then _ _ (fair-length 2 f) (λ _.
+    fair-then _ _ (fair-read c) (λ d.
+    fair-then _ _ (fair-writable d) (λ w.
+    fair-then _ _ (fair-sent f) (λ u.
+    fair-then _ _ (fair-updated w u) (λ r.
+    fair-then _ _ (fair-length 3 (writtenBytes r)) (λ _. fair-done)))))))
+
+-- ---- the answers
+
+module _ (room work : ℕ) (c f : List ℕ) where
+  -- with room for the result, the result and nothing else
+  pub answer-done : (r : Dataset) → ruled c f ≡ done r → length (writtenBytes r) ≤ room → 400000 ≤ work
+      → update c f room work ≡ outputOf room (done (record { bytes = writtenBytes r; records = count r }))
+  unfolding update enoughWork inRoom andThen
+  answer-done r e h g = ap (outputOf room) (room-decides room work c f ∙ rw (le-ltb work 400000 g, e, le-ltb room (length (writtenBytes r)) h))
+
+  -- without room for it, 13
+  pub answer-13 : (r : Dataset) → ruled c f ≡ done r → room < length (writtenBytes r) → 400000 ≤ work → update c f room work ≡ outputOf room (refused 3 0 (fault 13 0 0))
+  unfolding update enoughWork inRoom andThen
+  answer-13 r e h g = ap (outputOf room) (room-decides room work c f ∙ rw (le-ltb work 400000 g, e, lt-ltb room (length (writtenBytes r)) h))
+
+  -- what the rules refuse is refused so in any room
+  pub answer-refused : (file n : ℕ) (x : Fault) → ruled c f ≡ refused file n x → 400000 ≤ work → update c f room work ≡ outputOf room (refused file n x)
+  unfolding update enoughWork andThen
+  answer-refused file n x e g = ap (outputOf room) (room-decides room work c f ∙ rw (le-ltb work 400000 g, e))
+
+-- ---- what a display makes of them
+
+-- a fair number is not 0
+not-zero : (n : ℕ) → fair n ≡ true → eqb n 0 ≡ false
+unfolding fair
+not-zero n e = by-bool (eqb n 0) (λ h. absurd (let y = rw h at e in let z : _≡_ {A = ℕ} 0 1 = cc in omega arith)) (λ h. h)
+
+-- it keeps its chart on a refusal
+keeps : (c : List ℕ) (room file n : ℕ) (x : Fault) → eqb (x .number) 0 ≡ false → taken c (outputOf room (refused file n x)) ≡ c
+unfolding taken outputOf refusal
+keeps c room file n x e = rw e
+
+-- it takes what was written
+pub takes : (c : List ℕ) (room : ℕ) (w : Written) → taken c (outputOf room (done w)) ≡ w .bytes
+unfolding taken outputOf success
+takes c room w = take-append-seam (w .bytes) (replicate (room - length (w .bytes)) 0)
+
+-- one file: the chart stays, or it becomes the written form of what the rules make of it
+pub data Turn (c : List ℕ) (h : Handed) : Type 0 where
+  stays : after c h ≡ c → Turn c h
+  moves : (r : Dataset) → ruled c (h .file) ≡ done r → after c h ≡ writtenBytes r → Turn c h
+
+-- by what the rules say
+turn-by : (c : List ℕ) (h : Handed) (m : Outcome Dataset) → ruled c (h .file) ≡ m → FairOutcome m → Turn c h
+unfolding after update inRoom enoughWork andThen
+turn-by c h m e p =
+    by-bool (ltb (h .work) 400000)
+    (λ l. stays (ap (λ (o : Outcome Written). taken c (outputOf (h .room) o)) (room-decides (h .room) (h .work) c (h .file) ∙ rw l) ∙ keeps c (h .room) 0 0 (fault 15 0 0) refl))
+    (λ l. go m e p (λ o y. ap (λ (o : Outcome Written). taken c (outputOf (h .room) o)) (room-decides (h .room) (h .work) c (h .file) ∙ rw (l, y))))
+  where
+    go : (m : Outcome Dataset) → ruled c (h .file) ≡ m → FairOutcome m
+        → ((o : Outcome Dataset) → ruled c (h .file) ≡ o → after c h ≡ taken c (outputOf (h .room) (andThen o (λ r. inRoom (h .room) r)))) → Turn c h
+    go (refused file n x) e (fair-refused q) k = stays (k (refused file n x) e ∙ keeps c (h .room) file n x (not-zero (x .number) q))
+    go (done r) e fair-done k =
+        by-bool (ltb (h .room) (length (writtenBytes r)))
+        (λ l. stays (k (done r) e ∙ rw l (keeps c (h .room) 3 0 (fault 13 0 0) refl)))
+        (λ l. moves r e (k (done r) e ∙ rw l (takes c (h .room) _)))
+
+pub turn : (c : List ℕ) (h : Handed) → Turn c h
+turn c h = turn-by c h (ruled c (h .file)) refl (ruled-fair c (h .file))

@@ -1,0 +1,1 @@
+// Displays that take a publisher's files from a cable: laws only.

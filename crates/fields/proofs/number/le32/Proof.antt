@@ -1,0 +1,42 @@
+use Rattle.fields.proofs.ByteLaws.{le4}
+use native.Mathlib.Omega.{arith}
+use borrow.Author.Needs.{needs}
+use Rattle.fields.proofs.number.le32.Statement.{statement}
+use Rattle.fields.proofs.number.le32.Tie as tie
+
+le16-requires : tie.Need-le16-requires
+le16-requires c κs = search needs
+
+cast-low : tie.Need-cast-low
+cast-low c = search needs
+
+add-le16 : tie.Need-add-le16
+add-le16 c = search needs
+
+le16-requires-2 : tie.Need-le16-requires-2
+le16-requires-2 c κs = search needs
+
+cast-high : tie.Need-cast-high
+cast-high c = search needs
+
+mul-result : tie.Need-mul-result
+mul-result c = search needs
+
+add-result : tie.Need-add-result
+add-result c = search needs
+
+returns : tie.Need-returns
+returns c = omega (arith, le4 (c .before .before .before .args .b .now) (c .before .before .before .args .at) (c .before .before .before .pre))
+
+pub le32-spec : {M : Type 1} → statement M
+le32-spec =
+    tie.close
+    (tie.spec
+    le16-requires
+    cast-low
+    add-le16
+    le16-requires-2
+    cast-high
+    mul-result
+    add-result
+    returns)

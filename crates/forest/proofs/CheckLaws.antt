@@ -1,0 +1,31 @@
+-- Tests one after the other. Assumes nothing.
+use mathlib.Core.Path.{_≡_, refl}
+use Prim.Native.Nat.{ℕ}
+use native.Mathlib.Omega.{arith}
+use Rattle.base.specs.Check.{Check, ok, no, bind, refuse}
+
+-- a refusal is no value
+pub never : {A X : Type 0} {n t : ℕ} {a : A} → refuse n t ≡ ok a → X
+never e = absurd (let z : _≡_ {A = ℕ} 0 1 = cc in omega arith)
+
+-- values that are checked to be the same are the same
+pub ok-same : {A : Type 0} {a b : A} → ok a ≡ ok b → a ≡ b
+ok-same e = cc
+
+-- what came before a value that two tests gave
+pub bind-inv : {A B : Type 0} (c : Check A) (k : A → Check B) (b : B) → bind c k ≡ ok b → (a : A) × (c ≡ ok a) × (k a ≡ ok b)
+unfolding bind
+bind-inv (ok a) k b e = (a, refl, e)
+bind-inv (no f) k b e = absurd (let z : _≡_ {A = ℕ} 0 1 = cc in omega arith)
+
+-- what comes after a test need only agree on the value that it gives
+pub bind-same : {A B : Type 0} (c : Check A) (k l : A → Check B) → ((a : A) → c ≡ ok a → k a ≡ l a) → bind c k ≡ bind c l
+unfolding bind
+bind-same (ok a) k l h = h a refl
+bind-same (no f) k l h = refl
+
+-- a value turned into another, and then a test of that
+pub bind-then : {A B C : Type 0} (c : Check A) (f : A → B) (k : B → Check C) → bind (bind c (λ a. ok (f a))) k ≡ bind c (λ a. k (f a))
+unfolding bind
+bind-then (ok a) f k = refl
+bind-then (no e) f k = refl

@@ -1,0 +1,10 @@
+pub mod Numbers
+pub mod CheckLaws
+pub mod ReaderLaws
+pub mod TupleReader
+pub mod RunLaws
+pub mod TuplesLaws
+pub mod TreeLaws
+pub mod EditLaws
+pub mod FlatLaws
+pub mod Splice

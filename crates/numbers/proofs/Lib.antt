@@ -1,0 +1,6 @@
+pub mod Checks
+pub mod Trees
+pub mod Endings
+pub mod Records
+pub mod Changes
+pub mod Files

@@ -1,0 +1,1 @@
+// What the entry points promise: laws only.

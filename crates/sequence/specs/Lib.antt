@@ -1,0 +1,4 @@
+pub mod Keyed
+pub mod History
+pub mod Order
+pub mod Stream

@@ -1,0 +1,1 @@
+// Updates in sequence: laws only.

@@ -1,0 +1,4 @@
+pub mod Acts
+pub mod Sorted
+pub mod Streamed
+pub mod Accepted

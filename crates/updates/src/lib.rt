@@ -1,0 +1,1 @@
+// The rules' updates as a run over records with keys: laws only.
