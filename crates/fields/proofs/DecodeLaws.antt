@@ -63,11 +63,22 @@ fixed-back n t r c e = (
 )
 
 -- no value of the other sort passes
-no-text : (d : Sub) (t : List ℕ) → both (clean t) false ≡ true → (r : List ℕ) → Back d (txt t) r
-no-text d t p r = absurd (true≢false (sym (both-hold (clean t) false p .1)))
+takes-none : (d : Sub) (n : ℕ) → isNum d ≡ true → takesText d n ≡ false
+unfolding takesText
+takes-none (B11 lo hi) n i = refl
+takes-none (B12 lo hi) n i = refl
+takes-none (B14 lo hi) n i = refl
+takes-none (Among p q s t) n i = refl
+takes-none (Raw w) n i = refl
+takes-none Text n i = absurd (true≢false (sym i))
+takes-none (Fixed w) n i = absurd (true≢false (sym i))
 
-no-num : (d : Sub) (n : ℕ) → both (ltb n 1) false ≡ true → (r : List ℕ) → Back d (num n) r
-no-num d n p r = absurd (true≢false (sym (both-hold (ltb n 1) false p .1)))
+no-text {ℓ} : {X : Type ℓ} (d : Sub) (t : List ℕ) → isNum d ≡ true → passes d (txt t) ≡ true → X
+unfolding passes
+no-text d t i p = absurd (true≢false (sym (both-hold (clean t) (takesText d (length t)) p .1) ∙ takes-none d (length t) i))
+
+no-num {ℓ} : {X : Type ℓ} (n : ℕ) → both (ltb n 1) false ≡ true → X
+no-num n p = absurd (true≢false (sym (both-hold (ltb n 1) false p .1)))
 
 put-back : (d : Sub) (v : Val) (r : List ℕ) → passes d v ≡ true → Back d v r
 unfolding passes allows takesText
@@ -76,13 +87,13 @@ put-back (B12 lo hi) (num n) r p = num-back (B12 lo hi) n r refl p
 put-back (B14 lo hi) (num n) r p = num-back (B14 lo hi) n r refl p
 put-back (Among a b c d) (num n) r p = num-back (Among a b c d) n r refl p
 put-back (Raw w) (num n) r p = num-back (Raw w) n r refl p
-put-back Text (num n) r p = no-num Text n p r
-put-back (Fixed w) (num n) r p = no-num (Fixed w) n p r
-put-back (B11 lo hi) (txt t) r p = no-text (B11 lo hi) t p r
-put-back (B12 lo hi) (txt t) r p = no-text (B12 lo hi) t p r
-put-back (B14 lo hi) (txt t) r p = no-text (B14 lo hi) t p r
-put-back (Among a b c d) (txt t) r p = no-text (Among a b c d) t p r
-put-back (Raw w) (txt t) r p = no-text (Raw w) t p r
+put-back Text (num n) r p = no-num n p
+put-back (Fixed w) (num n) r p = no-num n p
+put-back (B11 lo hi) (txt t) r p = no-text (B11 lo hi) t refl p
+put-back (B12 lo hi) (txt t) r p = no-text (B12 lo hi) t refl p
+put-back (B14 lo hi) (txt t) r p = no-text (B14 lo hi) t refl p
+put-back (Among a b c d) (txt t) r p = no-text (Among a b c d) t refl p
+put-back (Raw w) (txt t) r p = no-text (Raw w) t refl p
 put-back Text (txt t) r p = text-back t r (both-hold (clean t) true p .0)
 put-back (Fixed w) (txt t) r p =
     let q = both-hold (clean t) (eqb (length t) w) p in
@@ -156,15 +167,8 @@ length-puts d ds v vs = length-append (put d v) (puts ds vs)
 
 -- a value for each subfield, and each of them a number
 length-number : (d : Sub) (v : Val) → isNum d ≡ true → passes d v ≡ true → length (put d v) ≡ width d
-unfolding passes takesText
 length-number d (num n) i p = length-num d n
-length-number (B11 lo hi) (txt t) i p = absurd (true≢false (sym (both-hold (clean t) false p .1)))
-length-number (B12 lo hi) (txt t) i p = absurd (true≢false (sym (both-hold (clean t) false p .1)))
-length-number (B14 lo hi) (txt t) i p = absurd (true≢false (sym (both-hold (clean t) false p .1)))
-length-number (Among a b c d) (txt t) i p = absurd (true≢false (sym (both-hold (clean t) false p .1)))
-length-number (Raw w) (txt t) i p = absurd (true≢false (sym (both-hold (clean t) false p .1)))
-length-number Text (txt t) i p = absurd (true≢false (sym i))
-length-number (Fixed w) (txt t) i p = absurd (true≢false (sym i))
+length-number d (txt t) i p = no-text d t i p
 
 pub length-numbers : (ds : List Sub) (vs : List Val) → allNum ds ≡ true → passAll ds vs ≡ true → length (puts ds vs) ≡ widths ds
 unfolding puts passAll

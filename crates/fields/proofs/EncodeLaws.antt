@@ -24,7 +24,7 @@ use Rattle.fields.specs.declared.Sub.{Sub}
 use Rattle.fields.specs.declared.Sub.the-variants.{B11, B12, B14, Among, Raw, Text, Fixed}
 use Rattle.fields.proofs.ByteLaws.{bytes-drop, bytes-le, le-bound, clean-take, run-le}
 use Rattle.fields.proofs.SizeLaws.{isNum, num-size, num-some, text-some, fixed-some, some-inj, size-bound, sizes-cons, sizes-bound}
-use Rattle.fields.proofs.TupleLaws.{First, tuples-end, tuples-on, tuples-ind}
+use Rattle.fields.proofs.TupleLaws.{no-bytes, First, tuples-end, tuples-on, tuples-ind}
 use Rattle.fields.proofs.FieldLaws.{filled, fills}
 use Rattle.fields.proofs.ValueLaws.{num-value, values-first}
 
@@ -64,16 +64,12 @@ puts-values (d ∷ ds) l n h e =
     ∙ sym (take-add (r .0) (r .1) l)
     ∙ ap (λ (k : ℕ). take k l) (r .4)
 
-no-bytes : (l : List ℕ) → length l ≤ 0 → [] ≡ l
-no-bytes [] h = refl
-no-bytes (x ∷ l) h = absurd (not-suc-le-zero h)
-
 pub put-many : (t : List Sub) (l : List ℕ) → (tuples t l) .ending ≡ 0 → Bytes l → putAll t (many t l) ≡ l
 unfolding putAll gather many
 put-many t = tuples-ind t (λ l. Bytes l → putAll t (many t l) ≡ l) base turn
   where
     base : (l : List ℕ) → length l ≤ 0 → Bytes l → putAll t (many t l) ≡ l
-    base l h g = ap (λ (x : Got (List Val)). putAll t (x .items)) (tuples-end t l h) ∙ no-bytes l h
+    base l h g = ap (λ (x : Got (List Val)). putAll t (x .items)) (tuples-end t l h) ∙ sym (no-bytes l h)
 
     turn : (l : List ℕ) → 0 < length l → (f : First t l) → (Bytes (drop (f .bytes) l) → putAll t (many t (drop (f .bytes) l)) ≡ drop (f .bytes) l)
         → Bytes l → putAll t (many t l) ≡ l
