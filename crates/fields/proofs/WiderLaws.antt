@@ -111,76 +111,40 @@ narrows-same : (ds : List Sub) → Narrows ds ds
 narrows-same [] = end
 narrows-same (d ∷ ds) = row same (narrows-same ds)
 
--- the format of the same field in which every change may stand
-abbrev pub wider : Format → Format
-wider Dsid = Dsid
-wider DsidUpdate = Dsid
-wider Irid = Irid
-wider IridNew = Irid
-wider Prid = Prid
-wider PridNew = Prid
-wider Mrid = Mrid
-wider MridNew = Mrid
-wider Frid = Frid
-wider FridNew = Frid
-wider Foid = Foid
-wider Attr = Attr
-wider AttrNew = Attr
-wider InasNew = InasNew
-wider InasGone = InasGone
-wider Spas = Spas
-wider SpasNew = Spas
-wider Cocc = Cocc
-wider C2it = C2it
-wider C2il = C2il
+-- the second is the format of the same field in which other instructions, or a first UPDN, may stand
+pub data Wide : Format → Format → Type 0 where
+  kept : {k : Format} → Wide k k
+  dsid : Wide DsidUpdate Dsid
+  irid : Wide IridNew Irid
+  prid : Wide PridNew Prid
+  mrid : Wide MridNew Mrid
+  frid : Wide FridNew Frid
+  attr : Wide AttrNew Attr
+  spas : Wide SpasNew Spas
 
-head-wider : (k : Format) → Narrows (headOf k) (headOf (wider k))
+head-wider : {k w : Format} → Wide k w → Narrows (headOf k) (headOf w)
 unfolding headOf
-head-wider Dsid = narrows-same (headOf Dsid)
-head-wider DsidUpdate = row same (row same (row same (row same (row same (row same (row same (row same (row same (row (b12 tt tt) (narrows-same _))))))))))
-head-wider Irid = narrows-same (headOf Irid)
-head-wider IridNew = row same (row same (row same (row same (row (b11 tt tt) end))))
-head-wider Prid = narrows-same (headOf Prid)
-head-wider PridNew = row same (row same (row same (row (b11 tt tt) end)))
-head-wider Mrid = narrows-same (headOf Mrid)
-head-wider MridNew = row same (row same (row same (row (b11 tt tt) end)))
-head-wider Frid = narrows-same (headOf Frid)
-head-wider FridNew = row same (row same (row same (row same (row (b11 tt tt) end))))
-head-wider Foid = narrows-same (headOf Foid)
-head-wider Attr = end
-head-wider AttrNew = end
-head-wider InasNew = narrows-same (headOf InasNew)
-head-wider InasGone = narrows-same (headOf InasGone)
-head-wider Spas = end
-head-wider SpasNew = end
-head-wider Cocc = narrows-same (headOf Cocc)
-head-wider C2it = narrows-same (headOf C2it)
-head-wider C2il = end
+head-wider {k} kept = narrows-same (headOf k)
+head-wider dsid = row same (row same (row same (row same (row same (row same (row same (row same (row same (row (b12 tt tt) (row same end))))))))))
+head-wider irid = row same (row same (row same (row same (row (b11 tt tt) end))))
+head-wider prid = row same (row same (row same (row (b11 tt tt) end)))
+head-wider mrid = row same (row same (row same (row (b11 tt tt) end)))
+head-wider frid = row same (row same (row same (row same (row (b11 tt tt) end))))
+head-wider attr = end
+head-wider spas = end
 
-tuple-wider : (k : Format) → Narrows (tupleOf k) (tupleOf (wider k))
+tuple-wider : {k w : Format} → Wide k w → Narrows (tupleOf k) (tupleOf w)
 unfolding tupleOf
-tuple-wider Dsid = end
-tuple-wider DsidUpdate = end
-tuple-wider Irid = end
-tuple-wider IridNew = end
-tuple-wider Prid = end
-tuple-wider PridNew = end
-tuple-wider Mrid = end
-tuple-wider MridNew = end
-tuple-wider Frid = end
-tuple-wider FridNew = end
-tuple-wider Foid = end
-tuple-wider Attr = narrows-same (tupleOf Attr)
-tuple-wider AttrNew = row same (row same (row same (row (b11 tt tt) (row same end))))
-tuple-wider InasNew = narrows-same (tupleOf InasNew)
-tuple-wider InasGone = end
-tuple-wider Spas = narrows-same (tupleOf Spas)
-tuple-wider SpasNew = row same (row same (row same (row same (row same (row (b11 tt tt) end)))))
-tuple-wider Cocc = end
-tuple-wider C2it = end
-tuple-wider C2il = narrows-same (tupleOf C2il)
+tuple-wider {k} kept = narrows-same (tupleOf k)
+tuple-wider dsid = end
+tuple-wider irid = end
+tuple-wider prid = end
+tuple-wider mrid = end
+tuple-wider frid = end
+tuple-wider attr = row same (row same (row same (row (b11 tt tt) (row same end))))
+tuple-wider spas = row same (row same (row same (row same (row same (row (b11 tt tt) end)))))
 
 -- a field has its wider format too, and the same content
-pub format-wider : (k : Format) (b : List ℕ) → fill (headOf k) (tupleOf k) b ≡ true
-    → (fill (headOf (wider k)) (tupleOf (wider k)) b ≡ true) × (content (headOf k) (tupleOf k) b ≡ content (headOf (wider k)) (tupleOf (wider k)) b)
-format-wider k b e = fill-wider (head-wider k) (tuple-wider k) b e
+pub format-wider : {k w : Format} → Wide k w → (b : List ℕ) → fill (headOf k) (tupleOf k) b ≡ true
+    → (fill (headOf w) (tupleOf w) b ≡ true) × (content (headOf k) (tupleOf k) b ≡ content (headOf w) (tupleOf w) b)
+format-wider x b e = fill-wider (head-wider x) (tuple-wider x) b e
