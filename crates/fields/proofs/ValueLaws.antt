@@ -152,7 +152,9 @@ stands [] j b at n g e h = absurd (not-suc-le-zero h)
 stands (d ∷ ds) zero b at n g e h = let r = sizes-cons d ds (drop at b) n e in (at, first-stands d ds b at (r .0) (r .1) n g (r .2) (r .3) (r .4))
 stands (d ∷ ds) (suc j) b at n g e h =
     let r = sizes-cons d ds (drop at b) n e in
-    let ih = stands ds j b (at + r .0) (r .1) (in-bytes d ds b at (r .0) (r .1) n g (r .2) (r .3) (r .4)) (ap (sizes ds) (sym (drop-drop (r .0) at b)) ∙ r .3) (le-of-suc-le-suc h) in
+    let inside : at + r .0 ≤ length b = in-bytes d ds b at (r .0) (r .1) n g (r .2) (r .3) (r .4) in
+    let rest : sizes ds (drop (at + r .0) b) ≡ some (r .1) = ap (sizes ds) (sym (drop-drop (r .0) at b)) ∙ r .3 in
+    let ih = stands ds j b (at + r .0) (r .1) inside rest (le-of-suc-le-suc h) in
     (ih .0, later-stands d ds b at (r .0) (r .1) n g (r .2) (r .3) (r .4) j (ih .0) (ih .1))
 
 -- ---- in a head

@@ -1,6 +1,6 @@
 -- Formats with narrower ranges: what fills them fills the wider ones, with the same values. A dataset's formats take insert alone, an update's more.
 -- Assumes nothing.
-use Prim.Native.Nat.{ℕ, _+_, _≤_, _<_}
+use Prim.Native.Nat.{ℕ, _≤_, _<_}
 use mathlib.Core.Path.{_≡_, refl, sym, ap, ap₂, _∙_}
 use mathlib.Core.Bool.{Bool, true}
 use mathlib.Core.Option.{Option, some}
@@ -9,7 +9,6 @@ use native.Mathlib.Omega.{arith}
 use lib.ListN.{length, drop}
 use lib.Dec.{T, leb, lit≤}
 use borrow.Author.Tests.{le-leb, leb-true}
-use Rattle.base.specs.Choice.{both}
 use Rattle.base.specs.Walk.{Got, before}
 use Rattle.base.proofs.ChoiceLaws.{both-hold}
 use Rattle.fields.specs.Bytes.{le}
@@ -19,7 +18,7 @@ use Rattle.fields.specs.Values.{Val, value, values}
 use Rattle.fields.specs.Content.{tuples, many, fill, content}
 use Rattle.fields.specs.Places.{endingAt}
 use Rattle.fields.specs.declared.Format.{Format}
-use Rattle.fields.specs.declared.Format.the-variants.{Dsid, DsidUpdate, Irid, IridNew, Prid, PridNew, Mrid, MridNew, Frid, FridNew, Foid, Attr, AttrNew, InasNew, InasGone, Spas, SpasNew, Cocc, C2it, C2il}
+use Rattle.fields.specs.declared.Format.the-variants.{Dsid, DsidUpdate, Irid, IridNew, Prid, PridNew, Mrid, MridNew, Frid, FridNew, Attr, AttrNew, Spas, SpasNew}
 use Rattle.fields.specs.declared.Sub.{Sub}
 use Rattle.fields.specs.declared.Sub.the-variants.{B11, B12}
 use Rattle.fields.proofs.SizeLaws.{num-some, sizes-cons, sizes-join}
@@ -45,7 +44,8 @@ in-wider a b c d v p q e =
     let r = both-hold (leb a v) (leb v b) e in
     simp (le-leb c v (omega (arith, leb-true a v (r .0))), le-leb v d (omega (arith, leb-true v b (r .1))))
 
-num-wider : (w : ℕ) (ok wide : ℕ → Bool) (l : List ℕ) (n : ℕ) → ((v : ℕ) → ok v ≡ true → wide v ≡ true) → numSize w ok l ≡ some n → numSize w wide l ≡ some n
+num-wider : (w : ℕ) (ok wide : ℕ → Bool) (l : List ℕ) (n : ℕ) → ((v : ℕ) → ok v ≡ true → wide v ≡ true)
+    → numSize w ok l ≡ some n → numSize w wide l ≡ some n
 unfolding numSize
 num-wider w ok wide l n f e =
     let r = num-some w ok l n e in
@@ -90,7 +90,8 @@ tuples-wider {t} {u} rs = tuples-ind t (λ l. tuples u l ≡ tuples t l) base tu
         let s = sizes-wider rs l (f .bytes) (f .taken) in
         tuples-on u l h (f .bytes) (s .0) (f .some-bytes) ∙ ap₂ before (sym (s .1)) ih ∙ sym (f .found)
 
-pub fill-wider : {h i t u : List Sub} → Narrows h i → Narrows t u → (b : List ℕ) → fill h t b ≡ true → (fill i u b ≡ true) × (content h t b ≡ content i u b)
+pub fill-wider : {h i t u : List Sub} → Narrows h i → Narrows t u → (b : List ℕ) → fill h t b ≡ true
+    → (fill i u b ≡ true) × (content h t b ≡ content i u b)
 unfolding content endingAt many
 fill-wider {h} {i} {t} {u} rh rt b e =
     let r = filled h t b e in
