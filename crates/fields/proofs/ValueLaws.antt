@@ -21,6 +21,7 @@ use Rattle.fields.specs.Content.{fill}
 use Rattle.fields.specs.Places.{subfieldEnd, subfieldsEnd, headPlace}
 use Rattle.fields.specs.declared.Sub.{Sub}
 use Rattle.fields.specs.declared.Sub.the-variants.{B11, B12, B14, Among, Raw, Text, Fixed}
+use Rattle.fields.specs.declared.Stop.{Stop}
 use Rattle.fields.specs.declared.Stop.the-variants.{At, Bad}
 use Rattle.fields.proofs.SizeLaws.{isNum, some-inj, num-size, num-some, text-some, size-bound, sizes-cons, at-inj, end-nil, end-cons}
 use Rattle.fields.proofs.TupleLaws.{Next}
@@ -151,7 +152,9 @@ stands [] j b at n g e h = absurd (not-suc-le-zero h)
 stands (d ∷ ds) zero b at n g e h = let r = sizes-cons d ds (drop at b) n e in (at, first-stands d ds b at (r .0) (r .1) n g (r .2) (r .3) (r .4))
 stands (d ∷ ds) (suc j) b at n g e h =
     let r = sizes-cons d ds (drop at b) n e in
-    let ih = stands ds j b (at + r .0) (r .1) (in-bytes d ds b at (r .0) (r .1) n g (r .2) (r .3) (r .4)) (ap (sizes ds) (sym (drop-drop (r .0) at b)) ∙ r .3) (le-of-suc-le-suc h) in
+    let inside : at + r .0 ≤ length b = in-bytes d ds b at (r .0) (r .1) n g (r .2) (r .3) (r .4) in
+    let rest : sizes ds (drop (at + r .0) b) ≡ some (r .1) = ap (sizes ds) (sym (drop-drop (r .0) at b)) ∙ r .3 in
+    let ih = stands ds j b (at + r .0) (r .1) inside rest (le-of-suc-le-suc h) in
     (ih .0, later-stands d ds b at (r .0) (r .1) n g (r .2) (r .3) (r .4) j (ih .0) (ih .1))
 
 -- ---- in a head
@@ -177,23 +180,25 @@ module _ (h t : List Sub) (b : List ℕ) (e : fill h t b ≡ true) where
       let p : r .0 ≡ o = r .1 .constant o q ∙ zero-add o in
       rw p at (r .1 .number w i)
 
-  -- the walk to a subfield comes there
-  pub place-found : (j : ℕ) → j < length h → headPlace h j b ≡ Bad → ⊥
-  unfolding headPlace
-  place-found j g q = let r = head-stands j g in let z : _≡_ {A = ℕ} 0 1 = cc (r .1 .before) in omega arith
+  -- r, what the walk to subfield j gives
+  module _ (j : ℕ) (r : Stop) (got : r ≡ headPlace h j b) where
+    -- it comes there
+    pub place-found : j < length h → r ≡ Bad → ⊥
+    unfolding headPlace
+    place-found g q = let x = head-stands j g in let z : _≡_ {A = ℕ} 0 1 = cc (x .1 .before) in omega arith
 
-  placed : (j p : ℕ) → j < length h → headPlace h j b ≡ At p → Stands h j b 0 (filled h t b e .bytes) p
-  unfolding headPlace
-  placed j p g q = let r = head-stands j g in let s : r .0 ≡ p = at-inj (sym (r .1 .before) ∙ q) in rw s at (r .1)
+    placed : (p : ℕ) → j < length h → r ≡ At p → Stands h j b 0 (filled h t b e .bytes) p
+    unfolding headPlace
+    placed p g q = let x = head-stands j g in let s : x .0 ≡ p = at-inj (sym (x .1 .before) ∙ sym got ∙ q) in rw s at (x .1)
 
-  -- a number there
-  pub placed-number : (j p w : ℕ) → isNumber h j w ≡ true → headPlace h j b ≡ At p → (p + w ≤ length b) × (numAt (values h b) j ≡ le w (drop p b))
-  placed-number j p w i q = placed j p (is-there h j w i) q .number w i
+    -- a number there
+    pub placed-number : (p w : ℕ) → isNumber h j w ≡ true → r ≡ At p → (p + w ≤ length b) × (numAt (values h b) j ≡ le w (drop p b))
+    placed-number p w i q = placed p (is-there h j w i) q .number w i
 
-  -- a text there, which ends before the field does
-  pub placed-text : (j p : ℕ) → isTextAt h j ≡ true → headPlace h j b ≡ At p
-      → (p + run (drop p b) < length b) × (textAt (values h b) j ≡ take (run (drop p b)) (drop p b))
-  placed-text j p i q = placed j p (text-there h j i) q .text i
+    -- a text there, which ends before the field does
+    pub placed-text : (p : ℕ) → isTextAt h j ≡ true → r ≡ At p
+        → (p + run (drop p b) < length b) × (textAt (values h b) j ≡ take (run (drop p b)) (drop p b))
+    placed-text p i q = placed p (text-there h j i) q .text i
 
 -- ---- in a tuple from p to n
 
