@@ -1,7 +1,7 @@
 -- Room decides 13 and 15 and nothing else. Assumes nothing.
 use Prim.Native.Nat.{ℕ, _-_, _≤_, _<_}
 use mathlib.Core.Path.{_≡_, refl, sym, ap, _∙_}
-use mathlib.Core.Bool.{true, false}
+use mathlib.Core.Bool.{Bool, true, false}
 use mathlib.Core.List.{List}
 use native.Mathlib.Omega.{arith}
 use borrow.Author.Tests.{lt-ltb, le-ltb}
@@ -77,6 +77,20 @@ module _ (room work : ℕ) (c f : List ℕ) where
   unfolding update enoughWork andThen
   answer-refused file n x e g = ap (outputOf room) (room-decides room work c f ∙ rw (le-ltb work 400000 g, e))
 
+  -- a number that is not fair, 0, 13 or 15, from a workspace that is long enough: the rules alone accept
+  pub no-other : 400000 ≤ work → fair (((update c f room work) .answer) .number) ≡ false → (r : Dataset) × (ruled c f ≡ done r)
+  no-other g e = go (ruled c f) refl (ruled-fair c f)
+    where
+      clash : {b : Bool} → b ≡ true → b ≡ false → ⊥
+      clash x y = let z : _≡_ {A = ℕ} 0 1 = cc in omega arith
+
+      number-of : (file n : ℕ) (y : Fault) → ruled c f ≡ refused file n y → y .number ≡ ((update c f room work) .answer) .number
+      number-of file n y x = unfold outputOf refusal in rw (answer-refused file n y x g)
+
+      go : (m : Outcome Dataset) → ruled c f ≡ m → FairOutcome m → (r : Dataset) × (ruled c f ≡ done r)
+      go (done r) x p = (r, x)
+      go (refused file n y) x (fair-refused q) = absurd (clash q (ap fair (number-of file n y x) ∙ e))
+
 -- ---- what a display makes of them
 
 -- a fair number is not 0
@@ -115,5 +129,6 @@ turn-by c h m e p =
         (λ l. stays (k (done r) e ∙ rw l (keeps c (h .room) 3 0 (fault 13 0 0) refl)))
         (λ l. moves r e (k (done r) e ∙ rw l (takes c (h .room) _)))
 
+-- any file
 pub turn : (c : List ℕ) (h : Handed) → Turn c h
 turn c h = turn-by c h (ruled c (h .file)) refl (ruled-fair c (h .file))
