@@ -5,3 +5,6 @@ pub mod TestLaws
 pub mod TurnLaws
 pub mod TupleShape
 pub mod FieldRule
+pub mod AttrRules
+pub mod FieldLaws
+pub mod VerdictLaws
