@@ -18,6 +18,7 @@ use Rattle.rules.specs.Answers.{refusal, success, Written, notTooLong, roomFor,
 use Rattle.rules.proofs.OutcomeLaws.{andThen-assoc}
 use Rattle.numbers.specs.Fair.{fair, FairOutcome, fair-done, fair-refused}
 use Rattle.numbers.proofs.Checks.{fair-then}
+use Rattle.numbers.proofs.Answers.{not-zero}
 use Rattle.numbers.proofs.Files.{fair-read, fair-sent, fair-writable, fair-length, fair-updated}
 use Rattle.sequence.proofs.Tests.{by-bool}
 use Rattle.updates.proofs.Streams.{alike}
@@ -87,11 +88,6 @@ module _ (room work : ℕ) (c f : List ℕ) where
       go (refused file n y) x (fair-refused q) = absurd (clash q (ap fair (number-of file n y x) ∙ e))
 
 -- ---- what a display makes of them
-
--- a fair number is not 0
-not-zero : (n : ℕ) → fair n ≡ true → eqb n 0 ≡ false
-unfolding fair
-not-zero n e = by-bool (eqb n 0) (λ h. absurd (let y = rw h at e in let z : _≡_ {A = ℕ} 0 1 = cc in omega arith)) (λ h. h)
 
 -- it keeps its chart on a refusal
 keeps : (c : List ℕ) (room file n : ℕ) (x : Fault) → eqb (x .number) 0 ≡ false → taken c (outputOf room (refused file n x)) ≡ c
