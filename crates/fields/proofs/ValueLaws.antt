@@ -72,6 +72,9 @@ num-value (Fixed n) l i = absurd (true≢false (sym i))
 num-takes : (d : Sub) (l : List ℕ) (m : ℕ) → isNum d ≡ true → size d l ≡ some m → width d ≡ m
 num-takes d l m i e = num-some (width d) (allows d) l m (sym (num-size d l i) ∙ e) .0
 
+num-allowed : (d : Sub) (l : List ℕ) (m : ℕ) → isNum d ≡ true → size d l ≡ some m → allows d (numOf (value d l)) ≡ true
+num-allowed d l m i e = rw (num-value d l i) (num-some (width d) (allows d) l m (sym (num-size d l i) ∙ e) .2)
+
 text-takes : (d : Sub) (l : List ℕ) (m : ℕ) → isText d ≡ true → size d l ≡ some m → (run l + 1 ≡ m) × (value d l ≡ txt (take (run l) l))
 unfolding size value
 text-takes (B11 lo hi) l m i e = absurd (true≢false (sym i))
@@ -97,6 +100,7 @@ end-first d ds b at m e = end-cons d ds b at ∙ rw e
 pub record Stands (ds : List Sub) (j : ℕ) (b : List ℕ) (at n p : ℕ) : Type 0 where
   pub before : subfieldsEnd (take j ds) b at ≡ At p
   pub number : (w : ℕ) → isNumber ds j w ≡ true → (p + w ≤ length b) × (numAt (values ds (drop at b)) j ≡ le w (drop p b))
+  pub allowed : (w : ℕ) → isNumber ds j w ≡ true → allows (getD ds j Text) (numAt (values ds (drop at b)) j) ≡ true
   pub text : isTextAt ds j ≡ true → (p + run (drop p b) < length b) × (textAt (values ds (drop at b)) j ≡ take (run (drop p b)) (drop p b))
   pub last-text : isTextAt ds j ≡ true → length ds ≡ suc j → p + run (drop p b) + 1 ≡ at + n
   pub constant : (o : ℕ) → lies ds j o ≡ true → p ≡ at + o
@@ -120,6 +124,7 @@ module _ (d : Sub) (ds : List Sub) (b : List ℕ) (at m k n : ℕ) (g : at ≤ l
         let r = both-hold (isNum d) (eqb (width d) w) i in
         let v : width d ≡ w = eqb-true (width d) w (r .1) in
         (omega (arith, num-takes d (drop at b) m (r .0) e, in-bytes), ap numOf (num-value d (drop at b) (r .0)) ∙ ap (λ (x : ℕ). le x (drop at b)) v);
+    allowed = λ w i. num-allowed d (drop at b) m (both-hold (isNum d) (eqb (width d) w) i .0) e;
     text = λ i.
         let r = text-takes d (drop at b) m i e in
         (omega (arith, r .0, in-bytes), ap textOf (r .1));
@@ -138,6 +143,7 @@ module _ (d : Sub) (ds : List Sub) (b : List ℕ) (at m k n : ℕ) (g : at ≤ l
   later-stands j p r = record {
     before = end-first d (take j ds) b at m e ∙ r .before;
     number = λ w i. let v = r .number w i in (v .0, ap numOf (value-later j) ∙ v .1);
+    allowed = λ w i. ap (λ (v : Val). allows (getD ds j Text) (numOf v)) (value-later j) ∙ r .allowed w i;
     text = λ i. let v = r .text i in (v .0, ap textOf (value-later j) ∙ v .1);
     last-text = λ i h. omega (arith, r .last-text i (omega arith));
     constant = λ o i.
@@ -180,6 +186,10 @@ module _ (h t : List Sub) (b : List ℕ) (e : fill h t b ≡ true) where
       let p : r .0 ≡ o = r .1 .constant o q ∙ zero-add o in
       rw p at (r .1 .number w i)
 
+  -- any number is within its range
+  pub head-allowed : (j w : ℕ) → isNumber h j w ≡ true → allows (getD h j Text) (numAt (values h b) j) ≡ true
+  head-allowed j w i = head-stands j (is-there h j w i) .1 .allowed w i
+
   -- r, what the walk to subfield j gives
   module _ (j : ℕ) (r : Stop) (got : r ≡ headPlace h j b) where
     -- it comes there
@@ -213,6 +223,10 @@ module _ (t : List Sub) (b : List ℕ) (p n : ℕ) (x : Next t b p n) where
       let r = tuple-stands j (is-there t j w i) in
       let s : r .0 ≡ p + o = r .1 .constant o q in
       rw s at (r .1 .number w i)
+
+  -- any number is within its range
+  pub tuple-allowed : (j w : ℕ) → isNumber t j w ≡ true → allows (getD t j Text) (numAt (values t (drop p b)) j) ≡ true
+  tuple-allowed j w i = tuple-stands j (is-there t j w i) .1 .allowed w i
 
   -- a text behind numbers alone, which is the last subfield: it ends one byte before the tuple
   pub tuple-text : (j o : ℕ) → isTextAt t j ≡ true → lies t j o ≡ true → length t ≡ suc j
