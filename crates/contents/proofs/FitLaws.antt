@@ -38,7 +38,10 @@ use Rattle.skeleton.specs.declared.place.Place.{Place}
 use Rattle.skeleton.specs.declared.place.Place.the-variants.{At, Done}
 use Rattle.skeleton.proofs.PlaceLaws.{fields-more}
 use Rattle.rules.specs.Tags.{ATTR, INAS, SPAS, FOID, COCC, C2IT}
-use Rattle.rules.specs.Content.{inasFormat, formatOf, filled as filledBy, stands, allStand}
+use Rattle.rules.specs.Grammar.{ruinByte, asStored}
+use Rattle.rules.specs.Content.{insertOnly, identFormat, inasFormat, formatOf, filled as filledBy, stands, allStand, number5}
+use Rattle.rules.specs.declared.Kind.{Kind}
+use Rattle.rules.specs.declared.Mode.{Mode}
 use Rattle.contents.specs.Fit.{fits, allFit}
 
 -- ---- what number 5 says
@@ -59,6 +62,14 @@ all-fit new i [] u e = refl
 all-fit new i (f ∷ fs) u e =
     let r = bind-inv (stands i (formatOf new (f .tag) (f .body)) (f .body)) (λ _. allStand new (i + 1) fs) u e in
     rw (stands-fill i (formatOf new (f .tag) (f .body)) (f .body) (r .0) (r .1)) (all-fit new (i + 1) fs u (r .2))
+
+-- in a record that it passes
+pub five-fit : (m : Mode) (k : Kind) (f : Field) (fs : List Field) (u : Unit {0}) → number5 m k (f ∷ fs) ≡ ok u → allFit (asStored m (ruinByte k (f .body))) fs ≡ true
+unfolding number5
+five-fit m k f fs u e =
+    let r = bind-inv (stands 1 (identFormat (insertOnly m) k) (f .body)) _ u e in
+    let s = bind-inv (allStand (asStored m (ruinByte k (f .body))) 2 fs) _ u (r .2) in
+    all-fit (asStored m (ruinByte k (f .body))) 2 fs (s .0) (s .1)
 
 -- ---- field by field
 

@@ -14,26 +14,36 @@ use Rattle.rules.specs.declared.Kind.the-variants.{Info, Point, Multi, Feature}
 use Rattle.rules.specs.declared.Mode.{Mode}
 use Rattle.rules.specs.declared.Mode.the-variants.{InDataset, InUpdate}
 
--- ---- RUIN
+-- ---- where its parts stand
 
 module _ (k : Kind) where
-  pub ruin-info : k ≡ Info → _≡_ {A = ℕ} 9 (pick (coded k) 9 7)
+  pub coded-info : k ≡ Info → true ≡ coded k
   unfolding coded
-  ruin-info e = rw e
+  coded-info e = rw e
 
-  pub ruin-point : k ≡ Point → _≡_ {A = ℕ} 7 (pick (coded k) 9 7)
+  pub coded-point : k ≡ Point → false ≡ coded k
   unfolding coded
-  ruin-point e = rw e
+  coded-point e = rw e
 
-  pub ruin-multi : k ≡ Multi → _≡_ {A = ℕ} 7 (pick (coded k) 9 7)
+  pub coded-multi : k ≡ Multi → false ≡ coded k
   unfolding coded
-  ruin-multi e = rw e
+  coded-multi e = rw e
 
-  pub ruin-feature : k ≡ Feature → _≡_ {A = ℕ} 9 (pick (coded k) 9 7)
+  pub coded-feature : k ≡ Feature → true ≡ coded k
   unfolding coded
-  ruin-feature e = rw e
+  coded-feature e = rw e
 
-pub ruleset ruin-place-ways = (ruin-info, ruin-point, ruin-multi, ruin-feature)
+pub ruleset coded-ways = (coded-info, coded-point, coded-multi, coded-feature)
+
+-- one of two places, by whether there is a code
+module _ (k : Kind) (t : Bool) (e : t ≡ coded k) (m n : ℕ) where
+  pub place-behind : t ≡ true → m ≡ pick (coded k) m n
+  place-behind x = rw (← e, x)
+
+  pub place-front : t ≡ false → n ≡ pick (coded k) m n
+  place-front x = rw (← e, x)
+
+pub ruleset place-ways = (place-behind, place-front)
 
 module _ (k : Kind) (b : List ℕ) (at : ℕ) (e : at ≡ pick (coded k) 9 7) where
   ruin-at : ruinByte k b ≡ getD b at 0

@@ -5,3 +5,5 @@ pub mod FitLaws
 pub mod IdentifierLaws
 pub mod CountLaws
 pub mod ContentLaws
+pub mod ReaderLaws
+pub mod TreeLaws

@@ -1,4 +1,4 @@
--- The answers to number 5, from a place of a record's directory on.
+-- The answers to numbers 5 and 6, from a place of a record's directory on.
 use Prim.Native.Nat.{ℕ, _/_}
 use mathlib.Core.Bool.{Bool}
 use mathlib.Core.List.{List}
@@ -13,6 +13,7 @@ use Rattle.skeleton.specs.declared.directory.Shape.{Shape}
 use Rattle.rules.specs.Tags.{C2IL}
 use Rattle.rules.specs.Coordinates.{sent}
 use Rattle.rules.specs.Content.{allStand, counted}
+use Rattle.rules.specs.Trees.{treesStand}
 
 -- each field from number i and place p on has its format
 unfoldable pub standFrom : List ℕ → Shape → Bool → ℕ → ℕ → Verdict
@@ -35,3 +36,7 @@ unfoldable pub restRight : List ℕ → Shape → Bool → ℕ → Verdict
 restRight r h new p =
     let fs = fieldsAt r h p in
     verdictOf (bind (allStand new 2 fs) (λ _. counted (length (sent fs)) 2 fs))
+
+-- the tree rule in each field from number i and place p on
+unfoldable pub treesFrom : List ℕ → Shape → Bool → ℕ → ℕ → Verdict
+treesFrom r h new p i = verdictOf (treesStand new i (fieldsAt r h p))

@@ -3,3 +3,4 @@ pub mod content;
 pub mod counts;
 pub mod formats;
 pub mod identifier;
+pub mod trees;

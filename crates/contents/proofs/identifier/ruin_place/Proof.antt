@@ -1,36 +1,20 @@
-use Rattle.contents.proofs.IdentifierLaws.{ruin-place-ways}
+use Rattle.contents.proofs.IdentifierLaws.{place-ways}
 use native.Mathlib.Omega.{arith}
 use borrow.Author.Needs.{needs}
 use Rattle.contents.proofs.identifier.ruin_place.Statement.{statement}
 use Rattle.contents.proofs.identifier.ruin_place.Tie as tie
 use Rattle.contents.proofs.identifier.ruin_place.Reads as reads
 use Rattle.contents.proofs.identifier.ruin_place.Lts as lts
+use Rattle.contents.proofs.identifier.is_coded.Reads as is-coded-reads
 
-enum-told : tie.Need-enum-told
-enum-told c = search needs
-
-enum-told-2 : tie.Need-enum-told-2
-enum-told-2 c = search needs
-
-enum-told-3 : tie.Need-enum-told-3
-enum-told-3 c = search needs
-
-enum-told-4 : tie.Need-enum-told-4
-enum-told-4 c = search needs
+is-coded-requires : tie.Need-is-coded-requires
+is-coded-requires c κs = search needs
 
 returns : tie.Need-returns
-returns c = search ruin-place-ways
+returns c = search place-ways
 
 returns-2 : tie.Need-returns-2
-returns-2 c = search ruin-place-ways
-
-returns-3 : tie.Need-returns-3
-returns-3 c = search ruin-place-ways
-
-returns-4 : tie.Need-returns-4
-returns-4 c = search ruin-place-ways
+returns-2 c = search place-ways
 
 pub ruin-place-spec : {M : Type 1} → statement M
-ruin-place-spec =
-    tie.close
-    (tie.spec enum-told enum-told-2 enum-told-3 enum-told-4 returns returns-2 returns-3 returns-4)
+ruin-place-spec = tie.close (tie.spec is-coded-requires returns returns-2)
