@@ -1,4 +1,5 @@
 // The records at the front of a file.
+use crate::general::check_general;
 use base::Verdict;
 use rules::Mode;
 use skeleton::directory::Shape;
@@ -6,7 +7,6 @@ use skeleton::file::record_at;
 use skeleton::leader::Head;
 use skeleton::place::Place;
 use skeleton::place::place_at;
-use crate::general::check_general;
 ghost use mathlib.Core.Path.{_≡_};
 ghost use Prim.Native.Nat.{_≤_};
 ghost use lib.ListN.{length};

@@ -43,7 +43,21 @@ fn unread_order(r: &[u8], h: Shape, p: usize, mode: Mode) -> usize
         coui: 0,
         controlled: false,
     };
-    order(r, h, p, &[0x44535349, 0x41544353, 0x49544353, 0x46544353, 0x49414353, 0x46414353, 0x41524353], s)
+    order(
+        r,
+        h,
+        p,
+        &[
+            0x44535349,
+            0x41544353,
+            0x49544353,
+            0x46544353,
+            0x49414353,
+            0x46414353,
+            0x41524353,
+        ],
+        s,
+    )
 }
 
 // The general record: DSID (0x44534944), then the unread fields in their order; DSID has its format.

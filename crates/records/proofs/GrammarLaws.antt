@@ -184,7 +184,7 @@ module _ (r : List ℕ) (h : Shape) (p : ℕ) (s : Instructions) (k : Kind) (n :
 pub ruleset order-kinds = (order-info, order-point, order-multi, order-feature)
 
 -- a refusal of the order is number 4 at a field, never at field 0
-abbrev Said : Passed → Type 0
+abbrev pub Said : Passed → Type 0
 Said (ok u) = u ≡ tt
 Said (no x) = (x ≡ fault 4 (x .field) 0) × (0 < x .field)
 
@@ -192,19 +192,19 @@ said-rows : (o : Option (List Row)) (i : ℕ) → 0 < i → (go : List Row → P
 said-rows none i l go f = (refl, l)
 said-rows (some rows) i l go f = f rows
 
-order-says : (out : ℕ → Bool) (rows : List Row) (i : ℕ) (fs : List Field) → 0 < i → Said (inOrder out rows i fs)
+pub order-says : (out : ℕ → Bool) (rows : List Row) (i : ℕ) (fs : List Field) → 0 < i → Said (inOrder out rows i fs)
 unfolding inOrder
 order-says out rows i [] l = refl
 order-says out rows i (f ∷ fs) l =
     by-test Said (out (f .tag)) _ _ (λ _. (refl, l))
     (λ _. said-rows (rowsAfter (f .tag) rows) i l (λ left. inOrder out left (i + 1) fs) (λ left. order-says out left (i + 1) fs (omega arith)))
 
-pass-of : (c : Passed) → Said c → faultyField c ≡ 0 → c ≡ pass
+pub pass-of : (c : Passed) → Said c → faultyField c ≡ 0 → c ≡ pass
 unfolding faultyField
 pass-of (ok u) s e = ap (λ (v : Unit {0}). ok v) s
 pass-of (no x) s e = absurd (omega arith)
 
-no-of : (c : Passed) (n : ℕ) → Said c → n ≡ faultyField c → (n ≡ 0 → ⊥) → c ≡ no (fault 4 n 0)
+pub no-of : (c : Passed) (n : ℕ) → Said c → n ≡ faultyField c → (n ≡ 0 → ⊥) → c ≡ no (fault 4 n 0)
 unfolding faultyField
 no-of (ok u) n s e z = absurd (z e)
 no-of (no x) n s e z = ap {B = Passed} (λ f. no f) (s .0) ∙ rw e
