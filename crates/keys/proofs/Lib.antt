@@ -1,0 +1,5 @@
+pub mod KeyLaws
+pub mod FirstLaws
+pub mod LookLaws
+pub mod ListLaws
+pub mod SeenLaws

@@ -1,0 +1,2 @@
+// The keys of a dataset's records.
+pub mod look;
