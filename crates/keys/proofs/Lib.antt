@@ -3,3 +3,5 @@ pub mod FirstLaws
 pub mod LookLaws
 pub mod ListLaws
 pub mod SeenLaws
+pub mod BitLaws
+pub mod OnceLaws

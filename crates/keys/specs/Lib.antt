@@ -1,3 +1,5 @@
 pub mod Key
 pub mod Listed
 pub mod Look
+pub mod Bits
+pub mod Once

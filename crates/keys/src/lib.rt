@@ -1,2 +1,4 @@
 // The keys of a dataset's records.
+pub mod bits;
 pub mod look;
+pub mod once;
