@@ -5,11 +5,13 @@ use mathlib.Core.Bool.{Bool, true, false}
 use Prim.Native.Nat.{ℕ, zero, suc, _+_, _-_, _*_, _/_, _%_, _^_, _≤_, _<_}
 use native.Mathlib.Omega.{arith}
 use native.Mathlib.Numerals.{sub-one}
-use borrow.Author.Tests.{ltb-true, ltb-false, eqb-true, eqb-false}
+use borrow.Author.Tests.{eq-eqb, ne-eqb, ltb-true, ltb-false, eqb-true, eqb-false}
 use lib.ListN.{length, getD, set, length-set, List·getD-eq-default}
 use lib.Seq.{getD-set-same, getD-set-other}
 use lib.Dec.{ltb, eqb}
-use Rattle.keys.specs.Bits.{bitOf, flagOf, raised, Free}
+use Rattle.base.specs.Choice.{pick}
+use Rattle.base.proofs.ChoiceLaws.{by-test}
+use Rattle.keys.specs.Bits.{bitOf, flagOf, raised}
 
 -- ---- `bit`
 
@@ -98,67 +100,86 @@ pub ruleset with-bit-ways = (with-bit-fits, with-bit-is, arith)
 
 -- ---- `raise`
 
-not-raised : (t : List ℕ) (j : ℕ) → flagOf t j ≡ false → bitOf (j % 8) (getD t (j / 8) 0) ≡ 0
-unfolding flagOf
-not-raised t j e =
-    let n : bitOf (j % 8) (getD t (j / 8) 0) ≡ 1 → ⊥ = eqb-false _ 1 e in
-    let s = bit-two (j % 8) (getD t (j / 8) 0) in omega arith
-
-pub raise-not : (t : List ℕ) (j : ℕ) → Free t j → j / 8 < length t → bitOf (j % 8) (getD t (j / 8) 0) ≡ 0
-unfolding Free
-raise-not t j q h = not-raised t j (q h)
-
-pub raise-there : (t : List ℕ) (j r : ℕ) → r ≡ getD t (j / 8) 0 + 2 ^ (j % 8) → set t (j / 8) r ≡ raised t j
-unfolding raised
-raise-there t j r e = rw e refl
+-- a flag that is not raised is a bit that is 0
+not-one : (i b : ℕ) → (bitOf i b ≡ 1 → ⊥) → bitOf i b ≡ 0
+not-one i b n = let s = bit-two i b in omega arith
 
 set-past : (t : List ℕ) (i v : ℕ) → length t ≤ i → set t i v ≡ t
 set-past [] i v h = refl
 set-past (x ∷ t) zero v h = absurd (omega arith)
 set-past (x ∷ t) (suc i) v h = ap (λ (u : List ℕ). x ∷ u) (set-past t i v (omega arith))
 
+either-way : (c : Bool) (t u : List ℕ) → u ≡ t → t ≡ pick c t u
+either-way true t u e = refl
+either-way false t u e = sym e
+
 pub raise-past : (t : List ℕ) (j : ℕ) → length t ≤ j / 8 → t ≡ raised t j
 unfolding raised
-raise-past t j h = sym (set-past t (j / 8) _ h)
+raise-past t j h = either-way (flagOf t j) t _ (set-past t (j / 8) _ h)
+
+module _ (t : List ℕ) (j r : ℕ) (e : r ≡ bitOf (j % 8) (getD t (j / 8) 0)) where
+  pub raise-again : r ≡ 1 → t ≡ raised t j
+  unfolding raised flagOf
+  raise-again x = simp (← e, eq-eqb r 1 x)
+
+  pub raise-not : (r ≡ 1 → ⊥) → bitOf (j % 8) (getD t (j / 8) 0) ≡ 0
+  raise-not n = not-one (j % 8) _ (λ z. n (e ∙ z))
+
+  pub raise-there : (r ≡ 1 → ⊥) → (v : ℕ) → v ≡ getD t (j / 8) 0 + 2 ^ (j % 8) → set t (j / 8) v ≡ raised t j
+  unfolding raised flagOf
+  raise-there n v x = rw x (simp (← e, ne-eqb r 1 n))
 
 pub raise-index : (j : ℕ) → j % 8 < 8
 raise-index j = omega arith
 
-pub ruleset raise-ways = (raise-not, raise-there, raise-past, raise-index, arith)
+pub ruleset raise-ways = (raise-past, raise-again, raise-not, raise-there, raise-index, arith)
 
 -- ---- the flags afterwards
-
-pub raised-long : (t : List ℕ) (j : ℕ) → length (raised t j) ≡ length t
-unfolding raised
-raised-long t j = length-set t (j / 8) _
 
 -- no flag is raised in a map of zeroes
 pub flag-none : (t : List ℕ) (j : ℕ) → getD t (j / 8) 0 ≡ 0 → flagOf t j ≡ false
 unfolding flagOf
 flag-none t j e = rw (e, bit-none (j % 8)) refl
 
-module _ (t : List ℕ) (j : ℕ) (h : j / 8 < length t) (e : flagOf t j ≡ false) where
-  pub flag-same : flagOf (raised t j) j ≡ true
-  unfolding flagOf raised
-  flag-same = rw (getD-set-same t (j / 8) (getD t (j / 8) 0 + 2 ^ (j % 8)) 0 h, bit-same (j % 8) (getD t (j / 8) 0) (not-raised t j e)) refl
+pub raised-long : (t : List ℕ) (j : ℕ) → length (raised t j) ≡ length t
+unfolding raised
+raised-long t j = by-test (λ (u : List ℕ). length u ≡ length t) (flagOf t j) _ _ (λ _. refl) (λ _. length-set t (j / 8) _)
 
-  flag-apart : (i : ℕ) → (i ≡ j → ⊥) → flagOf (raised t j) i ≡ flagOf t i
-  unfolding flagOf raised
-  flag-apart i n = go (eqb (i / 8) (j / 8)) refl
-    where
-      go : (b : Bool) → eqb (i / 8) (j / 8) ≡ b
-          → eqb (bitOf (i % 8) (getD (set t (j / 8) (getD t (j / 8) 0 + 2 ^ (j % 8))) (i / 8) 0)) 1 ≡ eqb (bitOf (i % 8) (getD t (i / 8) 0)) 1
-      go true x =
-          let z : i / 8 ≡ j / 8 = eqb-true _ _ x in
-          let m : i % 8 ≡ j % 8 → ⊥ = λ y. n (omega arith) in
-          rw (z, getD-set-same t (j / 8) (getD t (j / 8) 0 + 2 ^ (j % 8)) 0 h, bit-other (j % 8) (i % 8) (getD t (j / 8) 0) (not-raised t j e) m) refl
-      go false x = rw (getD-set-other t (j / 8) (i / 8) (getD t (j / 8) 0 + 2 ^ (j % 8)) 0 (eqb-false _ _ x)) refl
+-- the bit of a flag that is not raised
+flag-clear : (t : List ℕ) (j : ℕ) → flagOf t j ≡ false → bitOf (j % 8) (getD t (j / 8) 0) ≡ 0
+unfolding flagOf
+flag-clear t j e = not-one (j % 8) (getD t (j / 8) 0) (eqb-false _ 1 e)
 
--- also where there is no flag j
-pub flag-other : (t : List ℕ) (j : ℕ) → Free t j → (i : ℕ) → (i ≡ j → ⊥) → flagOf (raised t j) i ≡ flagOf t i
-unfolding Free
-flag-other t j q i n = go (ltb (j / 8) (length t)) refl
+-- flag j is raised
+flag-set : (t : List ℕ) (j : ℕ) → j / 8 < length t → flagOf t j ≡ false → flagOf (set t (j / 8) (getD t (j / 8) 0 + 2 ^ (j % 8))) j ≡ true
+unfolding flagOf
+flag-set t j h e =
+    rw (getD-set-same t (j / 8) (getD t (j / 8) 0 + 2 ^ (j % 8)) 0 h, bit-same (j % 8) (getD t (j / 8) 0) (flag-clear t j e)) refl
+
+pub flag-same : (t : List ℕ) (j : ℕ) → j / 8 < length t → flagOf (raised t j) j ≡ true
+unfolding raised
+flag-same t j h = by-test (λ (u : List ℕ). flagOf u j ≡ true) (flagOf t j) _ _ (λ e. e) (λ e. flag-set t j h e)
+
+-- the others are as they were, whether they stand in the same byte or not
+module _ (t : List ℕ) (i j : ℕ) (n : i ≡ j → ⊥) (h : j / 8 < length t) (z : bitOf (j % 8) (getD t (j / 8) 0) ≡ 0) where
+  other-bit : (b : Bool) → eqb (i / 8) (j / 8) ≡ b
+      → bitOf (i % 8) (getD (set t (j / 8) (getD t (j / 8) 0 + 2 ^ (j % 8))) (i / 8) 0) ≡ bitOf (i % 8) (getD t (i / 8) 0)
+  other-bit true x =
+      let y : i / 8 ≡ j / 8 = eqb-true _ _ x in
+      let m : i % 8 ≡ j % 8 → ⊥ = λ w. n (omega arith) in
+      rw (y, getD-set-same t (j / 8) (getD t (j / 8) 0 + 2 ^ (j % 8)) 0 h) (bit-other (j % 8) (i % 8) (getD t (j / 8) 0) z m)
+  other-bit false x = rw (getD-set-other t (j / 8) (i / 8) (getD t (j / 8) 0 + 2 ^ (j % 8)) 0 (eqb-false _ _ x)) refl
+
+  flag-apart : flagOf (set t (j / 8) (getD t (j / 8) 0 + 2 ^ (j % 8))) i ≡ flagOf t i
+  unfolding flagOf
+  flag-apart = ap (λ (b : ℕ). eqb b 1) (other-bit (eqb (i / 8) (j / 8)) refl)
+
+pub flag-other : (t : List ℕ) (i j : ℕ) → (i ≡ j → ⊥) → flagOf (raised t j) i ≡ flagOf t i
+unfolding raised
+flag-other t i j n = go (ltb (j / 8) (length t)) refl
   where
     go : (b : Bool) → ltb (j / 8) (length t) ≡ b → flagOf (raised t j) i ≡ flagOf t i
-    go true x = let h = ltb-true (j / 8) (length t) x in flag-apart t j h (q h) i n
+    go true x =
+        by-test (λ (u : List ℕ). flagOf u i ≡ flagOf t i) (flagOf t j) _ _ (λ _. refl)
+        (λ e. flag-apart t i j n (ltb-true (j / 8) (length t) x) (flag-clear t j e))
     go false x = ap (λ (u : List ℕ). flagOf u i) (sym (raise-past t j (ltb-false (j / 8) (length t) x)))

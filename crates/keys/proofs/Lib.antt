@@ -4,4 +4,5 @@ pub mod LookLaws
 pub mod ListLaws
 pub mod SeenLaws
 pub mod BitLaws
+pub mod MapLaws
 pub mod OnceLaws

@@ -5,19 +5,21 @@ use mathlib.Core.Bool.{Bool, true, false, true≢false}
 use Prim.Native.Nat.{ℕ, suc, _+_, _-_, _*_, _/_, _%_, _^_, _≤_, _<_}
 use native.Mathlib.Omega.{arith}
 use borrow.Author.Tests.{lt-ltb, le-ltb, eq-eqb, ne-eqb, le-leb, ltb-true, ltb-false, leb-true, eqb-true, eqb-false}
-use lib.ListN.{length, getD, take, drop, replicate, length-replicate, getD-replicate, List·getD-eq-default}
+use lib.ListN.{length, take, drop}
 use lib.Seq.{drop-cons}
 use lib.Dec.{leb, ltb, eqb}
 use Rattle.memory.specs.Hold.{zeros}
-use Rattle.memory.proofs.HoldLaws.{length-zeros, getD-zeros}
-use Rattle.base.specs.Choice.{pick, both, either}
+use Rattle.memory.proofs.HoldLaws.{length-zeros}
+use Rattle.base.specs.Choice.{both}
 use Rattle.base.proofs.ChoiceLaws.{by-test, both-hold}
 use Rattle.keys.specs.Listed.{keysFrom, listed, seenFrom}
 use Rattle.keys.specs.Look.{Known}
-use Rattle.keys.specs.Bits.{flagOf, raised, Free}
-use Rattle.keys.specs.Once.{kindIn, largerOf, noneAbove, Marks, Renewed, Once, Comes, Told}
-use Rattle.keys.proofs.ListLaws.{listed-here, listed-later, listed-none, listed-more, split-take}
-use Rattle.keys.proofs.BitLaws.{flag-none, flag-same, flag-other, raised-long}
+use Rattle.keys.specs.Bits.{flagOf, raised}
+use Rattle.keys.specs.Map.{Mapped, kindIn, rcidIn, ofKind, Marks}
+use Rattle.keys.specs.Once.{largerOf, noneAbove, Renewed, Once, Comes, Told}
+use Rattle.keys.proofs.ListLaws.{listed-later, listed-none, listed-more, split-take}
+use Rattle.keys.proofs.BitLaws.{flag-none, raised-long}
+use Rattle.keys.proofs.MapLaws.{zeros-all, mapped-more}
 
 -- ---- the largest key
 
@@ -65,35 +67,19 @@ module _ (f : List ℕ) (start m top k : ℕ) (t : List ℕ) (o : Once f start m
   unfolding seenFrom
   stood-above h = sym (above-new top k (take m (keysFrom f start)) h (o .none-above))
 
-  pub stood-flag : kindIn top ≤ kindIn k → (b : Bool) → (k - top / 4294967296 * 4294967296) / 8 < length t
-      → b ≡ flagOf t (k - top / 4294967296 * 4294967296) → b ≡ seenFrom f start m k
-  unfolding Marks seenFrom
-  stood-flag g b h e =
-      let z : kindIn top * 4294967296 + (k - top / 4294967296 * 4294967296) ≡ k = omega arith in
-      e ∙ o .marks (k - top / 4294967296 * 4294967296) h ∙ ap (λ (n : ℕ). listed n (take m (keysFrom f start))) z
+  pub stood-flag : kindIn top ≤ kindIn k → (b : Bool) → k ≤ top → k % 4294967296 / 8 < length t → b ≡ flagOf t (k % 4294967296) → b ≡ seenFrom f start m k
+  unfolding Marks Mapped ofKind seenFrom
+  stood-flag g b l h e = e ∙ o .marks k (eq-eqb (kindIn k) (kindIn top) (omega arith)) h
 
   pub stood-known : Known f start m
   stood-known = o .known
 
-pub stood-word : (top : ℕ) → top < 2 ^ 64 → top / 4294967296 * 4294967296 < 2 ^ 64
-stood-word top h = omega arith
-
-pub stood-from : (top k : ℕ) → kindIn top ≤ kindIn k → top / 4294967296 * 4294967296 ≤ k
-stood-from top k h = omega arith
-
-pub ruleset stood-ways = (stood-above, stood-flag, stood-known, stood-word, stood-from, arith)
+pub ruleset stood-ways = (stood-above, stood-flag, stood-known, arith)
 
 -- ---- `renew`
 
 pub renew-same : (kind kind' : ℕ) (t : List ℕ) → kind ≡ kind' → Renewed kind kind' t t
 renew-same kind kind' t e = record { long = refl; same = λ _. refl; empty = λ n. absurd (n e) }
-
-zeros-all : (n i : ℕ) → getD (zeros n) i 0 ≡ 0
-zeros-all n i = go (ltb i n) refl
-  where
-    go : (b : Bool) → ltb i n ≡ b → getD (zeros n) i 0 ≡ 0
-    go true e = getD-zeros n i (ltb-true i n e)
-    go false e = List·getD-eq-default (zeros n) 0 (omega (arith, length-zeros n, ltb-false i n e))
 
 pub renew-empty : (kind kind' : ℕ) (t t' : List ℕ) → (kind ≡ kind' → ⊥) → t' ≡ zeros (length t) → Renewed kind kind' t t'
 renew-empty kind kind' t t' n e =
@@ -103,60 +89,37 @@ pub ruleset renew-ways = (renew-same, renew-empty)
 
 -- ---- the map
 
+-- a kind and a place in its map are those of one key
+kind-back : (kind k : ℕ) → ofKind kind k ≡ true → kind * 4294967296 + rcidIn k ≡ k
+unfolding ofKind
+kind-back kind k e = let z : kindIn k ≡ kind = eqb-true (kindIn k) kind e in omega arith
+
 -- for the kind of the next key
 marks-renewed : (l : List ℕ) (top kind' : ℕ) (t t' : List ℕ) → noneAbove top l ≡ true → Marks l (kindIn top) t → kindIn top ≤ kind'
     → Renewed (kindIn top) kind' t t' → Marks l kind' t'
-unfolding Marks
+unfolding Marks Mapped ofKind
 marks-renewed l top kind' t t' na ms h rn = go (eqb (kindIn top) kind') refl
   where
-    go : (b : Bool) → eqb (kindIn top) kind' ≡ b → (j : ℕ) → j / 8 < length t' → flagOf t' j ≡ listed (kind' * 4294967296 + j) l
-    go true e j g =
+    go : (b : Bool) → eqb (kindIn top) kind' ≡ b → (k : ℕ) → eqb (kindIn k) kind' ≡ true → rcidIn k / 8 < length t' → flagOf t' (rcidIn k) ≡ listed k l
+    go true e k x g =
         let z : kindIn top ≡ kind' = eqb-true (kindIn top) kind' e in
         let y = rn .same z in
-        rw (y, ← z) (ms j (omega (arith, rn .long)))
-    go false e j g =
+        rw y (ms k (rw z x) (omega (arith, rn .long)))
+    go false e k x g =
         let z : kindIn top ≡ kind' → ⊥ = eqb-false (kindIn top) kind' e in
-        let w : top < kind' * 4294967296 + j = omega arith in
-        flag-none t' j (rn .empty z (j / 8)) ∙ sym (above-new top (kind' * 4294967296 + j) l w na)
-
-either-true : (b : Bool) → true ≡ either b true
-either-true true = refl
-either-true false = refl
-
-either-false : (b : Bool) → b ≡ either b false
-either-false true = refl
-either-false false = refl
+        let y : kindIn k ≡ kind' = eqb-true (kindIn k) kind' x in
+        let w : top < k = omega arith in
+        flag-none t' (rcidIn k) (rn .empty z (rcidIn k / 8)) ∙ sym (above-new top k l w na)
 
 -- with one key more
-module _ (l : List ℕ) (k : ℕ) (t : List ℕ) (ms : Marks l (kindIn k) t) (new : listed k l ≡ false) where
-  parts : kindIn k * 4294967296 + k % 4294967296 ≡ k
-  parts = omega arith
+own-kind : (k : ℕ) → ofKind (kindIn k) k ≡ true
+unfolding ofKind
+own-kind k = eq-eqb (kindIn k) (kindIn k) refl
 
-  pub marks-free : Free t (k % 4294967296)
-  unfolding Marks Free
-  marks-free h = ms (k % 4294967296) h ∙ ap (λ (n : ℕ). listed n l) parts ∙ new
-
-  free : k % 4294967296 / 8 < length t → flagOf t (k % 4294967296) ≡ false
-  unfolding Free
-  free = marks-free
-
-  flag-more : (j : ℕ) (b : Bool) → eqb j (k % 4294967296) ≡ b → j / 8 < length t
-      → flagOf (raised t (k % 4294967296)) j ≡ listed (kindIn k * 4294967296 + j) (l ++ (k ∷ []))
-  unfolding Marks
-  flag-more j true e h =
-      let z : j ≡ k % 4294967296 = eqb-true j (k % 4294967296) e in
-      let g : k % 4294967296 / 8 < length t = rw (sym z) h in
-      rw (listed-more, z, eq-eqb k (kindIn k * 4294967296 + k % 4294967296) (sym parts), flag-same t (k % 4294967296) g (free g))
-      (either-true (listed (kindIn k * 4294967296 + k % 4294967296) l))
-  flag-more j false e h =
-      let z : j ≡ k % 4294967296 → ⊥ = eqb-false j (k % 4294967296) e in
-      let y : k ≡ kindIn k * 4294967296 + j → ⊥ = λ q. z (omega arith) in
-      rw (listed-more, ne-eqb k (kindIn k * 4294967296 + j) y, flag-other t (k % 4294967296) marks-free j z)
-      (ms j h ∙ either-false (listed (kindIn k * 4294967296 + j) l))
-
-  marks-more : Marks (l ++ (k ∷ [])) (kindIn k) (raised t (k % 4294967296))
-  unfolding Marks
-  marks-more j h = flag-more j (eqb j (k % 4294967296)) refl (omega (arith, raised-long t (k % 4294967296)))
+marks-more : (l : List ℕ) (k : ℕ) (t : List ℕ) → Marks l (kindIn k) t → Marks (l ++ (k ∷ [])) (kindIn k) (raised t (rcidIn k))
+unfolding Marks
+marks-more l k t ms =
+    mapped-more (ofKind (kindIn k)) rcidIn (λ j. kindIn k * 4294967296 + j) (kind-back (kindIn k)) l t ms k (own-kind k)
 
 -- ---- `repeats`
 
@@ -167,13 +130,6 @@ module _ (f : List ℕ) (start m top k : ℕ) (t : List ℕ) (o : Once f start m
     (b : Bool) (eb : b ≡ seenFrom f start m k) (x : b ≡ false) (t' : List ℕ) (rn : Renewed (top / 4294967296) (k / 4294967296) t t') where
   marks-then : Marks (take m (keysFrom f start)) (kindIn k) t'
   marks-then = marks-renewed (take m (keysFrom f start)) top (kindIn k) t t' (o .none-above) (o .marks) h rn
-
-  new : listed k (take m (keysFrom f start)) ≡ false
-  unfolding seenFrom
-  new = sym eb ∙ x
-
-  pub repeats-free : Free t' (k % 4294967296)
-  repeats-free = marks-free (take m (keysFrom f start)) k t' marks-then new
 
   one-more : take (m + 1) (keysFrom f start) ≡ take m (keysFrom f start) ++ (k ∷ [])
   one-more =
@@ -194,10 +150,10 @@ module _ (f : List ℕ) (start m top k : ℕ) (t : List ℕ) (o : Once f start m
       record {
         known = known-more;
         none-above = rw one-more (above-more top (largerOf top k) k (take m (keysFrom f start)) (l .0) (l .1) (o .none-above));
-        marks = rw (one-more, l .2 h) (marks-more (take m (keysFrom f start)) k t' marks-then new);
+        marks = rw (one-more, l .2 h) (marks-more (take m (keysFrom f start)) k t' marks-then);
       }
 
   pub told-false : (t'' : List ℕ) → t'' ≡ raised t' (k % 4294967296) → Told f start m top k t t'' false
   told-false t'' e = record { told = sym x ∙ eb; long = rw e (raised-long t' (k % 4294967296) ∙ rn .long); once = λ _. rw e once-more }
 
-pub ruleset repeats-ways = (told-true, told-false, repeats-free, arith)
+pub ruleset repeats-ways = (told-true, told-false, arith)

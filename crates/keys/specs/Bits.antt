@@ -1,10 +1,10 @@
 -- Flags as bits of bytes.
-use Prim.Native.Nat.{ℕ, zero, suc, _+_, _/_, _%_, _^_, _<_}
-use mathlib.Core.Path.{_≡_}
+use Prim.Native.Nat.{ℕ, zero, suc, _+_, _/_, _%_, _^_}
 use mathlib.Core.List.{List}
-use mathlib.Core.Bool.{Bool, false}
-use lib.ListN.{length, getD, set}
+use mathlib.Core.Bool.{Bool}
+use lib.ListN.{getD, set}
 use lib.Dec.{eqb}
+use Rattle.base.specs.Choice.{pick}
 
 -- bit i of a number, the lowest is bit 0
 unfoldable pub bitOf : ℕ → ℕ → ℕ
@@ -15,10 +15,6 @@ bitOf (suc i) b = bitOf i (b / 2)
 unfoldable pub flagOf : List ℕ → ℕ → Bool
 flagOf t j = eqb (bitOf (j % 8) (getD t (j / 8) 0)) 1
 
--- the flags with flag j raised, which was not
+-- the flags with flag j raised
 unfoldable pub raised : List ℕ → ℕ → List ℕ
-raised t j = set t (j / 8) (getD t (j / 8) 0 + 2 ^ (j % 8))
-
--- flag j, if there is one, is not raised
-unfoldable pub Free : List ℕ → ℕ → Type 0
-Free t j = j / 8 < length t → flagOf t j ≡ false
+raised t j = pick (flagOf t j) t (set t (j / 8) (getD t (j / 8) 0 + 2 ^ (j % 8)))

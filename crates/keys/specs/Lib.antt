@@ -2,4 +2,5 @@ pub mod Key
 pub mod Listed
 pub mod Look
 pub mod Bits
+pub mod Map
 pub mod Once

@@ -1,18 +1,14 @@
 -- What is known of the keys so far, so that a key that stood earlier is found quickly: the largest of them, and a map of the RCIDs of its kind.
-use Prim.Native.Nat.{ℕ, _+_, _*_, _/_, _<_, _≤_}
+use Prim.Native.Nat.{ℕ, _+_, _<_}
 use mathlib.Core.Path.{_≡_}
 use mathlib.Core.List.{List, [], _∷_}
 use mathlib.Core.Bool.{Bool, true, false}
 use lib.ListN.{length, getD, take}
 use lib.Dec.{leb, ltb}
 use Rattle.base.specs.Choice.{pick, both}
-use Rattle.keys.specs.Listed.{keysFrom, listed, seenFrom}
+use Rattle.keys.specs.Listed.{keysFrom, seenFrom}
 use Rattle.keys.specs.Look.{Known}
-use Rattle.keys.specs.Bits.{flagOf}
-
--- the rank of a key's kind
-abbrev pub kindIn : ℕ → ℕ
-kindIn k = k / 4294967296
+use Rattle.keys.specs.Map.{kindIn, Marks}
 
 -- the larger of two
 unfoldable pub largerOf : ℕ → ℕ → ℕ
@@ -22,10 +18,6 @@ largerOf a b = pick (ltb a b) b a
 unfoldable pub noneAbove : ℕ → List ℕ → Bool
 noneAbove top [] = true
 noneAbove top (x ∷ xs) = both (leb x top) (noneAbove top xs)
-
--- flag j of the map says whether the key of that kind with RCID j is among the keys
-unfoldable pub Marks : List ℕ → ℕ → List ℕ → Type 0
-Marks l kind t = (j : ℕ) → j / 8 < length t → flagOf t j ≡ listed (kind * 4294967296 + j) l
 
 -- the same map for the same kind, else an empty one
 pub record Renewed (kind kind' : ℕ) (t t' : List ℕ) : Type 0 where

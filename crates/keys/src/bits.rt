@@ -2,7 +2,7 @@
 ghost use mathlib.Core.Path.{_≡_};
 ghost use Prim.Native.Nat.{_+_, _/_, _^_, _<_};
 ghost use lib.ListN.{length};
-ghost use Rattle.keys.specs.Bits.{bitOf, flagOf, raised, Free};
+ghost use Rattle.keys.specs.Bits.{bitOf, flagOf, raised};
 
 // Bit i of a byte.
 fn bit(b: u8, i: usize) -> u8
@@ -42,13 +42,17 @@ pub fn flag(t: &[u8], j: usize) -> bool
     bit(t[j / 8], j % 8) == 1
 }
 
-// Raises flag j, which is not raised yet; where there is no such flag, nothing.
+// Raises flag j; where there is no such flag, nothing.
 pub fn raise(t: &mut [u8], j: usize)
-    requires { ⌜ Free (now t) j ⌝ }
     ensures { λ _. ⌜ now (t .exit) ≡ raised (now (t .entry)) j ⌝ }
 {
     let i = j / 8;
-    if i < t.len() {
-        t[i] = with_bit(t[i], j % 8);
+    if t.len() <= i {
+        return;
     }
+    let b = t[i];
+    if bit(b, j % 8) == 1 {
+        return;
+    }
+    t[i] = with_bit(b, j % 8);
 }

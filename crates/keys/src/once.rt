@@ -7,7 +7,8 @@ ghost use mathlib.Core.Path.{_≡_};
 ghost use Prim.Native.Nat.{_/_, _≤_};
 ghost use lib.ListN.{length};
 ghost use Rattle.keys.specs.Listed.{seenFrom};
-ghost use Rattle.keys.specs.Once.{kindIn, largerOf, Renewed, Once, Comes, Told};
+ghost use Rattle.keys.specs.Map.{kindIn};
+ghost use Rattle.keys.specs.Once.{largerOf, Renewed, Once, Comes, Told};
 
 // The larger of two.
 pub fn larger(a: u64, b: u64) -> u64
@@ -28,7 +29,7 @@ fn stood(f: &[u8], start: usize, m: usize, top: u64, k: u64, t: &[u8]) -> bool
     if top < k {
         return false;
     }
-    let j = (k - top / 4294967296 * 4294967296) as usize;
+    let j = (k % 4294967296) as usize;
     if t.len() <= j / 8 {
         return seen(f, start, m, k);
     }

@@ -1,6 +1,6 @@
 use Rattle.keys.proofs.OnceLaws.{repeats-ways}
-use native.Mathlib.Omega.{arith}
 use borrow.Author.Needs.{needs}
+use native.Mathlib.Omega.{arith}
 use Rattle.keys.proofs.once.repeats.Statement.{statement}
 use Rattle.keys.proofs.once.repeats.Tie as tie
 use Rattle.keys.proofs.once.repeats.Reads as reads
@@ -22,7 +22,7 @@ renew-requires : tie.Need-renew-requires
 renew-requires c κs = search needs
 
 raise-requires : tie.Need-raise-requires
-raise-requires c κs = search repeats-ways
+raise-requires c κs = search needs
 
 same-length-2 : tie.Need-same-length-2
 same-length-2 c = search needs

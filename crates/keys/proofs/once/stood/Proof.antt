@@ -1,6 +1,6 @@
 use Rattle.keys.proofs.OnceLaws.{stood-ways}
-use native.Mathlib.Omega.{arith}
 use borrow.Author.Needs.{needs}
+use native.Mathlib.Omega.{arith}
 use Rattle.keys.proofs.once.stood.Statement.{statement}
 use Rattle.keys.proofs.once.stood.Tie as tie
 use Rattle.keys.proofs.once.stood.Reads as reads
@@ -11,17 +11,11 @@ use Rattle.keys.proofs.look.seen.Reads as seen-reads
 returns : tie.Need-returns
 returns c = search stood-ways
 
-mul-j : tie.Need-mul-j
-mul-j c = search needs
-
-sub-j : tie.Need-sub-j
-sub-j c = search needs
-
 seen-requires : tie.Need-seen-requires
 seen-requires c κs = search needs
 
 returns-2 : tie.Need-returns-2
-returns-2 c = search stood-ways
+returns-2 c = search needs
 
 flag-requires : tie.Need-flag-requires
 flag-requires c κs = search needs
@@ -30,5 +24,4 @@ returns-3 : tie.Need-returns-3
 returns-3 c = search stood-ways
 
 pub stood-spec : {M : Type 1} → statement M
-stood-spec =
-    tie.close (tie.spec returns mul-j sub-j seen-requires returns-2 flag-requires returns-3)
+stood-spec = tie.close (tie.spec returns seen-requires returns-2 flag-requires returns-3)
