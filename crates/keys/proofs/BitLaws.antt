@@ -104,7 +104,7 @@ pub ruleset with-bit-ways = (with-bit-fits, with-bit-is, arith)
 not-one : (i b : ℕ) → (bitOf i b ≡ 1 → ⊥) → bitOf i b ≡ 0
 not-one i b n = let s = bit-two i b in omega arith
 
-set-past : (t : List ℕ) (i v : ℕ) → length t ≤ i → set t i v ≡ t
+pub set-past : (t : List ℕ) (i v : ℕ) → length t ≤ i → set t i v ≡ t
 set-past [] i v h = refl
 set-past (x ∷ t) zero v h = absurd (omega arith)
 set-past (x ∷ t) (suc i) v h = ap (λ (u : List ℕ). x ∷ u) (set-past t i v (omega arith))

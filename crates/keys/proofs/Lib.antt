@@ -6,3 +6,7 @@ pub mod SeenLaws
 pub mod BitLaws
 pub mod MapLaws
 pub mod OnceLaws
+pub mod SlotLaws
+pub mod SoundLaws
+pub mod TableLaws
+pub mod PresentLaws

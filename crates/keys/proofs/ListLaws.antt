@@ -27,10 +27,10 @@ unfolding listed
 listed-none k = refl
 
 -- a key that is not listed is not the first, and not among the others
-not-first : (k x : ℕ) (l : List ℕ) → listed k (x ∷ l) ≡ false → x ≡ k → ⊥
+pub not-first : (k x : ℕ) (l : List ℕ) → listed k (x ∷ l) ≡ false → x ≡ k → ⊥
 not-first k x l e h = true≢false (sym (listed-here k x l h) ∙ e)
 
-not-later : (k x : ℕ) (l : List ℕ) → listed k (x ∷ l) ≡ false → listed k l ≡ false
+pub not-later : (k x : ℕ) (l : List ℕ) → listed k (x ∷ l) ≡ false → listed k l ≡ false
 not-later k x l e = sym (listed-later k x l (not-first k x l e)) ∙ e
 
 -- one more at the end

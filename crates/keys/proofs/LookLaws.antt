@@ -62,7 +62,14 @@ module _ (f : List ℕ) (p : ℕ) where
 
 -- ---- where there is a key, a quick look finds it
 
--- the key from p on is this one, and then those from p + len on
+-- the bridge: at a record that is right and has a key, a look finds its length and its key
+module _ (f : List ℕ) (p : ℕ) (l : p < length f) (h : Head) (eh : h ≡ recordAt f p) (len base a b : ℕ) (x : h ≡ Good len base a b) where
+  pub look-is : (keyOf (fieldsAt (between f p (p + len)) (record { base = base; a = a; b = b }) 24) ≡ 0 → ⊥)
+      → lookAt f p ≡ At len (keyOf (fieldsAt (between f p (p + len)) (record { base = base; a = a; b = b }) 24))
+  unfolding lookAt
+  look-is n = let w = right f p h eh len base a b x in rw (w .again, first-key f p len base a b (w .walked) n) refl
+
+-- the keys from p on are this one, and then those from p + len on
 pub record Found (f : List ℕ) (p len key : ℕ) : Type 0 where
   pub keys : keysFrom f p ≡ key ∷ keysFrom f (p + len)
   pub long : 0 < len
@@ -74,14 +81,12 @@ FoundBy f p (At len key) = Found f p len key
 FoundBy f p Nothing = ⊥
 
 found-of : (f : List ℕ) (p k : ℕ) (ks : List ℕ) → keysFrom f p ≡ k ∷ ks → (k ≡ 0 → ⊥) → p < length f → (h : Head) → h ≡ recordAt f p → FoundBy f p (lookAt f p)
-unfolding lookAt
 found-of f p k ks e n l (Good len base a b) eh =
     let w = right f p _ eh len base a b refl in
     let g = keys-good f p l _ eh len base a b refl in
-    let fs = fieldsAt (between f p (p + len)) (record { base = base; a = a; b = b }) 24 in
-    let same : keyOf fs ≡ k = let c = sym g ∙ e in cc in
-    let there = first-key f p len base a b (w .walked) (λ z. n (sym same ∙ z)) in
-    rw (w .again, there) (record { keys = g; long = let x = w .long in omega arith; inside = w .inside })
+    let same : keyOf (fieldsAt (between f p (p + len)) (record { base = base; a = a; b = b }) 24) ≡ k = let c = sym g ∙ e in cc in
+    rw (look-is f p l _ eh len base a b refl (λ z. n (sym same ∙ z)))
+    (record { keys = g; long = let x = w .long in omega arith; inside = w .inside })
 found-of f p k ks e n l (Refused j) eh = absurd (omega (arith, ap length e, ap length (keys-refused f p l _ eh j refl)))
 
 pub found : (f : List ℕ) (p k : ℕ) (ks : List ℕ) → keysFrom f p ≡ k ∷ ks → (k ≡ 0 → ⊥) → FoundBy f p (lookAt f p)

@@ -4,3 +4,5 @@ pub mod Look
 pub mod Bits
 pub mod Map
 pub mod Once
+pub mod Slots
+pub mod Table

@@ -2,3 +2,6 @@
 pub mod bits;
 pub mod look;
 pub mod once;
+pub mod present;
+pub mod slots;
+pub mod table;
