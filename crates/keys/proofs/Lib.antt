@@ -10,3 +10,5 @@ pub mod SlotLaws
 pub mod SoundLaws
 pub mod TableLaws
 pub mod PresentLaws
+pub mod NumberLaws
+pub mod IdentLaws

@@ -6,3 +6,4 @@ pub mod Map
 pub mod Once
 pub mod Slots
 pub mod Table
+pub mod Numbered
