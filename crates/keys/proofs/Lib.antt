@@ -12,3 +12,4 @@ pub mod TableLaws
 pub mod PresentLaws
 pub mod NumberLaws
 pub mod IdentLaws
+pub mod PassedLaws

@@ -7,3 +7,4 @@ pub mod Once
 pub mod Slots
 pub mod Table
 pub mod Numbered
+pub mod Standing
