@@ -13,3 +13,4 @@ pub mod PresentLaws
 pub mod NumberLaws
 pub mod IdentLaws
 pub mod PassedLaws
+pub mod StandingLaws

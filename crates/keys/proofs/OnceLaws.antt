@@ -53,7 +53,7 @@ larger-first a b h = simp (le-ltb a b h)
 pub ruleset larger-ways = (larger-first, larger-second)
 
 -- the larger of two is not below either, and of the kind of the second, where that is not before the first's
-larger-least : (a b : ℕ) → (a ≤ largerOf a b) × (b ≤ largerOf a b) × (kindIn a ≤ kindIn b → kindIn (largerOf a b) ≡ kindIn b)
+pub larger-least : (a b : ℕ) → (a ≤ largerOf a b) × (b ≤ largerOf a b) × (kindIn a ≤ kindIn b → kindIn (largerOf a b) ≡ kindIn b)
 unfolding largerOf
 larger-least a b =
     by-test (λ (r : ℕ). (a ≤ r) × (b ≤ r) × (kindIn a ≤ kindIn b → kindIn r ≡ kindIn b)) (ltb a b) b a
@@ -90,7 +90,7 @@ pub ruleset renew-ways = (renew-same, renew-empty)
 -- ---- the map
 
 -- a kind and a place in its map are those of one key
-kind-back : (kind k : ℕ) → ofKind kind k ≡ true → kind * 4294967296 + rcidIn k ≡ k
+pub kind-back : (kind k : ℕ) → ofKind kind k ≡ true → kind * 4294967296 + rcidIn k ≡ k
 unfolding ofKind
 kind-back kind k e = let z : kindIn k ≡ kind = eqb-true (kindIn k) kind e in omega arith
 
