@@ -1,0 +1,16 @@
+pub mod KeyLaws
+pub mod FirstLaws
+pub mod LookLaws
+pub mod ListLaws
+pub mod SeenLaws
+pub mod BitLaws
+pub mod MapLaws
+pub mod OnceLaws
+pub mod SlotLaws
+pub mod SoundLaws
+pub mod TableLaws
+pub mod PresentLaws
+pub mod NumberLaws
+pub mod IdentLaws
+pub mod PassedLaws
+pub mod StandingLaws
