@@ -5,7 +5,7 @@ use mathlib.Core.Bool.{Bool, true, false}
 use Prim.Native.Nat.{ℕ, _+_, _-_, _≤_, _<_}
 use native.Mathlib.Omega.{arith}
 use native.Mathlib.Nat.{add-zero}
-use lib.ListN.{length, take, drop}
+use lib.ListN.{length, take, drop, length-take, length-drop}
 use Rattle.base.specs.Lists.{each}
 use Rattle.base.specs.Walk.{Got, follow}
 use Rattle.skeleton.specs.Directory.{Body, entryAt, lies, ended, stepBy, fieldsFrom, fieldsOf}
@@ -19,7 +19,7 @@ use Rattle.skeleton.proofs.PlaceLaws.{fields-same}
 use Rattle.rules.specs.ByTag.{front}
 use Rattle.keys.specs.Key.{keyAt}
 use Rattle.keys.specs.Listed.{keyOf}
-use Rattle.keys.proofs.KeyLaws.{key-take, key-drop}
+use Rattle.keys.proofs.KeyLaws.{key-room, key-part}
 
 -- the first field's body is so many bytes from the base address on
 pub record First (r : List ℕ) (base : ℕ) (fs : List Field) : Type 0 where
@@ -52,12 +52,7 @@ module _ (f : List ℕ) (p len base a b : ℕ) (z : (fieldsOf (between f p (p + 
   first-key k =
       let r = between f p (p + len) in
       let s : First r base fields = rw (fields-same r (record { base = base; a = a; b = b }) z) (first-of r base a b (entryAt r a b 24) refl z) in
-      let b0 : keyOf fields ≡ keyAt (take (s .bytes) (drop base r)) 0 = ap (λ (x : List ℕ). keyAt x 0) (s .body) in
-      let k1 : keyAt (take (s .bytes) (drop base r)) 0 ≡ 0 → ⊥ = λ e. k (b0 ∙ e) in
-      let e1 = key-take (s .bytes) (drop base r) 0 k1 in
-      let k2 : keyAt (drop base r) 0 ≡ 0 → ⊥ = λ e. k1 (sym e1 ∙ e) in
-      let e2 : keyAt r base ≡ keyAt (drop base r) 0 = ap (keyAt r) (sym (add-zero base)) ∙ key-drop base r 0 k2 in
-      let k3 : keyAt r base ≡ 0 → ⊥ = λ e. k2 (sym e2 ∙ e) in
-      let e3 = key-take (p + len - p) (drop p f) base k3 in
-      let k4 : keyAt (drop p f) base ≡ 0 → ⊥ = λ e. k3 (sym e3 ∙ e) in
-      key-drop p f base k4 ∙ e3 ∙ e2 ∙ e1 ∙ sym b0
+      let e : keyOf fields ≡ keyAt (take (s .bytes) (drop base r)) 0 = ap (λ (x : List ℕ). keyAt x 0) (s .body) in
+      let h = key-room (take (s .bytes) (drop base r)) 0 (λ z. k (e ∙ z)) in
+      let g : base + 5 ≤ length (take (p + len - p) (drop p f)) = omega (arith, length-take (s .bytes) (drop base r), length-drop base r) in
+      key-part f (p + len - p) p base g ∙ ap (keyAt r) (sym (add-zero base)) ∙ key-part r (s .bytes) base 0 h ∙ sym e

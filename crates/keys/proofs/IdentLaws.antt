@@ -52,18 +52,24 @@ pub record Opens (c : ℕ) (b : List ℕ) : Type 0 where
 in-range : (lo hi v : ℕ) → inRange lo hi v ≡ true → (lo ≤ v) × (v ≤ hi)
 in-range lo hi v e = let r = both-hold (leb lo v) (leb v hi) e in (leb-true lo v (r .0), leb-true v hi (r .1))
 
+-- the number c, and the bytes behind it
+pub first-is : (c : ℕ) (ds : List Sub) (b : List ℕ) (n : ℕ) → sizes (B11 c c ∷ ds) b ≡ some n → (getD b 0 0 ≡ c) × (k : ℕ) × (sizes ds (drop 1 b) ≡ some k)
+unfolding size
+first-is c ds b n e =
+    let r = sizes-cons (B11 c c) ds b n e in
+    let p = num-some 1 (inRange c c) b (r .0) (r .2) in
+    let v = in-range c c (le 1 b) (p .2) in
+    let rest : sizes ds (drop 1 b) ≡ some (r .1) = rw (p .0) (r .3) in
+    (omega (arith, le1 b 0 (p .1)), r .1, rest)
+
 opens-of : (c : ℕ) (ds : List Sub) (b : List ℕ) (n : ℕ) → sizes (B11 c c ∷ B14 1 4294967294 ∷ ds) b ≡ some n → Opens c b
 unfolding size
 opens-of c ds b n e =
-    let r = sizes-cons (B11 c c) (B14 1 4294967294 ∷ ds) b n e in
-    let p = num-some 1 (inRange c c) b (r .0) (r .2) in
-    let one : r .0 ≡ 1 = sym (p .0) in
-    let v = in-range c c (le 1 b) (p .2) in
-    let s = sizes-cons (B14 1 4294967294) ds (drop (r .0) b) (r .1) (r .3) in
-    let q = num-some 4 (inRange 1 4294967294) (drop (r .0) b) (s .0) (s .2) in
-    let w : (1 ≤ le 4 (drop 1 b)) × (le 4 (drop 1 b) ≤ 4294967294) = rw one at (in-range 1 4294967294 (le 4 (drop (r .0) b)) (q .2)) in
-    let l : 4 ≤ length (drop 1 b) = rw one at (q .1) in
-    record { room = omega (arith, length-drop 1 b); kind = omega (arith, le1 b 0 (p .1)); small = omega (arith, w .1) }
+    let r = first-is c (B14 1 4294967294 ∷ ds) b n e in
+    let s = sizes-cons (B14 1 4294967294) ds (drop 1 b) (r .1) (r .2) in
+    let q = num-some 4 (inRange 1 4294967294) (drop 1 b) (s .0) (s .2) in
+    let w = in-range 1 4294967294 (le 4 (drop 1 b)) (q .2) in
+    record { room = omega (arith, length-drop 1 b, q .1); kind = r .0; small = omega (arith, w .1) }
 
 -- ---- identifiers
 

@@ -2,15 +2,15 @@
 use mathlib.Core.Path.{_≡_, refl, sym, ap, _∙_}
 use mathlib.Core.List.{List}
 use mathlib.Core.Bool.{Bool, true, false}
-use Prim.Native.Nat.{ℕ, _+_, _*_, _≤_, _<_}
+use Prim.Native.Nat.{ℕ, _+_, _*_, _^_, _≤_, _<_}
 use native.Mathlib.Omega.{arith}
 use borrow.Author.Tests.{lt-ltb, le-ltb, eq-eqb, ne-eqb, ltb-true, ltb-false}
 use lib.ListN.{length, getD, take, drop, length-take, length-drop}
-use lib.Seq.{getD-take, getD-drop, drop-drop}
+use lib.Seq.{getD-take, getD-drop}
 use lib.Dec.{ltb}
 use Rattle.fields.specs.Bytes.{le}
 use Rattle.fields.proofs.ByteLaws.{le2, le4}
-use Rattle.keys.specs.Key.{rankOf, keyAt}
+use Rattle.keys.specs.Key.{rankOf, keyAt, KeyFits}
 
 -- ---- what `rank` and `key_at` return
 
@@ -49,7 +49,15 @@ module _ (f : List ℕ) (q : ℕ) where
   unfolding keyAt
   key-there h r w x y = simp (le-ltb _ _ h, ← x, ← y)
 
-pub ruleset key-ways = (key-past, key-there, arith)
+  pub key-fits : (w : ℕ) → w ≡ le 4 (drop (q + 1) f) → w < 2 ^ 32 → KeyFits f q
+  unfolding KeyFits
+  key-fits w y h _ = rw y at h
+
+  pub key-fits-past : length f < q + 5 → KeyFits f q
+  unfolding KeyFits
+  key-fits-past h g = absurd (omega arith)
+
+pub ruleset key-ways = (key-past, key-there, key-fits, key-fits-past, arith)
 
 -- ---- a key in a part of some bytes
 
@@ -66,25 +74,34 @@ four : (b : List ℕ) (q : ℕ) → q + 4 ≤ length b
     → le 4 (drop q b) ≡ getD b q 0 + 256 * getD b (q + 1) 0 + 65536 * (getD b (q + 2) 0 + 256 * getD b (q + 2 + 1) 0)
 four b q h = le4 b q h ∙ omega (arith, le2 b q (omega arith), le2 b (q + 2) (omega arith))
 
--- the key in the front part of some bytes is theirs
-pub key-take : (n : ℕ) (b : List ℕ) (q : ℕ) → (keyAt (take n b) q ≡ 0 → ⊥) → keyAt b q ≡ keyAt (take n b) q
-key-take n b q k =
-    let h = key-room (take n b) q k in
-    let l = length-take n b in
-    let at : (i : ℕ) → i < q + 5 → getD (take n b) i 0 ≡ getD b i 0 = λ i g. getD-take n b i 0 (omega arith) in
-    let w : le 4 (drop (q + 1) (take n b)) ≡ le 4 (drop (q + 1) b)
-    = four (take n b) (q + 1) (omega arith)
-    ∙ omega (arith, at (q + 1) (omega arith), at (q + 1 + 1) (omega arith), at (q + 1 + 2) (omega arith), at (q + 1 + 2 + 1) (omega arith))
-    ∙ sym (four b (q + 1) (omega arith)) in
-    sym (key-there b q (omega arith) (rankOf (getD (take n b) q 0)) (le 4 (drop (q + 1) (take n b))) (ap rankOf (at q (omega arith))) w)
-    ∙ key-there (take n b) q h _ _ refl refl
+-- the key at q of a part of some bytes, the n from s on, is theirs at s + q
+module _ (b : List ℕ) (n s q : ℕ) (h : q + 5 ≤ length (take n (drop s b))) where
+  inside : (q + 5 ≤ n) × (s + q + 5 ≤ length b)
+  inside = let l = length-take n (drop s b) in let m = length-drop s b in (omega arith, omega arith)
 
--- the key in the bytes from p on
-pub key-drop : (p : ℕ) (b : List ℕ) (q : ℕ) → (keyAt (drop p b) q ≡ 0 → ⊥) → keyAt b (p + q) ≡ keyAt (drop p b) q
-key-drop p b q k =
-    let h = key-room (drop p b) q k in
-    let l = length-drop p b in
-    let e : p + (q + 1) ≡ p + q + 1 = omega arith in
-    let w : le 4 (drop (q + 1) (drop p b)) ≡ le 4 (drop (p + q + 1) b) = ap (le 4) (drop-drop (q + 1) p b ∙ ap (λ (i : ℕ). drop i b) e) in
-    sym (key-there b (p + q) (omega arith) (rankOf (getD (drop p b) q 0)) (le 4 (drop (q + 1) (drop p b))) (ap rankOf (getD-drop p b q 0)) w)
-    ∙ key-there (drop p b) q h _ _ refl refl
+  byte-part : (i : ℕ) → i < q + 5 → getD (take n (drop s b)) i 0 ≡ getD b (s + i) 0
+  byte-part i g = let r = inside in getD-take n (drop s b) i 0 (omega arith) ∙ getD-drop s b i 0
+
+  word-part : le 4 (drop (q + 1) (take n (drop s b))) ≡ le 4 (drop (s + q + 1) b)
+  word-part =
+      let r = inside in
+      let at : (i j : ℕ) → s + i ≡ j → i < q + 5 → getD (take n (drop s b)) i 0 ≡ getD b j 0 = λ i j e g. byte-part i g ∙ ap (λ (x : ℕ). getD b x 0) e in
+      four (take n (drop s b)) (q + 1) (omega arith)
+      ∙ omega (
+        arith,
+        at (q + 1) (s + q + 1) (omega arith) (omega arith),
+        at (q + 1 + 1) (s + q + 1 + 1) (omega arith) (omega arith),
+        at (q + 1 + 2) (s + q + 1 + 2) (omega arith) (omega arith),
+        at (q + 1 + 2 + 1) (s + q + 1 + 2 + 1) (omega arith) (omega arith),
+      )
+      ∙ sym (four b (s + q + 1) (omega arith))
+
+  pub key-part : keyAt b (s + q) ≡ keyAt (take n (drop s b)) q
+  key-part =
+      let r = inside in
+      sym (key-there b (s + q) (omega arith) (rankOf (getD (take n (drop s b)) q 0)) (le 4 (drop (q + 1) (take n (drop s b)))) (ap rankOf (byte-part q (omega arith))) word-part)
+      ∙ key-there (take n (drop s b)) q h _ _ refl refl
+
+  pub fits-part : KeyFits b (s + q) → KeyFits (take n (drop s b)) q
+  unfolding KeyFits
+  fits-part k g = let r = inside in rw word-part (k (omega arith))

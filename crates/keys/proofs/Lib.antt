@@ -14,3 +14,5 @@ pub mod NumberLaws
 pub mod IdentLaws
 pub mod PassedLaws
 pub mod StandingLaws
+pub mod NamedLaws
+pub mod ReferenceLaws

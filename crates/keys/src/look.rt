@@ -5,7 +5,7 @@ use skeleton::leader::Head;
 ghost use mathlib.Core.Path.{_≡_};
 ghost use Prim.Native.Nat.{_^_, _≤_, _<_};
 ghost use lib.ListN.{length};
-ghost use Rattle.keys.specs.Key.{rankOf, keyAt};
+ghost use Rattle.keys.specs.Key.{rankOf, keyAt, KeyFits};
 ghost use Rattle.keys.specs.Listed.{seenFrom};
 ghost use Rattle.keys.specs.Look.{lookAt, Known};
 
@@ -31,7 +31,7 @@ fn rank(rcnm: u8) -> u64
 // The key whose five bytes stand at q: the kind's rank times 2^32, and RCID; 0 where the bytes end before them.
 pub fn key_at(f: &[u8], q: usize) -> u64
     requires { ⌜ q < 2 ^ 63 ⌝ }
-    ensures { λ r. ⌜ r ≡ keyAt (now (f .entry)) q ⌝ }
+    ensures { λ r. ⌜ (r ≡ keyAt (now (f .entry)) q) × (KeyFits (now (f .entry)) q) ⌝ }
 {
     if f.len() < q + 5 {
         return 0;
