@@ -3,9 +3,10 @@ use mathlib.Core.Path.{_≡_, refl, sym, ap, _∙_}
 use mathlib.Core.List.{List, [], _∷_, _++_}
 use mathlib.Core.Bool.{Bool, true, false}
 use mathlib.Core.Option.{Option, some, none}
-use Prim.Native.Nat.{ℕ, _+_, _≤_, _<_}
+use Prim.Native.Nat.{ℕ, suc, _+_, _≤_, _<_}
 use native.Mathlib.Omega.{arith}
 use borrow.Author.Tests.{ne-eqb, ltb-false}
+use lib.ListN.{length}
 use lib.Dec.{eqb, ltb}
 use Rattle.base.specs.Choice.{pick}
 use Rattle.base.specs.Check.{Check, ok, no, bind, fault, Passed, pass}
@@ -129,11 +130,12 @@ test-later n seen fs h =
 pub record ReadAll (items : List (List Field)) (recs : List Rec) : Type 0 where
   pub numbered : Numbered recs (each keyOf items)
   pub keyed : listed 0 (each keyOf items) ≡ false
+  pub counted : length recs ≡ length (each keyOf items)
 
 read-none : (recs : List Rec) → done [] ≡ done recs → ReadAll [] recs
 unfolding each
 read-none recs e =
-    let none-read : ReadAll [] [] = record { numbered = numbered-none; keyed = listed-none 0 } in
+    let none-read : ReadAll [] [] = record { numbered = numbered-none; keyed = listed-none 0; counted = refl } in
     rw (done-inj [] recs e) at none-read
 
 read-more : (fs : List Field) (items : List (List Field)) (r : Rec) (later recs : List Rec) → Read fs r → ReadAll items later → r ∷ later ≡ recs
@@ -143,6 +145,7 @@ read-more fs items r later recs p q e =
     let all : ReadAll (fs ∷ items) (r ∷ later) = record {
       numbered = numbered-front r later (each keyOf items) (keyOf fs) (q .numbered) (p .ranged) (p .number);
       keyed = listed-later 0 (keyOf fs) (each keyOf items) (p .some) ∙ q .keyed;
+      counted = ap suc (q .counted);
     } in
     rw e at all
 

@@ -22,7 +22,7 @@ use Rattle.skeleton.proofs.FileLaws.{records-over, records-more}
 use Rattle.rules.specs.Associations.{Mark, marks, number11}
 use Rattle.rules.specs.Record.{Rec, keyOf as keyInRules}
 use Rattle.rules.specs.Outcome.{Outcome, done, refused, andThen, at, everyRecord}
-use Rattle.rules.specs.File.{datasetTest, through, ending, taken}
+use Rattle.rules.specs.File.{datasetTest, through, ending, taken, references}
 use Rattle.rules.proofs.OutcomeLaws.{andThen-inv, done-inj}
 use Rattle.keys.specs.Key.{keyAt}
 use Rattle.keys.specs.Listed.{keyOf, keysFrom, hasFrom}
@@ -39,6 +39,7 @@ pub record Reads (f : List ℕ) (start : ℕ) (recs : List Rec) : Type 0 where
   pub clean : (recordsFrom f start) .ending ≡ 0
   pub keyed : hasFrom f start 0 ≡ false
   pub numbered : Numbered recs (keysFrom f start)
+  pub counted : length recs ≡ length (keysFrom f start)
 
 -- a file that ends well gives what it was given
 ends-well : (n e : ℕ) (recs recs' : List Rec) (t : Bool) → eqb e 0 ≡ t
@@ -55,7 +56,7 @@ taken-reads f start recs e =
     let p = andThen-inv (through datasetTest 1 4 [] (g .items)) _ recs e in
     let w = ends-well (length (g .items)) (g .ending) (p .0) recs (eqb (g .ending) 0) refl (p .2) in
     let r : ReadAll (g .items) recs = rw (w .1) at (through-read (g .items) 4 [] (p .0) (omega arith) (p .1)) in
-    record { clean = w .0; keyed = r .keyed; numbered = r .numbered }
+    record { clean = w .0; keyed = r .keyed; numbered = r .numbered; counted = r .counted }
 
 -- no refusal: there are such records
 pub unread-done : {A : Type 0} (o : Outcome A) → unread o ≡ done tt → (a : A) × (o ≡ done a)
@@ -95,7 +96,15 @@ module _ (f : List ℕ) (start : ℕ) (recs : List Rec) (r : Reads f start recs)
     unfolding number11
     named-loose y = simp (named-is b p (take 2 (m .key)) n, ← et, y) at inv
 
--- ---- record after record: the next is at p, and m stand before it behind the third
+-- ---- record after record
+
+-- the records after the third begin at start
+pub references-start : (recs : List Rec) (f : List ℕ) (start : ℕ) (sent : List (List Field)) → sent ≡ (recordsFrom f start) .items
+    → references 1 recs sent ≡ referencesFrom recs f start 0
+unfolding references referencesFrom
+references-start recs f start sent e = rw e refl
+
+-- the next is at p, and m stand before it behind the third
 
 module _ (recs : List Rec) (f : List ℕ) (p m : ℕ) (x : Outcome (Unit {0})) (inv : referencesFrom recs f p m ≡ x) where
   pub references-over : length f ≤ p → done tt ≡ x
