@@ -2,7 +2,7 @@
 use mathlib.Core.Path.{_≡_, refl, sym, ap, _∙_}
 use mathlib.Core.List.{List, [], _∷_, _++_}
 use mathlib.Core.Bool.{Bool, true, false, true≢false}
-use Prim.Native.Nat.{ℕ, suc, _+_, _-_, _*_, _/_, _%_, _^_, _≤_, _<_}
+use Prim.Native.Nat.{ℕ, suc, _+_, _*_, _/_, _%_, _≤_, _<_}
 use native.Mathlib.Omega.{arith}
 use borrow.Author.Tests.{lt-ltb, le-ltb, eq-eqb, ne-eqb, le-leb, ltb-true, ltb-false, leb-true, eqb-true, eqb-false}
 use lib.ListN.{length, take, drop}
@@ -10,7 +10,6 @@ use lib.Seq.{drop-cons}
 use lib.Dec.{leb, ltb, eqb}
 use Rattle.memory.specs.Hold.{zeros}
 use Rattle.memory.proofs.HoldLaws.{length-zeros}
-use Rattle.base.specs.Choice.{both}
 use Rattle.base.proofs.ChoiceLaws.{by-test, both-hold}
 use Rattle.keys.specs.Listed.{keysFrom, listed, seenFrom}
 use Rattle.keys.specs.Look.{Known}

@@ -3,13 +3,13 @@ use mathlib.Core.Path.{_≡_, refl, sym, ap, _∙_}
 use mathlib.Core.List.{List, [], _∷_, _++_}
 use mathlib.Core.Bool.{Bool, true, false}
 use mathlib.Core.Option.{Option, some, none}
-use Prim.Native.Nat.{ℕ, suc, _+_, _≤_, _<_}
+use Prim.Native.Nat.{ℕ, suc, _+_, _≤_}
 use native.Mathlib.Omega.{arith}
 use borrow.Author.Tests.{ne-eqb, ltb-false}
 use lib.ListN.{length}
-use lib.Dec.{eqb, ltb}
+use lib.Dec.{ltb}
 use Rattle.base.specs.Choice.{pick}
-use Rattle.base.specs.Check.{Check, ok, no, bind, fault, Passed, pass}
+use Rattle.base.specs.Check.{Check, ok, no, bind, fault, Passed}
 use Rattle.base.specs.Lists.{each}
 use Rattle.base.specs.Keys.{among}
 use Rattle.base.proofs.CheckLaws.{bind-inv, ok-inj}
@@ -20,7 +20,7 @@ use Rattle.rules.specs.Content.{number5}
 use Rattle.rules.specs.Trees.{number6}
 use Rattle.rules.specs.Associations.{number7}
 use Rattle.rules.specs.Record.{Rec, keyNamed, recOf, datasetRecord, keyOf as keyInRules}
-use Rattle.rules.specs.Outcome.{Outcome, done, refused, andThen, at}
+use Rattle.rules.specs.Outcome.{done, at}
 use Rattle.rules.specs.File.{lastRank, datasetTest, through}
 use Rattle.rules.proofs.OutcomeLaws.{andThen-inv, at-inv, done-inj}
 use Rattle.rules.specs.declared.Kind.{Kind}

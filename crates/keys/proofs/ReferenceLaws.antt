@@ -1,14 +1,14 @@
 -- A dataset that reads: quick looks are right in it, and the records that are named are those whose keys stand in it. Assumes nothing.
-use mathlib.Core.Path.{_≡_, refl, sym, ap, _∙_}
-use mathlib.Core.List.{List, [], _∷_, _++_}
+use mathlib.Core.Path.{_≡_, refl}
+use mathlib.Core.List.{List, [], _∷_}
 use mathlib.Core.Bool.{Bool, true, false}
 use Prim.Native.Nat.{ℕ, _+_, _≤_, _<_}
 use native.Mathlib.Omega.{arith}
 use borrow.Author.Tests.{lt-leb, eqb-true}
-use lib.ListN.{length, take, drop}
+use lib.ListN.{length, take}
 use lib.Dec.{eqb, leb}
 use Rattle.base.specs.Choice.{pick}
-use Rattle.base.specs.Check.{Check, ok, no, fault, Passed, pass}
+use Rattle.base.specs.Check.{ok, no, fault, Passed}
 use Rattle.base.specs.Lists.{each}
 use Rattle.base.specs.Keys.{among}
 use Rattle.base.specs.Walk.{Got, before}
@@ -17,7 +17,7 @@ use Rattle.skeleton.specs.File.{Field, recordsFrom}
 use Rattle.skeleton.specs.Place.{between, fieldsAt}
 use Rattle.skeleton.specs.Record.{recordAt}
 use Rattle.skeleton.specs.declared.leader.Head.{Head}
-use Rattle.skeleton.specs.declared.leader.Head.the-variants.{Good, Refused}
+use Rattle.skeleton.specs.declared.leader.Head.the-variants.{Good}
 use Rattle.skeleton.proofs.FileLaws.{records-over, records-more}
 use Rattle.rules.specs.Associations.{Mark, marks, number11}
 use Rattle.rules.specs.Record.{Rec, keyOf as keyInRules}
@@ -25,9 +25,9 @@ use Rattle.rules.specs.Outcome.{Outcome, done, refused, andThen, at, everyRecor
 use Rattle.rules.specs.File.{datasetTest, through, ending, taken, references}
 use Rattle.rules.proofs.OutcomeLaws.{andThen-inv, done-inj}
 use Rattle.keys.specs.Key.{keyAt}
-use Rattle.keys.specs.Listed.{keyOf, keysFrom, hasFrom}
+use Rattle.keys.specs.Listed.{keysFrom, hasFrom}
 use Rattle.keys.specs.Look.{Sound}
-use Rattle.keys.specs.Numbered.{numberOf, Ranged, Numbered}
+use Rattle.keys.specs.Numbered.{Ranged, Numbered}
 use Rattle.keys.specs.Standing.{unread, outcomeFrom, referencesFrom}
 use Rattle.keys.proofs.NamedLaws.{Names}
 use Rattle.keys.proofs.PassedLaws.{ReadAll, through-read}

@@ -3,14 +3,13 @@
 use mathlib.Core.Path.{_≡_, refl, sym, ap, _∙_}
 use mathlib.Core.List.{List, [], _∷_, _++_}
 use mathlib.Core.Bool.{Bool, true, false}
-use Prim.Native.Nat.{ℕ, _+_, _/_, _≤_, _<_}
+use Prim.Native.Nat.{ℕ, _+_, _≤_, _<_}
 use native.Mathlib.Omega.{arith}
-use borrow.Author.Tests.{eq-eqb, ne-eqb, lt-leb}
-use lib.ListN.{length, getD, take, drop, length-drop}
+use borrow.Author.Tests.{ne-eqb, lt-leb}
+use lib.ListN.{length, take, drop, length-drop}
 use lib.Seq.{drop-cons}
-use lib.Dec.{eqb, leb}
 use Rattle.base.specs.Choice.{pick}
-use Rattle.base.specs.Check.{Check, ok, no, bind, fault, Passed, pass}
+use Rattle.base.specs.Check.{Check, ok, no, bind, fault}
 use Rattle.base.specs.Lists.{each}
 use Rattle.base.specs.Keys.{among}
 use Rattle.base.specs.Walk.{Got, before}
@@ -23,9 +22,8 @@ use Rattle.skeleton.specs.declared.leader.Head.{Head}
 use Rattle.skeleton.specs.declared.leader.Head.the-variants.{Good, Refused}
 use Rattle.skeleton.proofs.RecordLaws.{right, refusal-some}
 use Rattle.skeleton.proofs.FileLaws.{records-over, records-refused, records-more}
-use Rattle.rules.specs.Kind.{rank}
 use Rattle.rules.specs.Associations.{number7}
-use Rattle.rules.specs.Record.{Rec, keyNamed, recOf, datasetRecord, keyOf as keyInRules}
+use Rattle.rules.specs.Record.{Rec, keyNamed, recOf, keyOf as keyInRules}
 use Rattle.rules.specs.Outcome.{Outcome, done, refused, andThen, at}
 use Rattle.rules.specs.File.{lastRank, datasetTest, ending, taken}
 use Rattle.rules.proofs.FileLaws.{taken-over, taken-more}
@@ -35,7 +33,7 @@ use Rattle.keys.specs.Listed.{keyOf, keysFrom, listed, seenFrom}
 use Rattle.keys.specs.Look.{Known}
 use Rattle.keys.specs.Map.{kindIn, ofKind, rcidIn, Marks}
 use Rattle.keys.specs.Once.{largerOf, noneAbove, Once, Comes, Told}
-use Rattle.keys.specs.Numbered.{numberOf, Ranged, Numbered}
+use Rattle.keys.specs.Numbered.{Ranged, Numbered}
 use Rattle.keys.specs.Standing.{fourToSix, unread, outcomeFrom, Standing}
 use Rattle.keys.proofs.FirstLaws.{first-key}
 use Rattle.keys.proofs.ListLaws.{listed-none, split-room, split-take, split-drop}

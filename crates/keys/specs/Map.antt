@@ -1,11 +1,10 @@
 -- A map of keys in flags.
-use Prim.Native.Nat.{ℕ, _+_, _*_, _/_, _%_, _<_}
+use Prim.Native.Nat.{ℕ, _/_, _%_, _<_}
 use mathlib.Core.Path.{_≡_}
 use mathlib.Core.List.{List}
 use mathlib.Core.Bool.{Bool, true}
 use lib.ListN.{length}
-use lib.Dec.{eqb, ltb}
-use Rattle.base.specs.Choice.{pick}
+use lib.Dec.{eqb}
 use Rattle.keys.specs.Listed.{listed}
 use Rattle.keys.specs.Bits.{flagOf}
 

@@ -1,6 +1,5 @@
 use Rattle.keys.proofs.OnceLaws.{stood-ways}
 use borrow.Author.Needs.{needs}
-use native.Mathlib.Omega.{arith}
 use Rattle.keys.proofs.once.stood.Statement.{statement}
 use Rattle.keys.proofs.once.stood.Tie as tie
 use Rattle.keys.proofs.once.stood.Reads as reads
