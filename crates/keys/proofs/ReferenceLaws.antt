@@ -28,7 +28,7 @@ use Rattle.keys.specs.Key.{keyAt}
 use Rattle.keys.specs.Listed.{keysFrom, hasFrom}
 use Rattle.keys.specs.Look.{Sound}
 use Rattle.keys.specs.Numbered.{Ranged, Numbered}
-use Rattle.keys.specs.Standing.{unread, outcomeFrom, referencesFrom}
+use Rattle.keys.specs.Standing.{unread, outcomeFrom, referencesFrom, Fine, AllFine, FineFrom}
 use Rattle.keys.proofs.NamedLaws.{Names}
 use Rattle.keys.proofs.PassedLaws.{ReadAll, through-read}
 
@@ -40,6 +40,7 @@ pub record Reads (f : List ℕ) (start : ℕ) (recs : List Rec) : Type 0 where
   pub keyed : hasFrom f start 0 ≡ false
   pub numbered : Numbered recs (keysFrom f start)
   pub counted : length recs ≡ length (keysFrom f start)
+  pub fine : FineFrom f start
 
 -- a file that ends well gives what it was given
 ends-well : (n e : ℕ) (recs recs' : List Rec) (t : Bool) → eqb e 0 ≡ t
@@ -50,13 +51,13 @@ ends-well n e recs recs' true x h =
 ends-well n e recs recs' false x h = absurd (let z : _≡_ {A = ℕ} 0 1 = cc in omega arith)
 
 pub taken-reads : (f : List ℕ) (start : ℕ) (recs : List Rec) → taken datasetTest 1 3 4 [] (recordsFrom f start) ≡ done recs → Reads f start recs
-unfolding taken ending keysFrom hasFrom
+unfolding taken ending keysFrom hasFrom FineFrom
 taken-reads f start recs e =
     let g = recordsFrom f start in
     let p = andThen-inv (through datasetTest 1 4 [] (g .items)) _ recs e in
     let w = ends-well (length (g .items)) (g .ending) (p .0) recs (eqb (g .ending) 0) refl (p .2) in
     let r : ReadAll (g .items) recs = rw (w .1) at (through-read (g .items) 4 [] (p .0) (omega arith) (p .1)) in
-    record { clean = w .0; keyed = r .keyed; numbered = r .numbered; counted = r .counted }
+    record { clean = w .0; keyed = r .keyed; numbered = r .numbered; counted = r .counted; fine = r .fine }
 
 -- no refusal: there are such records
 pub unread-done : {A : Type 0} (o : Outcome A) → unread o ≡ done tt → (a : A) × (o ≡ done a)
@@ -76,6 +77,21 @@ reads-sound f start recs r s i = record { small = s; inside = i; clean = r .clea
 
 pub passed-sound : (f : List ℕ) (start : ℕ) → outcomeFrom f start 0 [] ≡ done tt → length f ≤ 16777216 → start ≤ length f → Sound f start
 passed-sound f start e s i = let r = outcome-reads f start e in reads-sound f start (r .0) (r .1) s i
+
+pub passed-fine : (f : List ℕ) (start : ℕ) → outcomeFrom f start 0 [] ≡ done tt → FineFrom f start
+passed-fine f start e = let r = outcome-reads f start e in r .1 .fine
+
+-- at each record its fields have their formats
+module _ (f : List ℕ) (p : ℕ) (g : FineFrom f p) (l : p < length f) (h : Head) (eh : h ≡ recordAt f p) (len base a b : ℕ) (y : h ≡ Good len base a b) where
+  fine-parts : Fine (fieldsAt (between f p (p + len)) (record { base = base; a = a; b = b }) 24) × FineFrom f (p + len)
+  unfolding FineFrom
+  fine-parts = rw (records-more f p l h eh len base a b y) at g
+
+  pub fine-here : Fine (fieldsAt (between f p (p + len)) (record { base = base; a = a; b = b }) 24)
+  fine-here = fine-parts .0
+
+  pub fine-more : FineFrom f (p + len)
+  fine-more = fine-parts .1
 
 -- ---- number 11
 
@@ -131,4 +147,4 @@ module _ (recs : List Rec) (f : List ℕ) (p m : ℕ) (x : Outcome (Unit {0})) (
         let i : m + 1 + 4 ≡ m + 4 + 1 = omega arith in
         rw i (rw e at turn)
 
-pub ruleset references-turn = (references-over, references-loose, references-more)
+pub ruleset references-turn = (references-over, references-loose, references-more, fine-here, fine-more)

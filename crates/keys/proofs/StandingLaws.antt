@@ -198,7 +198,7 @@ module _ (f : List ℕ) (start at' m top : ℕ) (x : Outcome (Unit {0})) (s : St
 
             pub standing-more : Standing f start (at' + len) (m + 1) (largerOf top key) x
             standing-more =
-                let r = read-of k fields (passed .keyed) in
+                let r = read-of (kindIn top) k fields passed in
                 let one = split-take (keysFrom f start) m key (keysFrom f (at' + len)) next-is in
                 record {
                   seen = recOf k fields ∷ s .seen;
