@@ -103,6 +103,16 @@ placed least (f ∷ fs) k e =
     } in
     rw z at there
 
+-- what number 7 within the record asks for
+module _ (least : ℕ) (fs : List Field) (k : Kind) (e : fourToSix least fs ≡ ok k) where
+  pub placed-five : number5 InDataset k fs ≡ pass
+  placed-five = placed least fs k e .five
+
+  pub placed-tag : firstTag fs ≡ tagOf k
+  placed-tag = placed least fs k e .tag
+
+pub ruleset placed-ways = (placed-five, placed-tag)
+
 -- ---- all numbers
 
 -- number 7 of a record of that kind, after records with these keys
