@@ -28,7 +28,7 @@ use Rattle.keys.specs.Key.{keyAt}
 use Rattle.keys.specs.Listed.{keysFrom, hasFrom}
 use Rattle.keys.specs.Look.{Sound}
 use Rattle.keys.specs.Numbered.{Ranged, Numbered}
-use Rattle.keys.specs.Standing.{unread, outcomeFrom, referencesFrom, Fine, AllFine, FineFrom}
+use Rattle.keys.specs.Standing.{unread, outcomeFrom, referencesFrom, Fine, FineFrom}
 use Rattle.keys.proofs.NamedLaws.{Names}
 use Rattle.keys.proofs.PassedLaws.{ReadAll, through-read}
 

@@ -31,15 +31,14 @@ use Rattle.rules.specs.declared.Kind.{Kind}
 use Rattle.keys.specs.Key.{keyAt}
 use Rattle.keys.specs.Listed.{keyOf, keysFrom, listed, seenFrom}
 use Rattle.keys.specs.Look.{Known}
-use Rattle.keys.specs.Map.{kindIn, ofKind, rcidIn, Marks}
+use Rattle.keys.specs.Map.{kindIn}
 use Rattle.keys.specs.Once.{largerOf, noneAbove, Once, Comes, Told}
 use Rattle.keys.specs.Numbered.{Ranged, Numbered}
 use Rattle.keys.specs.Standing.{fourToSix, unread, outcomeFrom, Standing}
 use Rattle.keys.proofs.FirstLaws.{first-key}
 use Rattle.keys.proofs.ListLaws.{listed-none, split-room, split-take, split-drop}
 use Rattle.keys.proofs.LookLaws.{keys-past, keys-good}
-use Rattle.keys.proofs.MapLaws.{zeros-all, mapped-none}
-use Rattle.keys.proofs.OnceLaws.{kind-back, larger-least}
+use Rattle.keys.proofs.OnceLaws.{marks-none, larger-least}
 use Rattle.keys.proofs.NumberLaws.{numbered-none, numbered-last}
 use Rattle.keys.proofs.IdentLaws.{Keyed}
 use Rattle.keys.proofs.PassedLaws.{Placed, placed, Read, read-of, seventh, record-parts, test-later}
@@ -51,11 +50,11 @@ unfolding lastRank
 standing-start f start x e = record { seen = []; rest = refl; numbered = numbered-none; last = refl; outcome = e }
 
 pub once-start : (f : List ℕ) (start n : ℕ) → Once f start 0 0 (zeros n)
-unfolding noneAbove Marks seenFrom
+unfolding noneAbove seenFrom
 once-start f start n = record {
   known = record { enough = omega arith; keyed = listed-none 0 };
   none-above = refl;
-  marks = mapped-none (ofKind 0) rcidIn (λ j. 0 + j) (kind-back 0) (zeros n) (zeros-all n);
+  marks = marks-none 0 (zeros n);
 }
 
 -- ---- what `repeats` says
