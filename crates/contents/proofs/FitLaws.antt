@@ -3,14 +3,14 @@ use mathlib.Core.Path.{_≡_, refl, sym, ap, _∙_}
 use mathlib.Core.Bool.{Bool, true, false, not, true≢false}
 use mathlib.Core.List.{List, [], _∷_}
 use mathlib.Core.Option.{some}
-use Prim.Native.Nat.{ℕ, zero, suc, _+_, _-_, _≤_, _<_}
+use Prim.Native.Nat.{ℕ, zero, suc, _+_, _-_, _≤_}
 use native.Mathlib.Omega.{arith}
 use borrow.Author.Tests.{eqb-true, leb-true, ne-eqb}
 use lib.Dec.{eqb, leb}
 use lib.ListN.{length, getD, drop}
 use lib.Seq.{drop-drop}
 use Rattle.base.specs.Choice.{pick, both}
-use Rattle.base.specs.Check.{Check, ok, no, bind, Passed, pass}
+use Rattle.base.specs.Check.{ok}
 use Rattle.base.specs.Lists.{empty}
 use Rattle.base.proofs.CheckLaws.{bind-inv}
 use Rattle.base.proofs.ChoiceLaws.{both-hold}
@@ -21,7 +21,7 @@ use Rattle.fields.specs.Valid.{allows}
 use Rattle.fields.specs.Table.{headOf, tupleOf}
 use Rattle.fields.specs.Content.{tallyField, isWhole, fill}
 use Rattle.fields.specs.declared.Format.{Format}
-use Rattle.fields.specs.declared.Format.the-variants.{Foid, Attr, AttrNew, InasNew, InasGone, Spas, SpasNew, Cocc, C2it, C2il}
+use Rattle.fields.specs.declared.Format.the-variants.{Foid, Attr, AttrNew, InasNew, Spas, SpasNew, Cocc, C2it, C2il}
 use Rattle.fields.specs.declared.Sub.{Sub}
 use Rattle.fields.specs.declared.Sub.the-variants.{Text}
 use Rattle.fields.specs.declared.Tally.{Tally}
@@ -35,7 +35,7 @@ use Rattle.skeleton.specs.File.{Field}
 use Rattle.skeleton.specs.Place.{between, placeAt, fieldsAt}
 use Rattle.skeleton.specs.declared.directory.Shape.{Shape}
 use Rattle.skeleton.specs.declared.place.Place.{Place}
-use Rattle.skeleton.specs.declared.place.Place.the-variants.{At, Done}
+use Rattle.skeleton.specs.declared.place.Place.the-variants.{At}
 use Rattle.skeleton.proofs.PlaceLaws.{fields-more}
 use Rattle.rules.specs.Tags.{ATTR, INAS, SPAS, FOID, COCC, C2IT}
 use Rattle.rules.specs.Grammar.{ruinByte, asStored}
