@@ -1,13 +1,13 @@
 -- The laws of reading entries: how a run goes on, what is kept through it, that any bound that is enough gives the same, and that two
 -- sources that look alike are read alike. Assumes nothing.
 use mathlib.Core.Path.{_≡_, refl, sym, ap, _∙_}
-use mathlib.Core.Bool.{Bool, true, false, not, true≢false}
+use mathlib.Core.Bool.{Bool, true, false, not}
 use mathlib.Core.Logic.{⊎-elim}
 use Prim.Native.Nat.{ℕ, zero, suc, _+_, _≤_, _<_}
 use native.Mathlib.Omega.{arith}
 use lib.Dec.{eqb}
-use borrow.Author.Tests.{eq-eqb, ne-eqb, eqb-true}
-use Rattle.base.specs.Choice.{pick, both, either}
+use borrow.Author.Tests.{eqb-true}
+use Rattle.base.specs.Choice.{either}
 use Rattle.base.specs.Check.{Check, ok, no, bind, fault, refuse}
 use Rattle.base.specs.declared.Fault.{Fault}
 use Rattle.base.proofs.ChoiceLaws.{both-hold}

@@ -5,18 +5,17 @@ use mathlib.Core.Bool.{Bool, true, false, not, true≢false}
 use Prim.Native.Nat.{ℕ, zero, suc, _+_, _≤_, _<_}
 use native.Mathlib.Omega.{arith}
 use lib.ListN.{length}
-use lib.Dec.{eqb}
 use borrow.Author.Tests.{eq-eqb, ne-eqb, eqb-true}
-use Rattle.base.specs.Choice.{pick, either}
-use Rattle.base.specs.Check.{Check, ok, no, bind, refuse}
+use Rattle.base.specs.Choice.{either}
+use Rattle.base.specs.Check.{Check, ok, bind}
 use Rattle.forest.specs.Forest.{Forest, nil, tree, Tup, occurs, size, tuplesFrom, tuplesOf, valued, beside, Plain, p-nil, p-tree}
 use Rattle.forest.specs.Rule.{codesOf, indexed, Run, allTaken, runUpTo, treeOf, entryOf}
 use Rattle.forest.specs.Reader.{Reader, Read, readUpTo}
 use Rattle.forest.proofs.CheckLaws.{never, ok-same, bind-inv, bind-then}
 use Rattle.forest.proofs.ReaderLaws.{Turn, stopped, went, read-turn}
-use Rattle.forest.proofs.TupleReader.{Passing, passing, TupleRule, source, rule-reads}
+use Rattle.forest.proofs.TupleReader.{Passing, passing, source, rule-reads}
 use Rattle.forest.proofs.RunLaws.{wholeRule}
-use Rattle.forest.proofs.TuplesLaws.{onto, onto-append, onto-length, from-length, tuples-length, other-code, own-code, codes-below, Low, low-none, low-next, low-onto}
+use Rattle.forest.proofs.TuplesLaws.{onto, onto-append, onto-length, from-length, other-code, own-code, codes-below, Low, low-none, low-next, low-onto}
 
 -- the tuples of the rule as a source of entries
 abbrev tuples : Reader (Passing (List Tup) Tup) Forest

@@ -2,10 +2,9 @@ use Rattle.tree.proofs.TurnLaws.{Going, going-start, entry-breaks, entr
 use Rattle.tree.proofs.WalkLaws.{run-end, run-other}
 use Rattle.tree.proofs.KnownLaws.{known-into, fresh-into}
 use Rattle.tree.proofs.CountLaws.{past-above, whole-past, reach-on}
-use Rattle.tree.specs.Source.{two, past}
 use lib.ListN.{length}
-use Prim.Native.Nat.{_+_, _-_, _*_, _≤_}
-use mathlib.Core.Path.{_≡_, refl, sym, ap, _∙_}
+use Prim.Native.Nat.{_+_, _-_, _*_}
+use mathlib.Core.Path.{refl, sym, _∙_}
 use borrow.Author.Needs.{needs}
 use native.Mathlib.Omega.{arith}
 use Prim.Native.Nat.{ℕ, _<_}
