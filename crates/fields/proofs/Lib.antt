@@ -5,3 +5,9 @@ pub mod TupleLaws
 pub mod CountLaws
 pub mod FieldLaws
 pub mod FormatLaws
+pub mod ValueLaws
+pub mod EvenLaws
+pub mod JoinLaws
+pub mod WiderLaws
+pub mod EncodeLaws
+pub mod DecodeLaws
