@@ -6,10 +6,14 @@
                                                        cd DIR && rt dev cases
 
     --keep N        how many cases are kept, spread over operations and refusals (default 200)
-    --largest N     leave out a case whose dataset and update have more bytes together (default 1500)
+    --largest N     leave out a case whose dataset and update have more bytes together (default 1200)
     --room N        leave out a case whose output slice has more bytes (default 20000)
     --chunk N       how many cases a theorem has (default 10); with 1 the name of a refused theorem tells the case
     --modules N     how many theorems a module has (default 10)
+
+The kept ones are made so:
+
+    second generate --seed 1 --count 6000 CASES && second answer CASES > ANSWERS && tools/cases.py CASES ANSWERS && rt fmt
 
 CASES is as `second generate` writes it, ANSWERS what `second answer CASES` prints: one line a case. A case becomes its bytes, each
 file one number, and its answer as numbers: number, file, record, length, count and the hash of the output slice. That the
@@ -157,7 +161,7 @@ def main():
     options.add_argument("--all", action="store_true")
     options.add_argument("--scratch", type=pathlib.Path)
     options.add_argument("--keep", type=int, default=200)
-    options.add_argument("--largest", type=int, default=1500)
+    options.add_argument("--largest", type=int, default=1200)
     options.add_argument("--room", type=int, default=20000)
     options.add_argument("--chunk", type=int, default=10)
     options.add_argument("--modules", type=int, default=10)

@@ -1,8 +1,10 @@
--- The laws of a walk: it is its first step and then the walk from there; a walk that ends well is any other's that steps alike. Assumes nothing.
+-- The laws of a walk: it is its first step and then the walk from there; a walk that ends well finds what any other finds that steps alike.
+-- Assumes nothing.
 use mathlib.Core.Path.{_≡_, refl, sym, ap, _∙_}
 use mathlib.Core.List.{[]}
 use Prim.Native.Nat.{ℕ, zero, suc, _<_}
 use native.Mathlib.Omega.{arith}
+use Rattle.base.specs.Lists.{each}
 use Rattle.base.specs.Walk.{Step, more, over, Got, before, follow, steps, walk, Lower}
 
 module _ {S A : Type 0} (f : S → Step S A) (μ : S → ℕ) (falls : (s : S) → Lower μ s (f s)) where
@@ -23,26 +25,31 @@ module _ {S A : Type 0} (f : S → Step S A) (μ : S → ℕ) (falls : (s : S) �
   unfolding walk steps
   walk-step s = same s (f s) (steps f (μ s)) (walk f μ) (falls s) (λ t l. enough (μ s) (suc (μ t)) t l (omega arith))
 
--- g steps as f does, at h of f's state, wherever f goes on or ends well
-abbrev pub Agree : {S T A : Type 0} → (S → T) → Step S A → Step T A → Type 0
-Agree h (more a t) y = y ≡ more a (h t)
-Agree h (over n) y = n ≡ 0 → y ≡ over 0
+-- g steps as f does, at h of f's state and with i of f's item, wherever f goes on or ends well
+abbrev pub Agree : {S T A B : Type 0} → (S → T) → (A → B) → Step S A → Step T B → Type 0
+Agree h i (more a t) y = y ≡ more (i a) (h t)
+Agree h i (over n) y = n ≡ 0 → y ≡ over 0
 
-module _ {S T A : Type 0} (f : S → Step S A) (g : T → Step T A) (ν : T → ℕ) (falls : (t : T) → Lower ν t (g t))
-    (h : S → T) (agree : (s : S) → Agree h (f s) (g (h s))) where
+-- i of each item of a walk that ended well
+abbrev pub finds : {A B : Type 0} → (A → B) → Got A → Got B
+finds i g = record { items = each i (g .items); ending = 0 }
+
+module _ {S T A B : Type 0} (f : S → Step S A) (g : T → Step T B) (ν : T → ℕ) (falls : (t : T) → Lower ν t (g t))
+    (h : S → T) (i : A → B) (agree : (s : S) → Agree h i (f s) (g (h s))) where
   -- one step of the two walks
-  one : (s : S) (x : Step S A) (k : S → Got A) → Agree h x (g (h s)) → ((t : S) → (k t) .ending ≡ 0 → walk g ν (h t) ≡ k t)
-      → (follow x k) .ending ≡ 0 → walk g ν (h s) ≡ follow x k
-  one s (more a t) k e ih z = walk-step g ν falls (h s) ∙ ap (λ (y : Step T A). follow y (walk g ν)) e ∙ ap (before a) (ih t z)
-  one s (over n) k e ih z = walk-step g ν falls (h s) ∙ ap (λ (y : Step T A). follow y (walk g ν)) (e z) ∙ ap (λ (m : ℕ). record { items = []; ending = m }) (sym z)
+  one : (s : S) (x : Step S A) (k : S → Got A) → Agree h i x (g (h s)) → ((t : S) → (k t) .ending ≡ 0 → walk g ν (h t) ≡ finds i (k t))
+      → (follow x k) .ending ≡ 0 → walk g ν (h s) ≡ finds i (follow x k)
+  unfolding each
+  one s (more a t) k e ih z = walk-step g ν falls (h s) ∙ ap (λ (y : Step T B). follow y (walk g ν)) e ∙ ap (before (i a)) (ih t z)
+  one s (over n) k e ih z = walk-step g ν falls (h s) ∙ ap (λ (y : Step T B). follow y (walk g ν)) (e z)
 
   -- any number of steps that end well
-  steps-same : (n : ℕ) (s : S) → (steps f n s) .ending ≡ 0 → walk g ν (h s) ≡ steps f n s
+  steps-same : (n : ℕ) (s : S) → (steps f n s) .ending ≡ 0 → walk g ν (h s) ≡ finds i (steps f n s)
   unfolding steps
   steps-same zero s z = absurd (omega arith)
   steps-same (suc n) s z = one s (f s) (steps f n) (agree s) (steps-same n) z
 
-  -- a walk that ends well is the other's walk
-  pub walk-same : (μ : S → ℕ) (s : S) → (walk f μ s) .ending ≡ 0 → walk g ν (h s) ≡ walk f μ s
+  -- of a walk that ends well the other finds each item's i
+  pub walk-same : (μ : S → ℕ) (s : S) → (walk f μ s) .ending ≡ 0 → walk g ν (h s) ≡ finds i (walk f μ s)
   unfolding walk
   walk-same μ s z = steps-same (suc (μ s)) s z

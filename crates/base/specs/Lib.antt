@@ -1,5 +1,6 @@
 pub mod Choice
 pub mod Check
+pub mod Verdict
 pub mod Text
 pub mod Lists
 pub mod Keys

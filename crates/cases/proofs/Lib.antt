@@ -1,2 +1,3 @@
 pub mod Case
 pub mod Cases1
+pub mod Cases2

@@ -142,3 +142,15 @@ feature =
         spatial = record { key = 110 ∷ 7 ∷ []; ornt = 1; smin = 0; smax = 0 } ∷ [];
       };
     }
+
+-- feature 3 as listed in the paper: RVER 2, three entries
+unfoldable pub listed : Rec
+listed =
+    record {
+      kind = Feature;
+      rcid = 3;
+      code = 77;
+      rver = 2;
+      foid = 1 ∷ 2 ∷ 3 ∷ [];
+      parts = record { attributes = tree 21 [] (tree 22 (ascii "A") nil nil) (tree 23 [] nil nil); associations = []; coordinates = []; spatial = [] };
+    }

@@ -6,11 +6,11 @@ use lib.IntN.{negsuc}
 use Rattle.base.specs.Text.{ascii}
 use Rattle.fields.specs.Values.{Val}
 use Rattle.forest.specs.Forest.{Tup}
-use Rattle.rules.specs.Grammar.{inDataset}
 use Rattle.rules.specs.Record.{Rec, recOf}
 use Rattle.rules.specs.declared.Kind.the-variants.{Feature}
 use Rattle.rules.proofs.Builders.{mrid, frid, foid, tuple, attr, cocc, at, c2il, general, pointSent, multi, three}
 use Rattle.rules.proofs.Samples.{accepts, attributesAfter, coordinatesAfter, versionsAfter, updates, signs, refusedIn, refusedAt, tuples, coords, numbers, signed, Row, row, Hold, samplesOpened}
+use Rattle.rules.specs.declared.Mode.the-variants.{InDataset}
 
 -- ---- the worked example of 10a-4.1 and 10a-4.2: NATC, ATIX, PAIX, ATIN, ATVL
 
@@ -83,9 +83,9 @@ papers =
     ∷ row (coordinatesAfter (multi 1 three) (mrid 2 3 ∷ cocc 2 2 2 ∷ [])) (coords (at 1 1 ∷ []))  -- P4
     ∷ row (coordinatesAfter (multi 1 three) (mrid 2 3 ∷ cocc 2 2 3 ∷ [])) (refusedIn 9 2 0)  -- P5
     ∷ row (signs (255 ∷ 255 ∷ 255 ∷ 255 ∷ 2 ∷ 0 ∷ 0 ∷ 0 ∷ [])) (signed (negsuc 0 ∷ []))  -- P6
-    ∷ row (accepts inDataset (pointSent 0)) (refusedIn 5 1 0)  -- P7
+    ∷ row (accepts InDataset (pointSent 0)) (refusedIn 5 1 0)  -- P7
     ∷ row (updates (general 3 []) [] (general 3 []) []) (refusedAt 8 2 2)  -- P8
-    ∷ row (accepts inDataset (frid 77 1 1 ∷ foid 3 ∷ attr (tuple 21 1 0 1 [] ∷ tuple 21 1 0 1 [] ∷ []) ∷ [])) (refusedIn 6 3 2)  -- P9
+    ∷ row (accepts InDataset (frid 77 1 1 ∷ foid 3 ∷ attr (tuple 21 1 0 1 [] ∷ tuple 21 1 0 1 [] ∷ []) ∷ [])) (refusedIn 6 3 2)  -- P9
     ∷ row (versionsAfter (multi 4 three ∷ []) ((mrid 5 3 ∷ []) ∷ (mrid 6 3 ∷ []) ∷ [])) (numbers (6 ∷ []))  -- P10
     ∷ []
 

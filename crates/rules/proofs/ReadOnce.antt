@@ -15,7 +15,7 @@ use Rattle.base.proofs.KeysLaws.{same-sound, same-refl}
 use Rattle.skeleton.specs.File.{Field, recordsOf}
 use Rattle.rules.specs.Tags.{CSID}
 use Rattle.rules.specs.ByTag.{firstTag}
-use Rattle.rules.specs.Grammar.{inDataset, number4}
+use Rattle.rules.specs.Grammar.{number4}
 use Rattle.rules.specs.Content.{number5}
 use Rattle.rules.specs.Trees.{number6}
 use Rattle.rules.specs.Associations.{number7}
@@ -27,6 +27,7 @@ use Rattle.rules.specs.File.{lastRank, datasetTest, through, ending, tak
 use Rattle.rules.specs.Update.{find}
 use Rattle.rules.specs.Versions.{Once, o-none, o-more}
 use Rattle.rules.proofs.OutcomeLaws.{andThen-inv, at-inv, done-inj}
+use Rattle.rules.specs.declared.Mode.the-variants.{InDataset}
 
 -- ---- a record that passes has a key that no earlier one has
 
@@ -57,7 +58,7 @@ fresh-ok keys r e = e
 pub record-fresh : (least : ℕ) (keys : List (List ℕ)) (fs : List Field) → Fresh keys (datasetRecord least keys fs)
 unfolding datasetRecord
 record-fresh least keys fs =
-    fresh-then keys (number4 inDataset least fs) _ (λ k. fresh-then keys (number5 inDataset k fs) _ (λ _. fresh-then keys (number6 inDataset k fs) _ (λ _.
+    fresh-then keys (number4 InDataset least fs) _ (λ k. fresh-then keys (number5 InDataset k fs) _ (λ _. fresh-then keys (number6 InDataset k fs) _ (λ _.
     fresh-pick keys (recOf k fs) _ 7 1 0 (among (keyOf (recOf k fs)) keys) refl (λ e. fresh-then keys (number7 fs) _ (λ _. fresh-ok keys (recOf k fs) e)))))
 
 -- ---- a test gives no record, or one that is new
@@ -96,7 +97,7 @@ pub test-new : (n : ℕ) (seen : List Rec) (fs : List Field) → New seen (datas
 unfolding datasetTest
 test-new n seen fs =
     new-pick seen (eqb n 1) _ _ (new-nil seen)
-    (new-pick seen (eqb n 2) _ _ (new-none seen (generalRecord inDataset fs))
+    (new-pick seen (eqb n 2) _ _ (new-none seen (generalRecord InDataset fs))
     (new-pick seen (eqb n 3) _ _ (new-none seen (pick (eqb (firstTag fs) CSID) pass (no (fault 4 1 0))))
     (new-one seen (datasetRecord (lastRank seen) (each keyOf seen) fs) (record-fresh (lastRank seen) (each keyOf seen) fs))))
 

@@ -9,17 +9,19 @@ use Rattle.skeleton.specs.File.{Field}
 use Rattle.fields.specs.Bytes.{signed32}
 use Rattle.forest.specs.Forest.{Tup, tuplesOf}
 use Rattle.rules.specs.Coordinates.{Coord, coordsIn}
-use Rattle.rules.specs.Grammar.{Mode, inDataset, inUpdate}
 use Rattle.rules.specs.Record.{Rec, datasetRecord, updateRecord}
 use Rattle.rules.specs.Written.{writtenFields, writtenLength, number12}
 use Rattle.rules.specs.Outcome.{Outcome, done, refused}
 use Rattle.rules.specs.Update.{step, steps, updated}
+use Rattle.rules.specs.Listing.{printed, listing}
 use Rattle.base.specs.Opened.{opened as baseOpened}
 use Rattle.skeleton.specs.Opened.{opened as skeletonOpened}
 use Rattle.fields.specs.Opened.{opened as fieldsOpened}
 use Rattle.forest.specs.Opened.{opened as forestOpened}
 use Rattle.rules.specs.Opened.{opened as rulesOpened}
-use Rattle.rules.proofs.Builders.{numbered, irid, prid, mrid, frid, foid, tuple, attr, inas, link, spas, cocc, coordinates, c2it, c2il, general, filler, pointSent, multiSent, noParts, onlyCoordinates, point, multi, three, many, feature}
+use Rattle.rules.proofs.Builders.{numbered, irid, prid, mrid, frid, foid, tuple, attr, inas, link, spas, cocc, coordinates, c2it, c2il, general, filler, pointSent, multiSent, noParts, onlyCoordinates, point, multi, three, many, feature, listed}
+use Rattle.rules.specs.declared.Mode.{Mode}
+use Rattle.rules.specs.declared.Mode.the-variants.{InDataset, InUpdate}
 
 -- what is asked
 pub data Question : Type 0 where
@@ -32,6 +34,8 @@ pub data Question : Type 0 where
   signs : List ℕ → Question  -- the Y's of a coordinate field
   lengthOf : Rec → Question  -- the written length of a record
   writes : Rec → Question  -- whether it can be written
+  prints : List Rec → Question  -- the listing of a dataset with these records
+  printsOf : List ℕ → Question  -- the listing of these bytes
 
 -- what is answered
 pub data Answered : Type 0 where
@@ -42,6 +46,7 @@ pub data Answered : Type 0 where
   coords : List Coord → Answered
   numbers : List ℕ → Answered
   signed : List ℤ → Answered
+  text : List ℕ → Answered
 
 -- what a check answers
 unfoldable pub ofCheck : {A : Type 0} → (A → Answered) → Check A → Answered
@@ -55,8 +60,8 @@ ofOutcome f (refused file n x) = refusedAt (x .number) file n
 
 -- a record tested on its own
 unfoldable pub alone : Mode → List Field → Passed
-alone inDataset fs = passed (datasetRecord 0 [] fs)
-alone inUpdate fs = passed (updateRecord fs)
+alone InDataset fs = passed (datasetRecord 0 [] fs)
+alone InUpdate fs = passed (updateRecord fs)
 
 -- what is then said of the only record
 unfoldable pub ofOnly : (Rec → Answered) → List Rec → Answered
@@ -75,6 +80,8 @@ answer (updates g rs u fss) =
 answer (signs b) = signed (each (λ c. signed32 (c .y)) (coordsIn b))
 answer (lengthOf r) = numbers (writtenLength (writtenFields r) ∷ [])
 answer (writes r) = ofCheck (λ _. fine) (number12 (writtenFields r))
+answer (prints rs) = text (printed (done (record { descriptive = []; general = []; systems = []; records = rs })))
+answer (printsOf f) = text (listing f)
 
 -- a row of a table: what is asked, and what is expected
 pub record Row : Type 0 where
@@ -91,5 +98,5 @@ Hold rows = each (λ r. answer (r .what)) rows ≡ each (λ r. r .expected) rows
 
 -- all that a sample computes with
 unfoldable pub samplesOpened : Unit {0}
-unfolding baseOpened skeletonOpened fieldsOpened forestOpened rulesOpened numbered irid prid mrid frid foid tuple attr inas link spas cocc coordinates c2it c2il general filler pointSent multiSent noParts onlyCoordinates point multi three many feature ofCheck ofOutcome alone ofOnly answer
+unfolding baseOpened skeletonOpened fieldsOpened forestOpened rulesOpened numbered irid prid mrid frid foid tuple attr inas link spas cocc coordinates c2it c2il general filler pointSent multiSent noParts onlyCoordinates point multi three many feature listed ofCheck ofOutcome alone ofOnly answer
 samplesOpened = tt

@@ -56,7 +56,7 @@ modified k fs (some old) =
     bind (sameFoid 1 fs old) (λ _.
     bind (actFields (sent fs) 1 fs (old .parts)) (λ new. fitting (revised ((identOf k (front fs)) .rver) new old))))
 
--- by its instruction, RUIN
+-- what an update record makes of it, by its instruction, RUIN
 unfoldable pub change : Kind → List Field → Option Rec → Check (Option Rec)
 change k fs old =
     let ruin = (identOf k (front fs)) .ruin in

@@ -17,29 +17,31 @@ use Rattle.fields.specs.declared.Tally.the-variants.{Whole, Short}
 use Rattle.rules.specs.Tags.{FOID, ATTR, INAS, SPAS, COCC, C2IT}
 use Rattle.rules.specs.Place.{Place}
 use Rattle.rules.specs.Coordinates.{sent, placeIn}
-use Rattle.rules.specs.Grammar.{Mode, inDataset, inUpdate, ruinByte, asStored}
+use Rattle.rules.specs.Grammar.{ruinByte, asStored}
 use Rattle.rules.specs.declared.Kind.{Kind}
 use Rattle.rules.specs.declared.Kind.the-variants.{Info, Point, Multi, Feature}
+use Rattle.rules.specs.declared.Mode.{Mode}
+use Rattle.rules.specs.declared.Mode.the-variants.{InDataset, InUpdate}
 
 -- ---- the format of each field
 
 -- in a dataset RUIN too has to be insert
 unfoldable pub insertOnly : Mode → Bool
-insertOnly inDataset = true
-insertOnly inUpdate = false
+insertOnly InDataset = true
+insertOnly InUpdate = false
 
--- the identifier's; new: every instruction is insert
+-- the format of the identifier; new: every instruction is insert
 unfoldable pub identFormat : Bool → Kind → Format
 identFormat new Info = pick new IridNew Irid
 identFormat new Point = pick new PridNew Prid
 identFormat new Multi = pick new MridNew Mrid
 identFormat new Feature = pick new FridNew Frid
 
--- an INAS is inserted, or, in a modify, deleted: IUIN is its tenth byte
+-- the format of an INAS: it is inserted, or, in a modify, deleted; IUIN is its tenth byte
 unfoldable pub inasFormat : Bool → List ℕ → Format
 inasFormat new b = pick (both (not new) (eqb (getD b 9 0) 2)) InasGone InasNew
 
--- that of any other field (the last has no test: number 4 leaves no other tag)
+-- the format of any other field (the last has no test: number 4 leaves no other tag)
 unfoldable pub formatOf : Bool → ℕ → List ℕ → Format
 formatOf new t b =
     pick (eqb t ATTR) (pick new AttrNew Attr)

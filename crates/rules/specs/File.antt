@@ -11,12 +11,12 @@ use Rattle.skeleton.specs.File.{Field, recordsOf}
 use Rattle.rules.specs.Tags.{CSID}
 use Rattle.rules.specs.ByTag.{firstTag}
 use Rattle.rules.specs.Kind.{rank}
-use Rattle.rules.specs.Grammar.{inDataset, inUpdate}
 use Rattle.rules.specs.Associations.{marks, number11}
 use Rattle.rules.specs.Record.{Rec, keyOf, datasetRecord, updateRecord}
 use Rattle.rules.specs.General.{generalRecord}
 use Rattle.rules.specs.Written.{Dataset, written, number12}
 use Rattle.rules.specs.Outcome.{Outcome, done, refused, andThen, at, everyRecord}
+use Rattle.rules.specs.declared.Mode.the-variants.{InDataset, InUpdate}
 
 -- ---- one record by its number in the file
 
@@ -32,7 +32,7 @@ lastRank (r ∷ rs) = rank (r .kind)
 -- record n of a dataset, after the records `seen`, the last one first: descriptive, general, one that begins with CSID, then the four kinds
 unfoldable pub datasetTest : ℕ → List Rec → List Field → Check (List Rec)
 datasetTest n seen fs =
-    let general = addsNone (generalRecord inDataset fs) in
+    let general = addsNone (generalRecord InDataset fs) in
     let systems = addsNone (pick (eqb (firstTag fs) CSID) pass (no (fault 4 1 0))) in
     let later = bind (datasetRecord (lastRank seen) (each keyOf seen) fs) (λ r. ok (r ∷ [])) in
     pick (eqb n 1) (ok []) (pick (eqb n 2) general (pick (eqb n 3) systems later))
@@ -40,7 +40,7 @@ datasetTest n seen fs =
 -- record n of an update: descriptive, general, then records of the four kinds in any order
 unfoldable pub updateTest : ℕ → List Rec → List Field → Check (List Rec)
 updateTest n seen fs =
-    let general = addsNone (generalRecord inUpdate fs) in
+    let general = addsNone (generalRecord InUpdate fs) in
     let later = addsNone (passed (updateRecord fs)) in
     pick (eqb n 1) (ok []) (pick (eqb n 2) general later)
 
@@ -71,7 +71,7 @@ pub record Stored : Type 0 where
   pub sent : List (List Field)
   pub dataset : Dataset
 
--- of the fields of all its records, and its records of the four kinds
+-- a dataset, from the fields of all its records and its records of the four kinds
 abbrev pub storedAs : List (List Field) → List Rec → Stored
 storedAs rs recs =
     record { sent = drop 3 rs; dataset = record { descriptive = getD rs 0 []; general = getD rs 1 []; systems = getD rs 2 []; records = recs } }
@@ -101,7 +101,7 @@ pub record Sent : Type 0 where
   pub general : List Field
   pub records : List (List Field)
 
--- of the fields of all its records
+-- an update, from the fields of all its records
 abbrev pub sentAs : List (List Field) → Sent
 sentAs rs = record { general = getD rs 1 []; records = drop 2 rs }
 

@@ -16,15 +16,17 @@ use Rattle.fields.specs.declared.Format.the-variants.{Dsid, DsidUpdate}
 use Rattle.rules.specs.Tags.{DSID, generalTags}
 use Rattle.rules.specs.ByTag.{front, withTag}
 use Rattle.rules.specs.Kind.{generalRows}
-use Rattle.rules.specs.Grammar.{Mode, inDataset, inUpdate, inOrder}
+use Rattle.rules.specs.Grammar.{inOrder}
 use Rattle.rules.specs.Content.{stands}
+use Rattle.rules.specs.declared.Mode.{Mode}
+use Rattle.rules.specs.declared.Mode.the-variants.{InDataset, InUpdate}
 
 -- ---- on its own
 
 -- in an update UPDN is at least 1
 unfoldable pub generalFormat : Mode → Format
-generalFormat inDataset = Dsid
-generalFormat inUpdate = DsidUpdate
+generalFormat InDataset = Dsid
+generalFormat InUpdate = DsidUpdate
 
 -- DSID, then any of the unread fields in their order, each at most once (4); DSID has its format (5)
 unfoldable pub generalRecord : Mode → List Field → Passed

@@ -12,6 +12,8 @@ use Rattle.rules.specs.Tags.{COCC, C2IL}
 use Rattle.rules.specs.ByTag.{has, bodies}
 use Rattle.rules.specs.Kind.{Row, kindOf, rank, coded, rowsOf}
 use Rattle.rules.specs.declared.Kind.{Kind}
+use Rattle.rules.specs.declared.Mode.{Mode}
+use Rattle.rules.specs.declared.Mode.the-variants.{InDataset, InUpdate}
 
 -- ---- fields in order
 
@@ -39,11 +41,6 @@ complete (r ∷ rs) fs = both (either (not (r .needed)) (has (r .tag) fs)) (comp
 
 -- ---- fields that an instruction does not take
 
--- in which file a record stands
-pub data Mode : Type 0 where
-  inDataset : Mode
-  inUpdate : Mode
-
 -- the byte in RUIN's place in the identifier; 0, no instruction, where the field ends before it
 unfoldable pub ruinByte : Kind → List ℕ → ℕ
 ruinByte k b = pick (coded k) (getD b 9 0) (getD b 7 0)
@@ -54,17 +51,18 @@ couiByte fs = getD (getD (bodies COCC fs) 0 []) 0 0
 
 -- the record is as in a dataset: it stands in one, or it is inserted
 unfoldable pub asStored : Mode → ℕ → Bool
-asStored inDataset ruin = true
-asStored inUpdate ruin = eqb ruin 1
+asStored InDataset ruin = true
+asStored InUpdate ruin = eqb ruin 1
 
 -- a tag that the record's instructions do not take; fs, its fields after the identifier
 unfoldable pub forbidden : Mode → ℕ → List Field → ℕ → Bool
-forbidden inDataset ruin fs t = eqb t COCC
-forbidden inUpdate ruin fs t =
-    either (eqb ruin 2)  -- any, in a record delete
-    (either (both (eqb ruin 1) (eqb t COCC))  -- COCC in an inserted record
-    (either (both (eqb t C2IL) (eqb (couiByte fs) 2))  -- C2IL with a COCC delete
-    (both (eqb t C2IL) (both (eqb ruin 3) (not (has COCC fs))))))  -- C2IL of a modify without COCC
+forbidden InDataset ruin fs t = eqb t COCC
+forbidden InUpdate ruin fs t =
+    let any-in-record-delete = eqb ruin 2 in
+    let cocc-in-insert = both (eqb ruin 1) (eqb t COCC) in
+    let c2il-with-cocc-delete = both (eqb t C2IL) (eqb (couiByte fs) 2) in
+    let c2il-in-modify-without-cocc = both (eqb t C2IL) (both (eqb ruin 3) (not (has COCC fs))) in
+    either any-in-record-delete (either cocc-in-insert (either c2il-with-cocc-delete c2il-in-modify-without-cocc))
 
 -- ---- one record
 

@@ -17,12 +17,13 @@ use Rattle.forest.specs.Forest.{Forest, nil}
 use Rattle.rules.specs.Tags.{FOID, ATTR, INAS, SPAS, C2IT, C2IL}
 use Rattle.rules.specs.ByTag.{bodies, front}
 use Rattle.rules.specs.Kind.{rcnm, coded}
-use Rattle.rules.specs.Grammar.{inDataset, inUpdate, ruinByte, number4}
+use Rattle.rules.specs.Grammar.{ruinByte, number4}
 use Rattle.rules.specs.Coordinates.{Coord, coordsIn}
 use Rattle.rules.specs.Content.{identFormat, number5}
 use Rattle.rules.specs.Trees.{attrTree, inasTree, number6}
 use Rattle.rules.specs.Associations.{inasKey, spasKey, number7}
 use Rattle.rules.specs.declared.Kind.{Kind}
+use Rattle.rules.specs.declared.Mode.the-variants.{InDataset, InUpdate}
 
 -- ---- the identifier
 
@@ -119,9 +120,9 @@ recOf k fs =
 -- a record of a dataset, after records with the keys `earlier`, the last of them of rank `least`: 4, 5, 6, 7
 unfoldable pub datasetRecord : ℕ → List (List ℕ) → List Field → Check Rec
 datasetRecord least earlier fs =
-    bind (number4 inDataset least fs) (λ k.
-    bind (number5 inDataset k fs) (λ _.
-    bind (number6 inDataset k fs) (λ _.
+    bind (number4 InDataset least fs) (λ k.
+    bind (number5 InDataset k fs) (λ _.
+    bind (number6 InDataset k fs) (λ _.
     let r = recOf k fs in
     let once-in-itself = bind (number7 fs) (λ _. ok r) in
     pick (among (keyOf r) earlier) (no (fault 7 1 0)) once-in-itself)))
@@ -129,8 +130,8 @@ datasetRecord least earlier fs =
 -- a record of an update, first pass: 4, 5, 6, and 7 within it where it is inserted
 unfoldable pub updateRecord : List Field → Check Kind
 updateRecord fs =
-    bind (number4 inUpdate 0 fs) (λ k.
-    bind (number5 inUpdate k fs) (λ _.
-    bind (number6 inUpdate k fs) (λ _.
+    bind (number4 InUpdate 0 fs) (λ k.
+    bind (number5 InUpdate k fs) (λ _.
+    bind (number6 InUpdate k fs) (λ _.
     let once-in-itself = bind (number7 fs) (λ _. ok k) in
     pick (eqb (ruinByte k (front fs)) 1) once-in-itself (ok k))))

@@ -15,15 +15,16 @@ use Rattle.forest.specs.Forest.{Forest, Tup}
 use Rattle.forest.specs.Rule.{treeOf}
 use Rattle.forest.specs.Acts.{Act, insert, delete, modify, UTup, Acts, actsOf}
 use Rattle.rules.specs.Tags.{ATTR, INAS}
-use Rattle.rules.specs.Grammar.{Mode, ruinByte, asStored}
+use Rattle.rules.specs.Grammar.{ruinByte, asStored}
 use Rattle.rules.specs.Content.{inasFormat}
 use Rattle.rules.specs.declared.Kind.{Kind}
+use Rattle.rules.specs.declared.Mode.{Mode}
 
 -- a tuple of its values: NATC, ATIX, PAIX, ATIN (insert), ATVL
 unfoldable pub tupOf : List Val → Tup
 tupOf v = record { natc = numAt v 0; atix = numAt v 1; paix = numAt v 2; atvl = textAt v 4 }
 
--- ATIN
+-- what ATIN says: 1 insert, 2 delete, 3 modify
 unfoldable pub instructionOf : ℕ → Act
 instructionOf n = pick (eqb n 1) insert (pick (eqb n 2) delete modify)
 
@@ -50,7 +51,7 @@ treeStands new f =
     let inas = passed (inasTree (f .body)) in
     pick (eqb (f .tag) ATTR) attr (pick (eqb (f .tag) INAS) inas pass)
 
--- that of each of the fields from number i on
+-- the tree rules of the fields from number i on
 unfoldable pub treesStand : Bool → ℕ → List Field → Passed
 treesStand new i [] = pass
 treesStand new i (f ∷ fs) = bind (inField i (treeStands new f)) (λ _. treesStand new (i + 1) fs)

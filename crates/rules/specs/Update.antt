@@ -41,7 +41,7 @@ unfoldable pub remove : List ℕ → List Rec → List Rec
 remove k [] = []
 remove k (x ∷ xs) = let later = x ∷ remove k xs in pick (same (keyOf x) k) xs later
 
--- the version of the record with key k before and after
+-- the records, where the record with key k was old, or none, and has become new, or none
 unfoldable pub store : List ℕ → Option Rec → Option Rec → List Rec → List Rec
 store k none none rs = rs
 store k none (some new) rs = settle new rs

@@ -6,8 +6,8 @@ use lib.ListN.{length, take, drop}
 use lib.Dec.{leb, ltb}
 use Rattle.base.specs.Choice.{pick, both}
 use Rattle.base.specs.Walk.{Step, more, over, walk}
-use Rattle.skeleton.specs.declared.num.Number.{Number}
-use Rattle.skeleton.specs.declared.num.Number.the-variants.{Value, NotDigits}
+use Rattle.skeleton.specs.declared.digits.Number.{Number}
+use Rattle.skeleton.specs.declared.digits.Number.the-variants.{Value, NotDigits}
 
 -- ---- read
 

@@ -7,10 +7,10 @@ use lib.Dec.{leb, ltb, eqb}
 use Rattle.base.specs.Choice.{pick, both}
 use Rattle.base.specs.Walk.{Step, more, over, Got, walk}
 use Rattle.skeleton.specs.Digits.{numberAt}
-use Rattle.skeleton.specs.declared.num.Number.{Number}
-use Rattle.skeleton.specs.declared.num.Number.the-variants.{Value, NotDigits}
-use Rattle.skeleton.specs.declared.dir.Entry.{Entry}
-use Rattle.skeleton.specs.declared.dir.Entry.the-variants.{Field, End, Bad}
+use Rattle.skeleton.specs.declared.digits.Number.{Number}
+use Rattle.skeleton.specs.declared.digits.Number.the-variants.{Value, NotDigits}
+use Rattle.skeleton.specs.declared.directory.Entry.{Entry}
+use Rattle.skeleton.specs.declared.directory.Entry.the-variants.{Field, End, Bad}
 
 -- where a field lies: its tag, where its body starts in the record, and how long it is, its last byte, 1E, included
 pub record Body : Type 0 where

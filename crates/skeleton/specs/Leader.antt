@@ -7,8 +7,8 @@ use lib.Dec.{leb, ltb, eqb}
 use Rattle.base.specs.Choice.{pick, both}
 use Rattle.base.specs.Text.{ascii}
 use Rattle.skeleton.specs.Digits.{isDigit, numberAt}
-use Rattle.skeleton.specs.declared.num.Number.{Number}
-use Rattle.skeleton.specs.declared.num.Number.the-variants.{Value, NotDigits}
+use Rattle.skeleton.specs.declared.digits.Number.{Number}
+use Rattle.skeleton.specs.declared.digits.Number.the-variants.{Value, NotDigits}
 use Rattle.skeleton.specs.declared.leader.Head.{Head}
 use Rattle.skeleton.specs.declared.leader.Head.the-variants.{Good, Refused}
 

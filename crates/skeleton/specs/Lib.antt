@@ -1,6 +1,10 @@
 pub mod Digits
 pub mod Leader
 pub mod Directory
+pub mod Shape
 pub mod File
+pub mod Place
+pub mod Record
 pub mod Emit
+pub mod Writable
 pub mod Opened

@@ -1,0 +1,13 @@
+pub mod DigitsLaws
+pub mod LeaderLaws
+pub mod DirectoryLaws
+pub mod PlaceLaws
+pub mod FindLaws
+pub mod RecordLaws
+pub mod FileLaws
+pub mod EmitDigitsLaws
+pub mod OffsetLaws
+pub mod EmitFieldsLaws
+pub mod EmitLeaderLaws
+pub mod EmitFileLaws
+pub mod ReadLaws

@@ -1,0 +1,45 @@
+use Rattle.skeleton.proofs.DirectoryLaws.{entry-ways}
+use borrow.Author.Needs.{needs}
+use Rattle.skeleton.proofs.directory.entry_at.Statement.{statement}
+use Rattle.skeleton.proofs.directory.entry_at.Tie as tie
+
+returns : tie.Need-returns
+returns c = search entry-ways
+
+shared-slice-read-if2 : tie.Need-shared-slice-read-if2
+shared-slice-read-if2 c = search needs
+
+returns-2 : tie.Need-returns-2
+returns-2 c = search entry-ways
+
+sub-if3 : tie.Need-sub-if3
+sub-if3 c = search needs
+
+add-if3 : tie.Need-add-if3
+add-if3 c = search needs
+
+add-if3-2 : tie.Need-add-if3-2
+add-if3-2 c = search needs
+
+returns-3 : tie.Need-returns-3
+returns-3 c = search entry-ways
+
+entry-in-requires : tie.Need-entry-in-requires
+entry-in-requires c κs = search needs
+
+returns-4 : tie.Need-returns-4
+returns-4 c = search entry-ways
+
+pub entry-at-spec : {M : Type 1} → statement M
+entry-at-spec =
+    tie.close
+    (tie.spec
+    returns
+    shared-slice-read-if2
+    returns-2
+    sub-if3
+    add-if3
+    add-if3-2
+    returns-3
+    entry-in-requires
+    returns-4)

@@ -1,0 +1,19 @@
+//! The second program: everything that document 01 says, by the plainest algorithm. It stands beside the proved
+//! code and shares nothing with it; where the two differ, one of them has misread the paper.
+
+pub mod answer;
+pub mod batch;
+pub mod build;
+pub mod file;
+pub mod generate;
+pub mod listing;
+pub mod model;
+pub mod samples;
+pub mod sent;
+pub mod skeleton;
+pub mod subfields;
+pub mod tree;
+pub mod update;
+pub mod written;
+
+pub use answer::{answer, Answered};

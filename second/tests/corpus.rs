@@ -1,0 +1,169 @@
+//! The generated cases against the answering core: every directed case comes to what the paper asks for, every case
+//! made to be accepted is accepted with the bytes that it was made to give, and a corpus has every answer in it.
+
+use std::collections::{BTreeMap, BTreeSet};
+
+use second::answer::all;
+use second::batch::{framed, Case, LISTING, READ, UPDATE, WRITE};
+use second::generate::chart::{Chart, Kind, Node};
+use second::generate::{corpus, directed, form, random_case, table, Directed, Intent};
+use second::Answered;
+
+const CORPUS: usize = 5000;
+const SEEDS: [u64; 3] = [1, 2, 3];
+
+/// What an answer has in common with an intended one.
+fn seen(answered: &Answered, operation: u8) -> Intent {
+    match answered {
+        Answered::Call { number: 0, file: 0, record: 0, length, count, out, work_zero: true } => {
+            let zero_behind = out[*length..].iter().all(|byte| *byte == 0);
+            assert!(zero_behind && (operation != READ || *length == 0), "the output behind the written length");
+            Intent::Done { written: out[..*length].to_vec(), count: *count }
+        }
+        Answered::Call { number, file, record, length: 0, count: 0, out, work_zero: true } => {
+            assert!(out.iter().all(|byte| *byte == 0), "the output of a refusal");
+            Intent::Refused(*number, *file, *record)
+        }
+        Answered::Call { .. } => panic!("an answer that is neither done nor refused: {answered:?}"),
+        Answered::Printed(text) => Intent::Prints(String::from_utf8_lossy(text).to_string()),
+    }
+}
+
+/// An intended answer in few words.
+fn told(intent: &Intent) -> String {
+    match intent {
+        Intent::Done { written, count } => format!("done, {} bytes, {count} records", written.len()),
+        other => format!("{other:?}"),
+    }
+}
+
+#[test]
+fn every_directed_case_comes_to_what_the_paper_asks_for() {
+    let rows = table();
+    let mut wrong = Vec::new();
+    for some in rows.chunks(100) {
+        let cases: Vec<Case> = some.iter().map(|row| row.case.clone()).collect();
+        for (Directed { name, case, intent }, answered) in some.iter().zip(all(&cases)) {
+            let seen = seen(&answered, case.operation);
+            if seen != *intent {
+                wrong.push(format!("{name}: intended {}, answered {}", told(intent), told(&seen)));
+            }
+        }
+    }
+    assert!(wrong.is_empty(), "{} of {} disagree:\n{}", wrong.len(), rows.len(), wrong.join("\n"));
+}
+
+#[test]
+fn directed_cases_have_names_of_their_own() {
+    let names: Vec<String> = directed().into_iter().map(|(name, _)| name).collect();
+    let different: BTreeSet<&String> = names.iter().collect();
+    let twice: Vec<&String> =
+        different.iter().filter(|n| names.iter().filter(|m| m == *n).count() > 1).copied().collect();
+    assert!(twice.is_empty(), "{twice:?}");
+}
+
+fn entries(run: &[Node]) -> usize {
+    run.iter().map(|node| 1 + entries(&node.children)).sum()
+}
+
+fn listed(chart: &Chart) -> String {
+    let mut text = "rec tag rcid rver attr coord\n".to_string();
+    for (n, item) in chart.items.iter().enumerate() {
+        let tag = match item.key.0 {
+            Kind::Information => "IRID",
+            Kind::Point => "PRID",
+            Kind::MultiPoint => "MRID",
+            Kind::Feature => "FRID",
+        };
+        let (attributes, coordinates) = (entries(&item.attributes), item.coordinates.len());
+        text += &format!("{} {tag} {} {} {attributes} {coordinates}\n", n + 4, item.key.1, item.rver);
+    }
+    format!("{text}total {}\n", chart.items.len())
+}
+
+/// What a case that was made to be accepted comes to.
+fn expected(case: &Case, chart: &Chart) -> Intent {
+    let count = 3 + chart.items.len();
+    match case.operation {
+        READ => Intent::Done { written: Vec::new(), count },
+        LISTING => Intent::Prints(listed(chart)),
+        _ => Intent::Done { written: form::written(chart), count },
+    }
+}
+
+#[test]
+fn cases_made_to_be_accepted_are_accepted() {
+    for seed in SEEDS {
+        let (cases, charts): (Vec<Case>, Vec<Chart>) = (0..CORPUS)
+            .filter_map(|n| {
+                let made = random_case(seed, n);
+                made.accepted.map(|chart| (made.case, chart))
+            })
+            .unzip();
+        println!("{} of {CORPUS} are made to be accepted", cases.len());
+        assert!(cases.len() * 20 > CORPUS * 9, "about half of the random cases are made to be accepted");
+        for ((case, chart), answered) in cases.iter().zip(&charts).zip(all(&cases)) {
+            let (seen, expected) = (seen(&answered, case.operation), expected(case, chart));
+            assert!(seen == expected, "operation {}: {} and not {}", case.operation, told(&seen), told(&expected));
+        }
+    }
+}
+
+/// Operation, number and file of each answer that a corpus must have.
+fn wanted() -> BTreeSet<(u8, u32, u32)> {
+    let mut wanted = BTreeSet::new();
+    for operation in [READ, WRITE, UPDATE] {
+        wanted.extend([0].map(|number| (operation, number, 0)));
+        wanted.extend([1, 2, 3, 4, 5, 6, 7, 11, 14].map(|number| (operation, number, 1)));
+    }
+    for operation in [WRITE, UPDATE] {
+        wanted.extend([(operation, 12, 1), (operation, 13, 3), (operation, 14, 3)]);
+    }
+    wanted.extend([1, 2, 3, 4, 5, 6, 7, 8, 9, 10, 12, 14].map(|number| (UPDATE, number, 2)));
+    wanted.extend([(UPDATE, 11, 3), (UPDATE, 15, 0)]);
+    wanted
+}
+
+/// How often each (operation, number, file) and each first word of a listing is the answer.
+type Met = (BTreeMap<(u8, u32, u32), usize>, BTreeMap<String, usize>);
+
+fn answers_met(cases: &[Case]) -> Met {
+    let (mut met, mut printed): Met = Default::default();
+    for some in cases.chunks(100) {
+        for (case, answered) in some.iter().zip(all(some)) {
+            match seen(&answered, case.operation) {
+                Intent::Done { .. } => *met.entry((case.operation, 0, 0)).or_default() += 1,
+                Intent::Refused(number, file, _) => *met.entry((case.operation, number, file)).or_default() += 1,
+                Intent::Prints(text) => {
+                    let word = text.split(' ').next().unwrap_or("");
+                    *printed.entry(word.to_string()).or_default() += 1;
+                }
+            }
+        }
+    }
+    (met, printed)
+}
+
+#[test]
+fn a_corpus_has_every_answer() {
+    let cases = corpus(SEEDS[0], CORPUS);
+    assert_eq!(cases.len(), CORPUS);
+    let bytes: usize = cases.iter().map(|case| case.dataset.len() + case.update.len()).sum();
+    assert!(bytes < 150_000_000, "{bytes} bytes");
+    let (met, printed) = answers_met(&cases);
+    println!("{met:?} {printed:?}");
+    let missing: Vec<(u8, u32, u32)> = wanted().into_iter().filter(|answer| !met.contains_key(answer)).collect();
+    assert!(missing.is_empty(), "no case has (operation, number, file) {missing:?}");
+    let strange: Vec<&(u8, u32, u32)> = met.keys().filter(|answer| !wanted().contains(answer)).collect();
+    assert!(strange.is_empty(), "no case should have (operation, number, file) {strange:?}");
+    assert_eq!(printed.keys().collect::<Vec<_>>(), ["rec", "refused", "too"]);
+}
+
+#[test]
+fn a_seed_decides_every_byte() {
+    let count = 400;
+    assert!(framed(&corpus(7, count)) == framed(&corpus(7, count)));
+    assert!(framed(&corpus(7, count)) != framed(&corpus(8, count)));
+    assert_eq!(corpus(7, count).len(), count);
+    assert!(corpus(7, 0).is_empty());
+}
