@@ -30,7 +30,7 @@ use Rattle.fields.proofs.ByteLaws.{le1}
 use Rattle.fields.proofs.SizeLaws.{isNum, num-size, num-some, sizes-cons}
 use Rattle.fields.proofs.FieldLaws.{filled}
 use Rattle.fields.proofs.ValueLaws.{isNumber, lies, head-number}
-use Rattle.fields.proofs.WiderLaws.{format-wider}
+use Rattle.fields.proofs.WiderLaws.{attr, spas, format-wider}
 use Rattle.skeleton.specs.File.{Field}
 use Rattle.skeleton.specs.Place.{between, placeAt, fieldsAt}
 use Rattle.skeleton.specs.declared.directory.Shape.{Shape}
@@ -129,9 +129,9 @@ wider-true t b e = by-tag (eqb t ATTR) (eqb t INAS) (eqb t SPAS) (pick (eqb t FO
     by-tag : (a i s : Bool) (k : Format)
         → fill (headOf (pick a AttrNew (pick i (inasFormat true b) (pick s SpasNew k)))) (tupleOf (pick a AttrNew (pick i (inasFormat true b) (pick s SpasNew k)))) b ≡ true
         → fill (headOf (pick a Attr (pick i (inasFormat false b) (pick s Spas k)))) (tupleOf (pick a Attr (pick i (inasFormat false b) (pick s Spas k)))) b ≡ true
-    by-tag true i s k g = (format-wider AttrNew b g) .0
+    by-tag true i s k g = (format-wider attr b g) .0
     by-tag false true s k g = inas-wider b g
-    by-tag false false true k g = (format-wider SpasNew b g) .0
+    by-tag false false true k g = (format-wider spas b g) .0
     by-tag false false false k g = g
 
 pub fit-any : (new : Bool) (f : Field) → fits new f ≡ true → fits false f ≡ true

@@ -12,7 +12,7 @@ use Rattle.fields.specs.Table.{headOf, tupleOf}
 use Rattle.fields.specs.Content.{fill}
 use Rattle.fields.specs.declared.Format.the-variants.{Irid, IridNew, Prid, PridNew, Mrid, MridNew, Frid, FridNew}
 use Rattle.fields.proofs.ValueLaws.{head-number}
-use Rattle.fields.proofs.WiderLaws.{format-wider}
+use Rattle.fields.proofs.WiderLaws.{irid, prid, mrid, frid, format-wider}
 use Rattle.skeleton.specs.File.{Field}
 use Rattle.skeleton.specs.Place.{between, placeAt, fieldsAt}
 use Rattle.skeleton.specs.declared.directory.Shape.{Shape}
@@ -119,10 +119,10 @@ stands-identified new k b u e = go new k (stands-fill 1 (identFormat new k) b u 
   where
     go : (n : Bool) (j : Kind) → fill (headOf (identFormat n j)) (tupleOf (identFormat n j)) b ≡ true → fill (headOf (identFormat false j)) (tupleOf (identFormat false j)) b ≡ true
     go false j f = f
-    go true Info f = (format-wider IridNew b f) .0
-    go true Point f = (format-wider PridNew b f) .0
-    go true Multi f = (format-wider MridNew b f) .0
-    go true Feature f = (format-wider FridNew b f) .0
+    go true Info f = (format-wider irid b f) .0
+    go true Point f = (format-wider prid b f) .0
+    go true Multi f = (format-wider mrid b f) .0
+    go true Feature f = (format-wider frid b f) .0
 
 -- as the first field of a record
 pub five-identified : (m : Mode) (k : Kind) (f : Field) (fs : List Field) (u : Unit {0}) → number5 m k (f ∷ fs) ≡ ok u → identified k (f .body) ≡ true

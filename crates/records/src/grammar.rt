@@ -1,24 +1,23 @@
 // Number 4: a record's tags, their order and their presence.
+use crate::order::Instructions;
+use crate::order::order;
+use crate::tagged::coui_byte;
+use crate::tagged::has_field;
 use rules::Kind;
 use rules::Mode;
 use skeleton::directory::Shape;
 use skeleton::place::Place;
 use skeleton::place::place_at;
-use crate::order::Instructions;
-use crate::order::order;
-use crate::tagged::coui_byte;
-use crate::tagged::has_field;
 ghost use mathlib.Core.Path.{_≡_};
 ghost use Prim.Native.Nat.{_≤_};
 ghost use lib.ListN.{length};
 ghost use Rattle.skeleton.specs.Place.{between, fieldsAt};
 ghost use Rattle.skeleton.specs.Shape.{Bounded};
-ghost use Rattle.rules.specs.Kind.{kindOf, rank, coded, rowsOf, generalRows};
+ghost use Rattle.rules.specs.Kind.{kindOf, rank, rowsOf};
 ghost use Rattle.rules.specs.Grammar.{inOrder, complete, ruinByte, asStored, fieldsStand, number4};
 ghost use Rattle.base.specs.Check.{bind, ok};
-ghost use Rattle.base.specs.Choice.{pick};
 ghost use Rattle.records.specs.Order.{shutOut, faultyField};
-ghost use Rattle.records.specs.Graded.{graded, foundKind};
+ghost use Rattle.records.specs.Graded.{graded, foundKind, ruinPlace};
 
 // A record's kind, where its tags are right; or the refusal's number, field and tuple.
 pub enum Tags {
@@ -65,7 +64,7 @@ pub fn rank_of(k: Kind) -> usize
 
 // Where RUIN stands in an identifier: behind the code, if there is one.
 fn ruin_place(k: Kind) -> usize
-    ensures { λ n. ⌜ n ≡ pick (coded k) 9 7 ⌝ }
+    ensures { λ n. ⌜ n ≡ ruinPlace k ⌝ }
 {
     match k {
         Kind::Info => 9,
@@ -119,7 +118,13 @@ fn kind_order(r: &[u8], h: Shape, p: usize, k: Kind, s: Instructions) -> usize
         Kind::Info => order(r, h, p, &[0x41545452, 0x494e4153], s),
         Kind::Point => order(r, h, p, &[0x494e4153, 0x43324954], s),
         Kind::Multi => order(r, h, p, &[0x494e4153, 0x434f4343, 0x4332494c], s),
-        Kind::Feature => order(r, h, p, &[0x464f4944, 0x41545452, 0x494e4153, 0x53504153], s),
+        Kind::Feature => order(
+            r,
+            h,
+            p,
+            &[0x464f4944, 0x41545452, 0x494e4153, 0x53504153],
+            s,
+        ),
     }
 }
 
