@@ -10,7 +10,7 @@ use Rattle.base.proofs.CheckLaws.{bind-inv}
 use Rattle.fields.specs.Bytes.{le}
 use Rattle.fields.specs.Table.{headOf, tupleOf}
 use Rattle.fields.specs.Content.{fill}
-use Rattle.fields.specs.declared.Format.the-variants.{Irid, IridNew, Prid, PridNew, Mrid, MridNew, Frid, FridNew}
+use Rattle.fields.specs.declared.Format.the-variants.{Irid, Prid, Mrid, Frid}
 use Rattle.fields.proofs.ValueLaws.{head-number}
 use Rattle.fields.proofs.WiderLaws.{irid, prid, mrid, frid, format-wider}
 use Rattle.skeleton.specs.File.{Field}
