@@ -1,3 +1,4 @@
 pub mod VerdictLaws
 pub mod RecordLaws
 pub mod WalkLaws
+pub mod FileLaws

@@ -32,13 +32,13 @@ use Rattle.rules.specs.declared.Mode.the-variants.{InDataset}
 use Rattle.records.specs.Graded.{graded}
 use Rattle.records.specs.declared.grammar.Tags.{Tags}
 use Rattle.records.specs.declared.grammar.Tags.the-variants.{Right, Wrong}
-use Rattle.contents.proofs.OnceLaws.{four-first}
 use Rattle.keys.specs.Key.{keyAt}
 use Rattle.keys.specs.Listed.{keysFrom, seenFrom}
 use Rattle.keys.specs.Look.{Known}
 use Rattle.keys.specs.Map.{kindIn}
 use Rattle.keys.specs.Once.{largerOf, Once, Comes, Told}
 use Rattle.keys.specs.Standing.{fourToSix, outcomeFrom, Standing}
+use Rattle.keys.proofs.PassedLaws.{placed-five, placed-tag}
 use Rattle.keys.proofs.StandingLaws.{once-start, standing-start, standing-over, standing-refused, standing-before, standing-comes, standing-kind, standing-seven, standing-within, standing-more}
 use Rattle.dataset.specs.Numbers.{fourToSixIn}
 use Rattle.dataset.specs.Walk.{wholeFrom, Went, walkedBy}
@@ -47,29 +47,6 @@ use Rattle.dataset.specs.declared.walk.Admitted.the-variants.{Key, Stop}
 use Rattle.dataset.specs.declared.walk.Walked.{Walked}
 use Rattle.dataset.specs.declared.walk.Walked.the-variants.{Over, Stopped}
 use Rattle.dataset.proofs.VerdictLaws.{passed-is, refused-is, right-is, wrong-is}
-
--- ---- a record that has passed 4 to 6
-
-four-five : (a : Check Kind) (b c : Kind → Passed) (k : Kind) → bind a (λ j. bind (b j) (λ _. bind (c j) (λ _. ok j))) ≡ ok k → (a ≡ ok k) × (b k ≡ pass)
-unfolding bind
-four-five (no x) b c k e = absurd (let y : _≡_ {A = ℕ} 0 1 = cc in omega arith)
-four-five (ok j) b c k e = go (b j) (c j) refl e
-  where
-    go : (p q : Passed) → b j ≡ p → bind p (λ _. bind q (λ _. ok j)) ≡ ok k → (ok j ≡ ok k) × (b k ≡ pass)
-    go (no x) q f z = absurd (let y : _≡_ {A = ℕ} 0 1 = cc in omega arith)
-    go (ok tt) (no x) f z = absurd (let y : _≡_ {A = ℕ} 0 1 = cc in omega arith)
-    go (ok tt) (ok u) f z = let y : j ≡ k = cc in (z, rw (← y) f)
-
-module _ (least : ℕ) (fs : List Field) (k : Kind) (e : fourToSix least fs ≡ ok k) where
-  parts : (number4 InDataset least fs ≡ ok k) × (number5 InDataset k fs ≡ pass)
-  unfolding fourToSix
-  parts = four-five (number4 InDataset least fs) (λ j. number5 InDataset j fs) (λ j. number6 InDataset j fs) k e
-
-  pub seven-five : number5 InDataset k fs ≡ pass
-  seven-five = parts .1
-
-  pub seven-first : firstTag fs ≡ tagOf k
-  seven-first = four-first InDataset least fs k (parts .0)
 
 -- ---- the record at p
 
@@ -130,7 +107,7 @@ module _ (f : List ℕ) (start p len : ℕ) (h : Shape) (m top : ℕ) (hd : reco
     four-stopped t n i j x =
         standing-before f start p m top _ s l (recordAt f p) refl len (h .base) (h .a) (h .b) hd (fault n i j) (wrong-is _ n i j (sym x ∙ numbers))
 
-pub ruleset seventh-ways = (seven-five, seven-first, at-bounded, at-in, at-word, base-word, base-small, key-comes, key-kind, key-twice, links-twice, record-right, arith)
+pub ruleset seventh-ways = (placed-five, placed-tag, at-bounded, at-in, at-word, base-word, base-small, key-comes, key-kind, key-twice, links-twice, record-right, arith)
 
 pub ruleset admit-ways = (at-bounded, at-in, at-word, four-passed, four-stopped, arith)
 
