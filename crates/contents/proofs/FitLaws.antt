@@ -21,7 +21,6 @@ use Rattle.fields.specs.declared.Format.the-variants.{Foid, Attr, AttrNew, Inas
 use Rattle.fields.specs.declared.Tally.{Tally}
 use Rattle.fields.specs.declared.Tally.the-variants.{Whole, Short}
 use Rattle.fields.proofs.ByteLaws.{le1}
-use Rattle.fields.proofs.FieldLaws.{filled}
 use Rattle.fields.proofs.ValueLaws.{head-number, head-allowed}
 use Rattle.fields.proofs.WiderLaws.{attr, spas, format-wider}
 use Rattle.skeleton.specs.File.{Field}

@@ -5,7 +5,6 @@ use Prim.Native.Nat.{ℕ, zero, suc, _+_, _-_}
 use lib.ListN.{length, take, drop}
 use lib.Seq.{drop-drop, drop-nil, take-add}
 use Rattle.base.specs.Lists.{each, gather}
-use Rattle.fields.specs.Content.{many}
 
 -- what f makes of each is as many
 pub each-length : {A B : Type 0} (f : A → B) (xs : List A) → length (each f xs) ≡ length xs

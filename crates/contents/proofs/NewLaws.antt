@@ -12,7 +12,6 @@ use Rattle.fields.specs.Table.{headOf, tupleOf}
 use Rattle.fields.specs.Content.{fill}
 use Rattle.skeleton.specs.Place.{fieldsAt}
 use Rattle.skeleton.specs.declared.directory.Shape.{Shape}
-use Rattle.rules.specs.Tags.{INAS}
 use Rattle.rules.specs.Content.{inasFormat}
 use Rattle.rules.specs.Associations.{inasKey, keysOnce}
 use Rattle.contents.specs.Keys.{listOf, inasKeyAt, spasKeys, keysIn, hasFrom, seenFrom, seenBefore, topWith, told, inasOnce}

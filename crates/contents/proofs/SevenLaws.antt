@@ -9,7 +9,7 @@ use borrow.Author.Tests.{eqb-true}
 use lib.Dec.{eqb, ltb}
 use Rattle.base.specs.Choice.{pick}
 use Rattle.base.specs.Check.{Check, ok, no, bind, fault, Passed, pass}
-use Rattle.base.specs.Lists.{each, gather}
+use Rattle.base.specs.Lists.{gather}
 use Rattle.base.proofs.CheckLaws.{bind-inv, ok-inj}
 use Rattle.base.specs.Verdict.{verdictOf}
 use Rattle.base.specs.declared.Verdict.{Verdict}
