@@ -4,7 +4,7 @@ use mathlib.Core.List.{List, []}
 use mathlib.Core.Bool.{Bool, true}
 use Prim.Native.Nat.{ℕ, _+_, _-_, _^_, _≤_, _<_}
 use native.Mathlib.Omega.{arith}
-use lib.ListN.{length, drop}
+use lib.ListN.{length, drop, replicate}
 use Rattle.base.specs.Check.{ok, no, fault, Passed, pass}
 use Rattle.base.specs.Choice.{both}
 use Rattle.base.specs.Lists.{each}
@@ -125,8 +125,8 @@ module _ (f : List ℕ) (start p m : ℕ) (s : Reached f start p m) (l : p < len
             clean = rw (records-more f p l h found len base a b x) at (s .clean);
             readable = apart .1;
             same = λ recs q.
-            references-more recs f p m _ (s .same recs q) l h found len base a b x tt
-            (passed-is (number11 (each keyOf recs) (marks 1 fields)) (sym y ∙ said recs q));
+                references-more recs f p m _ (s .same recs q) l h found len base a b x tt
+                (passed-is (number11 (each keyOf recs) (marks 1 fields)) (sym y ∙ said recs q));
           }
 
       pub record-loose : (k i j : ℕ) → v ≡ Refused k i j → Answers f start (Loose (m + 4) i j)
@@ -138,6 +138,18 @@ module _ (f : List ℕ) (start p m : ℕ) (s : Reached f start p m) (l : p < len
 
 pub ruleset records-turn =
     (reached-start, reached-in, reached-over, reached-unread, record-readable, record-bounded, record-in, record-runs, record-small, record-word, record-counts, record-number, record-falls, record-more, record-loose)
+
+-- ---- the whole: what 1 to 7 give
+
+module _ (f : List ℕ) (start : ℕ) (passed : outcomeFrom f start 0 [] ≡ done tt) (small : length f ≤ 16777216) (inside : start ≤ length f) where
+  pub loose-sound : Sound f start
+  loose-sound = passed-sound f start passed small inside
+
+  -- a table that is not filled yet
+  pub loose-table : (n : ℕ) → Tails f start (replicate n start)
+  loose-table n = tails-same f start n loose-sound
+
+pub ruleset loose-ways = (loose-sound, loose-table, passed-readable, arith)
 
 -- ---- for callers
 

@@ -33,7 +33,15 @@ fn every_named(f: &[u8], start: usize, t: &[u32], n: usize, map: &[u8]) -> Linke
     let mut m = 0;
     while p < f.len() {
         match stated_at(f, p) {
-            Head::Good { len, base, a, b } => match record_named(f, start, t, n, map, &f[p..p + len], Shape { base, a, b }) {
+            Head::Good { len, base, a, b } => match record_named(
+                f,
+                start,
+                t,
+                n,
+                map,
+                &f[p..p + len],
+                Shape { base, a, b },
+            ) {
                 Verdict::Passed => {
                     p += len;
                     m += 1;

@@ -22,7 +22,15 @@ ghost use Rattle.references.specs.Readable.{readable, allReadable};
 ghost use Rattle.references.specs.Named.{Says};
 
 // The record that the INAS b, field i, names.
-fn inas_named(f: &[u8], start: usize, t: &[u32], n: usize, map: &[u8], b: &[u8], i: usize) -> Verdict
+fn inas_named(
+    f: &[u8],
+    start: usize,
+    t: &[u32],
+    n: usize,
+    map: &[u8],
+    b: &[u8],
+    i: usize,
+) -> Verdict
     requires { ⌜ (Laid (now f) start (now t) n (now map)) × (fill (headOf InasNew) (tupleOf InasNew) (now b) ≡ true) ⌝ }
     ensures { λ v. ⌜ Says (now (f .entry)) start (record { key = inasKey (now (b .entry)); field = i; tuple = 0 } ∷ []) v ⌝ }
 {
@@ -33,7 +41,15 @@ fn inas_named(f: &[u8], start: usize, t: &[u32], n: usize, map: &[u8], b: &[u8],
 }
 
 // The records that the tuples of the SPAS b, field i, name.
-fn spas_named(f: &[u8], start: usize, t: &[u32], n: usize, map: &[u8], b: &[u8], i: usize) -> Verdict
+fn spas_named(
+    f: &[u8],
+    start: usize,
+    t: &[u32],
+    n: usize,
+    map: &[u8],
+    b: &[u8],
+    i: usize,
+) -> Verdict
     requires { ⌜ (Laid (now f) start (now t) n (now map)) × (length (now b) ≤ 16777216) × (fill (headOf Spas) (tupleOf Spas) (now b) ≡ true) ⌝ }
     ensures { λ v. ⌜ Says (now (f .entry)) start (spasMarks i 1 (many (tupleOf Spas) (now (b .entry)))) v ⌝ }
 {
@@ -50,7 +66,16 @@ fn spas_named(f: &[u8], start: usize, t: &[u32], n: usize, map: &[u8], b: &[u8],
 }
 
 // The records that field i with this tag names.
-fn field_named(f: &[u8], start: usize, t: &[u32], n: usize, map: &[u8], tag: u32, b: &[u8], i: usize) -> Verdict
+fn field_named(
+    f: &[u8],
+    start: usize,
+    t: &[u32],
+    n: usize,
+    map: &[u8],
+    tag: u32,
+    b: &[u8],
+    i: usize,
+) -> Verdict
     requires { ⌜ (Laid (now f) start (now t) n (now map)) × (length (now b) ≤ 16777216) × (readable (record { tag = tag; body = now b }) ≡ true) ⌝ }
     ensures { λ v. ⌜ Says (now (f .entry)) start (fieldMarks i (record { tag = tag; body = now (b .entry) })) v ⌝ }
 {
@@ -64,7 +89,15 @@ fn field_named(f: &[u8], start: usize, t: &[u32], n: usize, map: &[u8], tag: u32
 }
 
 // The records that the record r names.
-pub fn record_named(f: &[u8], start: usize, t: &[u32], n: usize, map: &[u8], r: &[u8], h: Shape) -> Verdict
+pub fn record_named(
+    f: &[u8],
+    start: usize,
+    t: &[u32],
+    n: usize,
+    map: &[u8],
+    r: &[u8],
+    h: Shape,
+) -> Verdict
     requires { ⌜ (Laid (now f) start (now t) n (now map)) × Bounded h × (length (now r) ≤ 16777216) × (allReadable (fieldsAt (now r) h 24) ≡ true) ⌝ }
     ensures { λ v. ⌜ Says (now (f .entry)) start (marks 1 (fieldsAt (now (r .entry)) h 24)) v ⌝ }
 {
