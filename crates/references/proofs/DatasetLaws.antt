@@ -1,5 +1,5 @@
 -- Laws of number 11 of a dataset, record after record. Assumes nothing.
-use mathlib.Core.Path.{_≡_, refl, sym, ap, _∙_}
+use mathlib.Core.Path.{_≡_, refl, sym, ap, ap₂, _∙_}
 use mathlib.Core.List.{List, []}
 use mathlib.Core.Bool.{Bool, true}
 use Prim.Native.Nat.{ℕ, _+_, _-_, _^_, _≤_, _<_}
@@ -10,6 +10,7 @@ use Rattle.base.specs.Choice.{both}
 use Rattle.base.specs.Lists.{each}
 use Rattle.base.specs.Verdict.{verdictOf}
 use Rattle.base.specs.Walk.{Got, before}
+use Rattle.base.specs.declared.Fault.{Fault}
 use Rattle.base.specs.declared.Verdict.{Verdict}
 use Rattle.base.specs.declared.Verdict.the-variants.{Passed as Through, Refused}
 use Rattle.base.proofs.ChoiceLaws.{both-hold}
@@ -26,6 +27,7 @@ use Rattle.rules.specs.Associations.{marks, number11}
 use Rattle.rules.specs.Record.{Rec, keyOf}
 use Rattle.rules.specs.Outcome.{Outcome, done, refused}
 use Rattle.rules.specs.File.{references}
+use Rattle.contents.proofs.VerdictLaws.{says-pass}
 use Rattle.keys.specs.Listed.{keysFrom}
 use Rattle.keys.specs.Look.{Sound}
 use Rattle.keys.specs.Numbered.{Numbered}
@@ -38,7 +40,6 @@ use Rattle.references.specs.Named.{Says}
 use Rattle.references.specs.Linked.{linkedBy, Answers}
 use Rattle.references.specs.declared.dataset.Linked.{Linked}
 use Rattle.references.specs.declared.dataset.Linked.the-variants.{All, Loose}
-use Rattle.references.proofs.MarkLaws.{passed-is, refused-is}
 use Rattle.references.proofs.ReadableLaws.{passed-readable}
 use Rattle.references.proofs.RecordLaws.{part-small}
 
@@ -64,6 +65,12 @@ reached-in f start p m s = s .inside
 pub reached-over : (f : List ℕ) (start p m : ℕ) → Reached f start p m → length f ≤ p → Answers f start All
 unfolding Answers linkedBy
 reached-over f start p m s h recs b = ap linkedBy (references-over recs f p m _ (s .same recs b) h)
+
+-- a test that is refused, and where
+refused-at : (c : Passed) (k i j : ℕ) → Refused k i j ≡ verdictOf c → (x : Fault) × (c ≡ no x) × (i ≡ x .field) × (j ≡ x .tuple)
+unfolding verdictOf
+refused-at (ok u) k i j e = absurd (let z : _≡_ {A = ℕ} 0 1 = cc in omega arith)
+refused-at (no x) k i j e = (x, refl, cc, cc)
 
 -- the record at hand, by what its leader says
 module _ (f : List ℕ) (start p m : ℕ) (s : Reached f start p m) (l : p < length f) (h : Head) (eh : h ≡ statedAt f p) where
@@ -126,15 +133,14 @@ module _ (f : List ℕ) (start p m : ℕ) (s : Reached f start p m) (l : p < len
             readable = apart .1;
             same = λ recs q.
                 references-more recs f p m _ (s .same recs q) l h found len base a b x tt
-                (passed-is (number11 (each keyOf recs) (marks 1 fields)) (sym y ∙ said recs q));
+                (says-pass (number11 (each keyOf recs) (marks 1 fields)) (sym (said recs q) ∙ y));
           }
 
       pub record-loose : (k i j : ℕ) → v ≡ Refused k i j → Answers f start (Loose (m + 4) i j)
       unfolding Says Answers linkedBy
       record-loose k i j y recs q =
-          ap linkedBy
-          (references-loose recs f p m _ (s .same recs q) l h found len base a b x (fault k i j)
-          (refused-is (number11 (each keyOf recs) (marks 1 fields)) k i j (sym y ∙ said recs q)))
+          let w = refused-at (number11 (each keyOf recs) (marks 1 fields)) k i j (sym y ∙ said recs q) in
+          ap₂ (Loose (m + 4)) (w .2) (w .3) ∙ ap linkedBy (references-loose recs f p m _ (s .same recs q) l h found len base a b x (w .0) (w .1))
 
 pub ruleset records-turn =
     (reached-start, reached-in, reached-over, reached-unread, record-readable, record-bounded, record-in, record-runs, record-small, record-word, record-counts, record-number, record-falls, record-more, record-loose)

@@ -3,7 +3,6 @@ use mathlib.Core.Path.{_≡_, refl, sym, ap, _∙_}
 use mathlib.Core.List.{List, [], _∷_, _++_}
 use mathlib.Core.Bool.{Bool, true, false}
 use Prim.Native.Nat.{ℕ}
-use native.Mathlib.Omega.{arith}
 use lib.ListN.{take}
 use Rattle.base.specs.Choice.{pick}
 use Rattle.base.specs.Check.{Check, ok, no, bind, fault, Passed, pass}
@@ -14,6 +13,7 @@ use Rattle.base.specs.declared.Verdict.{Verdict}
 use Rattle.base.specs.declared.Verdict.the-variants.{Passed as Through, Refused}
 use Rattle.rules.specs.Associations.{Mark, number11}
 use Rattle.rules.specs.Record.{Rec, keyOf}
+use Rattle.contents.proofs.VerdictLaws.{says-pass, says-no}
 use Rattle.keys.specs.Key.{keyAt}
 use Rattle.keys.specs.Listed.{keysFrom, hasFrom}
 use Rattle.keys.specs.Look.{Sound}
@@ -22,26 +22,10 @@ use Rattle.keys.proofs.NamedLaws.{Names}
 use Rattle.keys.proofs.ReferenceLaws.{Reads, named-more, named-loose}
 use Rattle.references.specs.Named.{Says, Alike}
 
--- ---- verdicts
-
-pub passed-is : (c : Passed) → Through ≡ verdictOf c → c ≡ pass
-unfolding verdictOf
-passed-is (ok tt) e = refl
-passed-is (no x) e = absurd (let y : _≡_ {A = ℕ} 0 1 = cc in omega arith)
-
-pub refused-is : (c : Passed) (k i j : ℕ) → Refused k i j ≡ verdictOf c → c ≡ no (fault k i j)
-unfolding verdictOf
-refused-is (ok u) k i j e = absurd (let y : _≡_ {A = ℕ} 0 1 = cc in omega arith)
-refused-is (no x) k i j e =
-    let a : k ≡ x .number = cc in
-    let b : i ≡ x .field = cc in
-    let d : j ≡ x .tuple = cc in
-    rw (a, b, d)
-
 -- ---- references one after the other
 
 -- those of two parts: the second is asked where the first passes
-pub number11-parts : (keys : List (List ℕ)) (ms ns : List Mark) → number11 keys (ms ++ ns) ≡ bind (number11 keys ms) (λ _. number11 keys ns)
+number11-parts : (keys : List (List ℕ)) (ms ns : List Mark) → number11 keys (ms ++ ns) ≡ bind (number11 keys ms) (λ _. number11 keys ns)
 unfolding number11 bind
 number11-parts keys [] ns = refl
 number11-parts keys (m ∷ ms) ns = go (among (take 2 (m .key)) keys) (number11-parts keys ms ns)
@@ -52,6 +36,7 @@ number11-parts keys (m ∷ ms) ns = go (among (take 2 (m .key)) keys) (number11-
     go false e = refl
 
 module _ (f : List ℕ) (start : ℕ) where
+  -- before anything was asked
   pub alike-same : (ms : List Mark) → Alike f start ms ms
   unfolding Alike
   alike-same ms recs b = refl
@@ -61,24 +46,19 @@ module _ (f : List ℕ) (start : ℕ) where
   unfolding Says Alike number11 verdictOf
   says-none whole a recs b = ap verdictOf (a recs b)
 
-  -- what is said of the same is the same
-  pub says-alike : (ms whole : List Mark) (v : Verdict) → Alike f start ms whole → Says f start ms v → Says f start whole v
-  unfolding Says Alike
-  says-alike ms whole v a s recs b = s recs b ∙ ap verdictOf (a recs b)
-
   -- a first part that passes, and one that is refused
   module _ (ms ns whole : List Mark) (a : Alike f start (ms ++ ns) whole) (v : Verdict) (s : Says f start ms v) where
     pub parts-more : v ≡ Through → Alike f start ns whole
     unfolding Says Alike bind
     parts-more x recs b =
         let keys = each keyOf recs in
-        rw (passed-is (number11 keys ms) (sym x ∙ s recs b)) at (rw (number11-parts keys ms ns) at (a recs b))
+        rw (says-pass (number11 keys ms) (sym (s recs b) ∙ x)) at (rw (number11-parts keys ms ns) at (a recs b))
 
     pub parts-refused : (k i j : ℕ) → v ≡ Refused k i j → Says f start whole (Refused k i j)
-    unfolding Says Alike bind verdictOf
+    unfolding Says Alike
     parts-refused k i j x recs b =
         let keys = each keyOf recs in
-        ap verdictOf (rw (refused-is (number11 keys ms) k i j (sym x ∙ s recs b)) at (rw (number11-parts keys ms ns) at (a recs b)))
+        says-no (number11 keys ms) (λ _. number11 keys ns) k i j (sym (s recs b) ∙ x) ∙ ap verdictOf (sym (number11-parts keys ms ns) ∙ a recs b)
 
   -- the first reference, which stands in the bytes l at p
   module _ (sound : Sound f start) (m : Mark) (ms whole : List Mark) (a : Alike f start (m ∷ ms) whole) (l : List ℕ) (p : ℕ)

@@ -57,10 +57,6 @@ pub ruleset inas-ways = (inas-there, inas-loose)
 
 -- ---- the loop over the tuples of a SPAS: tuple j at offset at, where the whole is `whole`
 
--- from the first tuple on
-pub tuples-start : (f : List ℕ) (start : ℕ) (b : List ℕ) (i : ℕ) → Alike f start (spasMarks i 1 (many (tupleOf Spas) (drop 0 b))) (spasMarks i 1 (many (tupleOf Spas) b))
-tuples-start f start b i = alike-same f start (spasMarks i 1 (many (tupleOf Spas) b))
-
 module _ (f : List ℕ) (start : ℕ) (b : List ℕ) (i at j : ℕ) (whole : List Mark)
     (inv : Alike f start (spasMarks i j (many (tupleOf Spas) (drop at b))) whole) where
   none-left : length b ≤ at → many (tupleOf Spas) (drop at b) ≡ []
@@ -110,7 +106,7 @@ module _ (b : List ℕ) (at : ℕ) (g : at < length b) (z : endingAt (tupleOf Sp
   tuples-word l = let i = tuples-in in omega arith
 
 pub ruleset tuples-turn =
-    (tuples-start, tuples-over, tuples-more, tuples-loose, tuples-end, tuples-in, tuples-falls, tuples-word, spas-ends, arith)
+    (alike-same, tuples-over, tuples-more, tuples-loose, tuples-end, tuples-in, tuples-falls, tuples-word, spas-ends, arith)
 
 -- ---- one field
 
@@ -133,10 +129,6 @@ module _ (f : List ℕ) (start tag : ℕ) (b : List ℕ) (i : ℕ) where
 pub ruleset field-ways = (field-inas, field-spas, field-other, inas-readable, spas-readable)
 
 -- ---- the loop over the fields of a record: field i at place q, where the whole is `whole`
-
--- from the first field on
-pub fields-start : (f : List ℕ) (start : ℕ) (ms : List Mark) → Alike f start ms ms
-fields-start = alike-same
 
 module _ (f : List ℕ) (start : ℕ) (r : List ℕ) (h : Shape) (q i : ℕ) (whole : List Mark) (inv : Alike f start (marks i (fieldsAt r h q)) whole)
     (e : Place) (en : e ≡ placeAt r h q) where
@@ -163,4 +155,4 @@ module _ (f : List ℕ) (start : ℕ) (r : List ℕ) (h : Shape) (q i : ℕ) (wh
 pub part-small : (r : List ℕ) (i j n : ℕ) → length r ≤ n → length (between r i j) ≤ n
 part-small r i j n h = omega (arith, length-take (j - i) (drop i r), length-drop i r)
 
-pub ruleset fields-turn = (fields-start, fields-over, fields-on, fields-refused, part-small, readable-here, readable-next, step-bounds)
+pub ruleset fields-turn = (alike-same, fields-over, fields-on, fields-refused, part-small, readable-here, readable-next, step-bounds)
