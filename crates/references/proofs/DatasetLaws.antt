@@ -1,0 +1,172 @@
+-- Laws of number 11 of a dataset, record after record. Assumes nothing.
+use mathlib.Core.Path.{_≡_, refl, sym, ap, ap₂, _∙_}
+use mathlib.Core.List.{List, []}
+use mathlib.Core.Bool.{Bool, true}
+use Prim.Native.Nat.{ℕ, _+_, _-_, _^_, _≤_, _<_}
+use native.Mathlib.Omega.{arith}
+use lib.ListN.{length, drop, replicate}
+use Rattle.base.specs.Check.{ok, no, fault, Passed, pass}
+use Rattle.base.specs.Choice.{both}
+use Rattle.base.specs.Lists.{each}
+use Rattle.base.specs.Verdict.{verdictOf}
+use Rattle.base.specs.Walk.{Got, before}
+use Rattle.base.specs.declared.Fault.{Fault}
+use Rattle.base.specs.declared.Verdict.{Verdict}
+use Rattle.base.specs.declared.Verdict.the-variants.{Passed as Through, Refused}
+use Rattle.base.proofs.ChoiceLaws.{both-hold}
+use Rattle.skeleton.specs.File.{Field, recordsFrom}
+use Rattle.skeleton.specs.Place.{between, fieldsAt}
+use Rattle.skeleton.specs.Record.{recordAt, statedAt}
+use Rattle.skeleton.specs.Shape.{Bounded}
+use Rattle.skeleton.specs.declared.leader.Head.{Head}
+use Rattle.skeleton.specs.declared.leader.Head.the-variants.{Good, Refused as Unread}
+use Rattle.skeleton.proofs.RecordLaws.{Right, right}
+use Rattle.skeleton.proofs.FileLaws.{records-more}
+use Rattle.skeleton.proofs.AgainLaws.{again, again-not, records-some}
+use Rattle.rules.specs.Associations.{marks, number11}
+use Rattle.rules.specs.Record.{Rec, keyOf}
+use Rattle.rules.specs.Outcome.{Outcome, done, refused}
+use Rattle.rules.specs.File.{references}
+use Rattle.contents.proofs.VerdictLaws.{says-pass}
+use Rattle.keys.specs.Listed.{keysFrom}
+use Rattle.keys.specs.Look.{Sound}
+use Rattle.keys.specs.Numbered.{Numbered}
+use Rattle.keys.specs.Standing.{outcomeFrom, referencesFrom}
+use Rattle.keys.specs.Table.{Tails, Laid}
+use Rattle.keys.proofs.ReferenceLaws.{Reads, references-over, references-loose, references-more, passed-sound}
+use Rattle.keys.proofs.TableLaws.{tails-same}
+use Rattle.references.specs.Readable.{allReadable, everyReadable}
+use Rattle.references.specs.Named.{Says}
+use Rattle.references.specs.Linked.{linkedBy, Answers}
+use Rattle.references.specs.declared.dataset.Linked.{Linked}
+use Rattle.references.specs.declared.dataset.Linked.the-variants.{All, Loose}
+use Rattle.references.proofs.ReadableLaws.{passed-readable}
+use Rattle.references.proofs.RecordLaws.{part-small}
+
+-- ---- the loop over the records: m records from start on name none that does not exist, and the next begins at p
+
+pub record Reached (f : List ℕ) (start p m : ℕ) : Type 0 where
+  pub small : length f ≤ 16777216
+  pub inside : p ≤ length f
+  pub counted : m ≤ p
+  pub clean : (recordsFrom f p) .ending ≡ 0
+  pub readable : everyReadable ((recordsFrom f p) .items) ≡ true
+  pub same : (recs : List Rec) → Numbered recs (keysFrom f start) → referencesFrom recs f p m ≡ referencesFrom recs f start 0
+
+pub reached-start : (f : List ℕ) (start : ℕ) (t : List ℕ) (n : ℕ) (map : List ℕ) → Laid f start t n map → everyReadable ((recordsFrom f start) .items) ≡ true
+    → Reached f start start 0
+reached-start f start t n map l e =
+    let s = l .sound in
+    record { small = s .small; inside = s .inside; counted = omega arith; clean = s .clean; readable = e; same = λ recs b. refl }
+
+pub reached-in : (f : List ℕ) (start p m : ℕ) → Reached f start p m → p ≤ length f
+reached-in f start p m s = s .inside
+
+pub reached-over : (f : List ℕ) (start p m : ℕ) → Reached f start p m → length f ≤ p → Answers f start All
+unfolding Answers linkedBy
+reached-over f start p m s h recs b = ap linkedBy (references-over recs f p m _ (s .same recs b) h)
+
+-- a test that is refused, and where
+refused-at : (c : Passed) (k i j : ℕ) → Refused k i j ≡ verdictOf c → (x : Fault) × (c ≡ no x) × (i ≡ x .field) × (j ≡ x .tuple)
+unfolding verdictOf
+refused-at (ok u) k i j e = absurd (let z : _≡_ {A = ℕ} 0 1 = cc in omega arith)
+refused-at (no x) k i j e = (x, refl, cc, cc)
+
+-- the record at hand, by what its leader says
+module _ (f : List ℕ) (start p m : ℕ) (s : Reached f start p m) (l : p < length f) (h : Head) (eh : h ≡ statedAt f p) where
+  found : h ≡ recordAt f p
+  found = again f p (records-some f p l (s .clean)) h eh
+
+  pub reached-unread : (n : ℕ) → h ≡ Unread n → (r : Linked) → Answers f start r
+  reached-unread n x r = absurd (again-not f p (records-some f p l (s .clean)) h eh n x)
+
+  module _ (len base a b : ℕ) (x : h ≡ Good len base a b) where
+    whole : Right f p len base a b
+    whole = right f p h found len base a b x
+
+    -- its fields, and the records behind it
+    abbrev fields : List Field
+    fields = fieldsAt (between f p (p + len)) (record { base = base; a = a; b = b }) 24
+
+    apart : (allReadable fields ≡ true) × (everyReadable ((recordsFrom f (p + len)) .items) ≡ true)
+    unfolding everyReadable
+    apart = both-hold _ _ (rw (records-more f p l h found len base a b x) at (s .readable))
+
+    pub record-readable : allReadable fields ≡ true
+    record-readable = apart .0
+
+    pub record-bounded : Bounded (record { base = base; a = a; b = b })
+    record-bounded = whole .bounded
+
+    pub record-in : p + len ≤ length f
+    record-in = whole .inside
+
+    pub record-runs : p ≤ p + len
+    record-runs = omega arith
+
+    pub record-small : length (between f p (p + len)) ≤ 16777216
+    record-small = part-small f p (p + len) 16777216 (s .small)
+
+    pub record-word : p + len < 2 ^ 64
+    record-word = let i = record-in in let k = s .small in omega arith
+
+    pub record-counts : m + 1 < 2 ^ 64
+    record-counts = let c = s .counted in let k = s .small in omega arith
+
+    pub record-number : m + 4 < 2 ^ 64
+    record-number = let c = s .counted in let k = s .small in omega arith
+
+    pub record-falls : length f - (p + len) < length f - p
+    record-falls = let g = whole .long in omega arith
+
+    module _ (v : Verdict) (said : Says f start (marks 1 fields) v) where
+      pub record-more : v ≡ Through → Reached f start (p + len) (m + 1)
+      unfolding Says
+      record-more y =
+          let g = whole .long in
+          let c = s .counted in
+          record {
+            small = s .small;
+            inside = record-in;
+            counted = omega arith;
+            clean = rw (records-more f p l h found len base a b x) at (s .clean);
+            readable = apart .1;
+            same = λ recs q.
+                references-more recs f p m _ (s .same recs q) l h found len base a b x tt
+                (says-pass (number11 (each keyOf recs) (marks 1 fields)) (sym (said recs q) ∙ y));
+          }
+
+      pub record-loose : (k i j : ℕ) → v ≡ Refused k i j → Answers f start (Loose (m + 4) i j)
+      unfolding Says Answers linkedBy
+      record-loose k i j y recs q =
+          let w = refused-at (number11 (each keyOf recs) (marks 1 fields)) k i j (sym y ∙ said recs q) in
+          ap₂ (Loose (m + 4)) (w .2) (w .3) ∙ ap linkedBy (references-loose recs f p m _ (s .same recs q) l h found len base a b x (w .0) (w .1))
+
+pub ruleset records-turn =
+    (reached-start, reached-in, reached-over, reached-unread, record-readable, record-bounded, record-in, record-runs, record-small, record-word, record-counts, record-number, record-falls, record-more, record-loose)
+
+-- ---- the whole: what 1 to 7 give
+
+module _ (f : List ℕ) (start : ℕ) (passed : outcomeFrom f start 0 [] ≡ done tt) (small : length f ≤ 16777216) (inside : start ≤ length f) where
+  pub loose-sound : Sound f start
+  loose-sound = passed-sound f start passed small inside
+
+  -- a table that is not filled yet
+  pub loose-table : (n : ℕ) → Tails f start (replicate n start)
+  loose-table n = tails-same f start n loose-sound
+
+pub ruleset loose-ways = (loose-sound, loose-table, passed-readable, arith)
+
+-- ---- for callers
+
+-- what a test of all references of a dataset gives, from its records as the rules have them
+pub references-from : (f : List ℕ) (start : ℕ) (recs : List Rec) (items : List (List Field)) → drop 3 items ≡ (recordsFrom f start) .items
+    → referencesFrom recs f start 0 ≡ references 1 recs (drop 3 items)
+unfolding referencesFrom references
+references-from f start recs items e = rw e
+
+-- the answer is that of the rules
+pub answers-are : (f : List ℕ) (start : ℕ) (r : Linked) → Answers f start r → (recs : List Rec) → Reads f start recs → (items : List (List Field))
+    → drop 3 items ≡ (recordsFrom f start) .items → r ≡ linkedBy (references 1 recs (drop 3 items))
+unfolding Answers
+answers-are f start r a recs reads items e = a recs (reads .numbered) ∙ ap linkedBy (references-from f start recs items e)

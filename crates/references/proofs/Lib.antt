@@ -1,0 +1,4 @@
+pub mod MarkLaws
+pub mod ReadableLaws
+pub mod RecordLaws
+pub mod DatasetLaws

@@ -1,0 +1,139 @@
+-- In a dataset that has passed 1 to 7 every reference can be read. Assumes nothing.
+use mathlib.Core.Path.{_≡_, refl, sym, ap, _∙_}
+use mathlib.Core.List.{List, [], _∷_, _++_}
+use mathlib.Core.Bool.{Bool, true, false}
+use Prim.Native.Nat.{ℕ, _+_, _≤_, _<_}
+use native.Mathlib.Omega.{arith}
+use borrow.Author.Tests.{eq-eqb, ne-eqb, eqb-true, eqb-false}
+use lib.Dec.{eqb}
+use Rattle.base.specs.Choice.{pick, both}
+use Rattle.base.specs.Check.{Check, ok, no, bind}
+use Rattle.base.specs.Lists.{each}
+use Rattle.base.specs.Walk.{Got, before}
+use Rattle.base.proofs.CheckLaws.{bind-inv}
+use Rattle.base.proofs.ChoiceLaws.{both-hold}
+use Rattle.fields.specs.Table.{headOf, tupleOf}
+use Rattle.fields.specs.Content.{fill}
+use Rattle.fields.specs.declared.Format.the-variants.{InasNew, Spas, SpasNew}
+use Rattle.fields.proofs.WiderLaws.{spas, format-wider}
+use Rattle.skeleton.specs.File.{Field, recordsFrom}
+use Rattle.skeleton.specs.Place.{between, placeAt, fieldsAt}
+use Rattle.skeleton.specs.declared.directory.Shape.{Shape}
+use Rattle.skeleton.specs.declared.place.Place.{Place}
+use Rattle.skeleton.specs.declared.place.Place.the-variants.{At}
+use Rattle.skeleton.proofs.PlaceLaws.{fields-more}
+use Rattle.rules.specs.Tags.{INAS, SPAS}
+use Rattle.rules.specs.ByTag.{firstTag}
+use Rattle.rules.specs.Kind.{tagOf}
+use Rattle.rules.specs.Grammar.{asStored, number4}
+use Rattle.rules.specs.Content.{inasFormat, formatOf, number5}
+use Rattle.rules.specs.Record.{Rec, keyOf, datasetRecord}
+use Rattle.rules.specs.Outcome.{Outcome, done, andThen, at}
+use Rattle.rules.specs.File.{lastRank, datasetTest, through, taken}
+use Rattle.rules.specs.declared.Kind.{Kind}
+use Rattle.rules.specs.declared.Kind.the-variants.{Info, Point, Multi, Feature}
+use Rattle.rules.specs.declared.Mode.the-variants.{InDataset}
+use Rattle.rules.proofs.OutcomeLaws.{andThen-inv, at-inv}
+use Rattle.contents.specs.Fit.{fits, allFit}
+use Rattle.contents.proofs.FormatLaws.{of-inas, of-spas}
+use Rattle.contents.proofs.FitLaws.{five-fit}
+use Rattle.contents.proofs.OnceLaws.{four-first}
+use Rattle.keys.specs.Standing.{outcomeFrom}
+use Rattle.keys.proofs.PassedLaws.{test-later}
+use Rattle.keys.proofs.ReferenceLaws.{unread-done}
+use Rattle.references.specs.Readable.{readable, allReadable, everyReadable}
+
+-- ---- a field that has the format of its tag
+
+module _ (f : Field) (e : fits true f ≡ true) where
+  fits-inas : f .tag ≡ INAS → fill (headOf InasNew) (tupleOf InasNew) (f .body) ≡ true
+  unfolding fits inasFormat
+  fits-inas t =
+      let k : formatOf true (f .tag) (f .body) ≡ InasNew = sym (of-inas true (f .tag) (f .body) (λ z. omega arith) t InasNew refl) in
+      rw k at e
+
+  fits-spas : f .tag ≡ SPAS → fill (headOf Spas) (tupleOf Spas) (f .body) ≡ true
+  unfolding fits
+  fits-spas t =
+      let k : formatOf true (f .tag) (f .body) ≡ SpasNew = sym (of-spas true (f .tag) (f .body) (λ z. omega arith) (λ z. omega arith) t SpasNew refl) in
+      let g : fill (headOf SpasNew) (tupleOf SpasNew) (f .body) ≡ true = rw k at e in
+      (format-wider spas (f .body) g) .0
+
+  fits-readable : readable f ≡ true
+  unfolding readable
+  fits-readable = go (eqb (f .tag) INAS) (eqb (f .tag) SPAS) refl refl
+    where
+      go : (a b : Bool) → eqb (f .tag) INAS ≡ a → eqb (f .tag) SPAS ≡ b
+          → pick a (fill (headOf InasNew) (tupleOf InasNew) (f .body)) (pick b (fill (headOf Spas) (tupleOf Spas) (f .body)) true) ≡ true
+      go true b x y = fits-inas (eqb-true (f .tag) INAS x)
+      go false true x y = fits-spas (eqb-true (f .tag) SPAS y)
+      go false false x y = refl
+
+all-fits : (fs : List Field) → allFit true fs ≡ true → allReadable fs ≡ true
+unfolding allFit allReadable
+all-fits [] e = refl
+all-fits (f ∷ fs) e =
+    let s = both-hold (fits true f) (allFit true fs) e in
+    rw (fits-readable f (s .0)) (all-fits fs (s .1))
+
+-- an identifier is no association
+ident-readable : (k : Kind) (f : Field) → f .tag ≡ tagOf k → readable f ≡ true
+unfolding readable tagOf
+ident-readable Info f e = rw e
+ident-readable Point f e = rw e
+ident-readable Multi f e = rw e
+ident-readable Feature f e = rw e
+
+-- ---- a record, and a file, that have passed
+
+record-readable : (least : ℕ) (earlier : List (List ℕ)) (fs : List Field) (r : Rec) → datasetRecord least earlier fs ≡ ok r → allReadable fs ≡ true
+unfolding datasetRecord allReadable firstTag asStored
+record-readable least earlier [] r e = refl
+record-readable least earlier (f ∷ fs) r e =
+    let p = bind-inv (number4 InDataset least (f ∷ fs)) _ r e in
+    let q = bind-inv (number5 InDataset (p .0) (f ∷ fs)) _ r (p .2) in
+    let first = ident-readable (p .0) f (four-first InDataset least (f ∷ fs) (p .0) (p .1)) in
+    rw first (all-fits fs (five-fit InDataset (p .0) f fs (q .0) (q .1)))
+
+through-readable : (items : List (List Field)) (n : ℕ) (seen recs : List Rec) → 4 ≤ n → through datasetTest 1 n seen items ≡ done recs → everyReadable items ≡ true
+unfolding through everyReadable
+through-readable [] n seen recs h e = refl
+through-readable (fs ∷ items) n seen recs h e =
+    let p = andThen-inv (at 1 n (datasetTest n seen fs)) _ recs e in
+    let q = at-inv 1 n (datasetTest n seen fs) (p .0) (p .1) in
+    let r = bind-inv (datasetRecord (lastRank seen) (each keyOf seen) fs) (λ r. ok (r ∷ [])) (p .0) (sym (test-later n seen fs h) ∙ q) in
+    let s = andThen-inv (through datasetTest 1 (n + 1) (p .0 ++ seen) items) (λ later. done (p .0 ++ later)) recs (p .2) in
+    rw (record-readable (lastRank seen) (each keyOf seen) fs (r .0) (r .1))
+    (through-readable items (n + 1) (p .0 ++ seen) (s .0) (omega arith) (s .1))
+
+pub passed-readable : (f : List ℕ) (start : ℕ) → outcomeFrom f start 0 [] ≡ done tt → everyReadable ((recordsFrom f start) .items) ≡ true
+unfolding outcomeFrom taken
+passed-readable f start e =
+    let r = unread-done (taken datasetTest 1 3 4 [] (recordsFrom f start)) e in
+    let p = andThen-inv (through datasetTest 1 4 [] ((recordsFrom f start) .items)) _ (r .0) (r .1) in
+    through-readable ((recordsFrom f start) .items) 4 [] (p .0) (omega arith) (p .1)
+
+-- ---- an association by its tag
+
+module _ (tag : ℕ) (b : List ℕ) (e : readable (record { tag = tag; body = b }) ≡ true) where
+  pub inas-readable : tag ≡ 0x494e4153 → fill (headOf InasNew) (tupleOf InasNew) b ≡ true
+  unfolding readable
+  inas-readable t = simp (eq-eqb tag 0x494e4153 t) at e
+
+  pub spas-readable : (tag ≡ 0x494e4153 → ⊥) → tag ≡ 0x53504153 → fill (headOf Spas) (tupleOf Spas) b ≡ true
+  unfolding readable
+  spas-readable n t = simp (ne-eqb tag 0x494e4153 n, eq-eqb tag 0x53504153 t) at e
+
+-- ---- field by field: by the place e that was read at p
+
+module _ (r : List ℕ) (h : Shape) (p : ℕ) (e : Place) (en : e ≡ placeAt r h p) (tag start end next : ℕ) (x : e ≡ At tag start end next)
+    (a : allReadable (fieldsAt r h p) ≡ true) where
+  apart : (readable (record { tag = tag; body = between r start end }) ≡ true) × (allReadable (fieldsAt r h next) ≡ true)
+  unfolding allReadable
+  apart = both-hold _ _ (rw (fields-more r h p e en tag start end next x) at a)
+
+  pub readable-here : readable (record { tag = tag; body = between r start end }) ≡ true
+  readable-here = apart .0
+
+  pub readable-next : allReadable (fieldsAt r h next) ≡ true
+  readable-next = apart .1

@@ -1,0 +1,158 @@
+-- Laws of the references of one record: tuple by tuple, field by field. Assumes nothing.
+use mathlib.Core.Path.{_≡_, refl, sym, ap, _∙_}
+use mathlib.Core.List.{List, [], _∷_, _++_}
+use mathlib.Core.Bool.{Bool, true, false, not}
+use Prim.Native.Nat.{ℕ, _+_, _-_, _^_, _≤_, _<_}
+use native.Mathlib.Omega.{arith}
+use borrow.Author.Tests.{eq-eqb, ne-eqb, not-true, not-false}
+use lib.ListN.{length, take, drop, length-take, length-drop}
+use lib.Dec.{eqb}
+use Rattle.base.specs.Choice.{pick}
+use Rattle.base.specs.Walk.{Got}
+use Rattle.base.specs.declared.Verdict.{Verdict}
+use Rattle.base.specs.declared.Verdict.the-variants.{Passed as Through, Refused}
+use Rattle.fields.specs.Values.{Val, values}
+use Rattle.fields.specs.Table.{headOf, tupleOf}
+use Rattle.fields.specs.Content.{many, fill}
+use Rattle.fields.specs.Places.{endingAt}
+use Rattle.fields.specs.declared.Format.the-variants.{InasNew, Spas}
+use Rattle.fields.proofs.TupleLaws.{Next, here-end}
+use Rattle.skeleton.specs.File.{Field}
+use Rattle.skeleton.specs.Place.{between, placeAt, fieldsAt}
+use Rattle.skeleton.specs.declared.directory.Shape.{Shape}
+use Rattle.skeleton.specs.declared.place.Place.{Place}
+use Rattle.skeleton.specs.declared.place.Place.the-variants.{At, Done}
+use Rattle.skeleton.proofs.PlaceLaws.{fields-more, fields-done}
+use Rattle.rules.specs.Tags.{INAS, SPAS}
+use Rattle.rules.specs.Associations.{Mark, inasKey, spasKey, spasMarks, fieldMarks, marks}
+use Rattle.contents.proofs.StepLaws.{step-bounds}
+use Rattle.contents.proofs.SpatialLaws.{spas-next, spas-ends}
+use Rattle.keys.specs.Key.{keyAt, KeyFits}
+use Rattle.keys.specs.Listed.{hasFrom}
+use Rattle.keys.specs.Table.{Laid}
+use Rattle.keys.proofs.NamedLaws.{Names, inas-names, spas-names}
+use Rattle.references.specs.Named.{Says, Alike}
+use Rattle.references.proofs.MarkLaws.{alike-same, says-none, parts-more, parts-refused, mark-more, mark-loose}
+use Rattle.references.proofs.ReadableLaws.{inas-readable, spas-readable, readable-here, readable-next}
+
+-- ---- an INAS: its key k, and whether it stands in the file
+
+module _ (f : List ℕ) (start : ℕ) (t : List ℕ) (n : ℕ) (map : List ℕ) (laid : Laid f start t n map) (b : List ℕ) (i : ℕ)
+    (filled : fill (headOf InasNew) (tupleOf InasNew) b ≡ true) (k : ℕ) (ek : k ≡ keyAt b 0) (fits : KeyFits b 0) (x : Bool) (ex : x ≡ hasFrom f start k) where
+  abbrev mark : Mark
+  mark = record { key = inasKey b; field = i; tuple = 0 }
+
+  there : x ≡ hasFrom f start (keyAt b 0)
+  there = ex ∙ ap (hasFrom f start) ek
+
+  pub inas-there : x ≡ true → Says f start (mark ∷ []) Through
+  inas-there y =
+      says-none f start (mark ∷ [])
+      (mark-more f start (laid .sound) mark [] (mark ∷ []) (alike-same f start (mark ∷ [])) b 0 (inas-names b filled fits) x there y)
+
+  pub inas-loose : x ≡ false → Says f start (mark ∷ []) (Refused 11 i 0)
+  inas-loose y = mark-loose f start (laid .sound) mark [] (mark ∷ []) (alike-same f start (mark ∷ [])) b 0 (inas-names b filled fits) x there y
+
+pub ruleset inas-ways = (inas-there, inas-loose)
+
+-- ---- the loop over the tuples of a SPAS: tuple j at offset at, where the whole is `whole`
+
+module _ (f : List ℕ) (start : ℕ) (b : List ℕ) (i at j : ℕ) (whole : List Mark)
+    (inv : Alike f start (spasMarks i j (many (tupleOf Spas) (drop at b))) whole) where
+  none-left : length b ≤ at → many (tupleOf Spas) (drop at b) ≡ []
+  unfolding many
+  none-left h = ap (λ (g : Got (List Val)). g .items) (here-end (tupleOf Spas) b at h)
+
+  pub tuples-over : length b ≤ at → Says f start whole Through
+  unfolding spasMarks
+  tuples-over h = says-none f start whole (rw (none-left h) at inv)
+
+  module _ (g : at < length b) (z : endingAt (tupleOf Spas) b at ≡ 0) (t : List ℕ) (n : ℕ) (map : List ℕ) (laid : Laid f start t n map)
+      (k : ℕ) (ek : k ≡ keyAt b at) (fits : KeyFits b at) (x : Bool) (ex : x ≡ hasFrom f start k) where
+    abbrev tuple : Mark
+    tuple = record { key = spasKey (values (tupleOf Spas) (drop at b)); field = i; tuple = j }
+
+    abbrev later : List Mark
+    later = spasMarks i (j + 1) (many (tupleOf Spas) (drop (at + 15) b))
+
+    first : Alike f start (tuple ∷ later) whole
+    unfolding spasMarks
+    first = rw (spas-next b at z g .found) at inv
+
+    names : Names b at (take 2 (tuple .key))
+    unfolding spasKey
+    names = spas-names b at (at + 15) (spas-next b at z g) fits
+
+    stands : x ≡ hasFrom f start (keyAt b at)
+    stands = ex ∙ ap (hasFrom f start) ek
+
+    pub tuples-more : not x ≡ false → Alike f start later whole
+    tuples-more y = mark-more f start (laid .sound) tuple later whole first b at names x stands (not-false x y)
+
+    pub tuples-loose : not x ≡ true → Says f start whole (Refused 11 i j)
+    tuples-loose y = mark-loose f start (laid .sound) tuple later whole first b at names x stands (not-true x y)
+
+module _ (b : List ℕ) (at : ℕ) (g : at < length b) (z : endingAt (tupleOf Spas) b at ≡ 0) where
+  pub tuples-end : endingAt (tupleOf Spas) b (at + 15) ≡ 0
+  tuples-end = spas-next b at z g .rest
+
+  pub tuples-in : at + 15 ≤ length b
+  tuples-in = spas-next b at z g .inside
+
+  pub tuples-falls : length b - (at + 15) < length b - at
+  tuples-falls = let i = tuples-in in omega arith
+
+  pub tuples-word : length b ≤ 16777216 → at + 15 < 2 ^ 64
+  tuples-word l = let i = tuples-in in omega arith
+
+pub ruleset tuples-turn =
+    (alike-same, tuples-over, tuples-more, tuples-loose, tuples-end, tuples-in, tuples-falls, tuples-word, spas-ends, arith)
+
+-- ---- one field
+
+module _ (f : List ℕ) (start tag : ℕ) (b : List ℕ) (i : ℕ) where
+  pub field-inas : tag ≡ 0x494e4153 → (v : Verdict) → Says f start (record { key = inasKey b; field = i; tuple = 0 } ∷ []) v
+      → Says f start (fieldMarks i (record { tag = tag; body = b })) v
+  unfolding fieldMarks
+  field-inas e v s = simp (eq-eqb tag 0x494e4153 e) s
+
+  module _ (n : tag ≡ 0x494e4153 → ⊥) where
+    pub field-spas : tag ≡ 0x53504153 → (v : Verdict) → Says f start (spasMarks i 1 (many (tupleOf Spas) b)) v
+        → Says f start (fieldMarks i (record { tag = tag; body = b })) v
+    unfolding fieldMarks
+    field-spas e v s = simp (ne-eqb tag 0x494e4153 n, eq-eqb tag 0x53504153 e) s
+
+    pub field-other : (tag ≡ 0x53504153 → ⊥) → Says f start (fieldMarks i (record { tag = tag; body = b })) Through
+    unfolding fieldMarks
+    field-other m = simp (ne-eqb tag 0x494e4153 n, ne-eqb tag 0x53504153 m) (says-none f start [] (alike-same f start []))
+
+pub ruleset field-ways = (field-inas, field-spas, field-other, inas-readable, spas-readable)
+
+-- ---- the loop over the fields of a record: field i at place q, where the whole is `whole`
+
+module _ (f : List ℕ) (start : ℕ) (r : List ℕ) (h : Shape) (q i : ℕ) (whole : List Mark) (inv : Alike f start (marks i (fieldsAt r h q)) whole)
+    (e : Place) (en : e ≡ placeAt r h q) where
+  pub fields-over : e ≡ Done → Says f start whole Through
+  unfolding marks
+  fields-over x = says-none f start whole (rw (fields-done r h q e en x) at inv)
+
+  module _ (tag from end next : ℕ) (x : e ≡ At tag from end next) (v : Verdict)
+      (s : Says f start (fieldMarks i (record { tag = tag; body = between r from end })) v) where
+    abbrev behind : List Mark
+    behind = marks (i + 1) (fieldsAt r h next)
+
+    parted : Alike f start (fieldMarks i (record { tag = tag; body = between r from end }) ++ behind) whole
+    unfolding marks
+    parted = rw (fields-more r h q e en tag from end next x) at inv
+
+    pub fields-on : v ≡ Through → Alike f start behind whole
+    fields-on y = parts-more f start (fieldMarks i (record { tag = tag; body = between r from end })) behind whole parted v s y
+
+    pub fields-refused : (k y z : ℕ) → v ≡ Refused k y z → Says f start whole (Refused k y z)
+    fields-refused k y z w = parts-refused f start (fieldMarks i (record { tag = tag; body = between r from end })) behind whole parted v s k y z w
+
+-- a part is no longer than the whole
+pub part-small : (r : List ℕ) (i j n : ℕ) → length r ≤ n → length (between r i j) ≤ n
+part-small r i j n h = omega (arith, length-take (j - i) (drop i r), length-drop i r)
+
+pub ruleset fields-turn = (alike-same, fields-over, fields-on, fields-refused, part-small, readable-here, readable-next, step-bounds)

@@ -1,0 +1,101 @@
+use Rattle.references.proofs.DatasetLaws.{Reached, record-more, records-turn}
+use lib.ListN.{length}
+use Prim.Native.Nat.{_-_}
+use borrow.Author.Needs.{needs}
+use native.Mathlib.Omega.{arith}
+use Rattle.references.proofs.dataset.every_named.Statement.{statement}
+use Rattle.references.proofs.dataset.every_named.Tie as tie
+use Rattle.references.proofs.dataset.every_named.Reads as reads
+use Rattle.references.proofs.dataset.every_named.Lts as lts
+use Rattle.references.proofs.record.record_named.Reads as record-named-reads
+use Rattle.skeleton.proofs.file.stated_at.Reads as stated-at-reads
+
+abbrev Inv-loop : tie.InvT-loop
+Inv-loop f start t n map p₀ m₀ p m = Reached f start p m
+
+abbrev μ-loop : tie.MeasureT-loop
+μ-loop f start t n map p₀ m₀ p m = length f - p
+
+loop-holds : tie.Need-loop-holds Inv-loop μ-loop
+loop-holds c = search records-turn
+
+stated-at-requires : tie.Need-stated-at-requires Inv-loop μ-loop
+stated-at-requires c κs = search records-turn
+
+enum-known-len : tie.Need-enum-known-len Inv-loop μ-loop
+enum-known-len c = search needs
+
+add-record-named : tie.Need-add-record-named Inv-loop μ-loop
+add-record-named c = search records-turn
+
+sub-record-named : tie.Need-sub-record-named Inv-loop μ-loop
+sub-record-named c = search records-turn
+
+part-record-named-start : tie.Need-part-record-named-start Inv-loop μ-loop
+part-record-named-start c = search records-turn
+
+part-record-named-end : tie.Need-part-record-named-end Inv-loop μ-loop
+part-record-named-end c = search records-turn
+
+record-named-requires : tie.Need-record-named-requires Inv-loop μ-loop
+record-named-requires c κs = (search needs, search records-turn, search records-turn, search records-turn)
+
+enum-told : tie.Need-enum-told Inv-loop μ-loop
+enum-told c = search needs
+
+add-p : tie.Need-add-p Inv-loop μ-loop
+add-p c = search records-turn
+
+add-m : tie.Need-add-m Inv-loop μ-loop
+add-m c = search records-turn
+
+loop-less : tie.Need-loop-less Inv-loop μ-loop
+loop-less c = search records-turn
+
+loop-again : tie.Need-loop-again Inv-loop μ-loop
+loop-again c =
+    record-more _ _ _ _ (c .before .before .before .before .before .before .before .before .before .loop .inv) (c .before .before .before .before .before .before .before .before .loop-test .taken) _ (c .before .before .before .before .before .before .before .stated-at .ensures) _ _ _ _ (c .before .before .before .before .before .len .given .1) _ (c .before .before .record-named .ensures) (c .enum-told .given .1)
+
+enum-known-i : tie.Need-enum-known-i Inv-loop μ-loop
+enum-known-i c = search needs
+
+add-t24 : tie.Need-add-t24 Inv-loop μ-loop
+add-t24 c = search records-turn
+
+returns : tie.Need-returns Inv-loop μ-loop
+returns c = search records-turn
+
+enum-told-2 : tie.Need-enum-told-2 Inv-loop μ-loop
+enum-told-2 c = search needs
+
+returns-2 : tie.Need-returns-2 Inv-loop μ-loop
+returns-2 c = search records-turn
+
+returns-3 : tie.Need-returns-3 Inv-loop μ-loop
+returns-3 c = search records-turn
+
+pub every-named-spec : {M : Type 1} → statement M
+every-named-spec =
+    tie.close
+    (tie.spec
+    Inv-loop
+    μ-loop
+    loop-holds
+    stated-at-requires
+    enum-known-len
+    add-record-named
+    sub-record-named
+    part-record-named-start
+    part-record-named-end
+    record-named-requires
+    enum-told
+    add-p
+    add-m
+    loop-less
+    loop-again
+    enum-known-i
+    add-t24
+    returns
+    enum-told-2
+    returns-2
+    returns-3)

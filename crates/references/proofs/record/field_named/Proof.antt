@@ -1,0 +1,28 @@
+use Rattle.references.proofs.RecordLaws.{field-ways}
+use borrow.Author.Needs.{needs}
+use native.Mathlib.Omega.{arith}
+use Rattle.references.proofs.record.field_named.Statement.{statement}
+use Rattle.references.proofs.record.field_named.Tie as tie
+use Rattle.references.proofs.record.field_named.Reads as reads
+use Rattle.references.proofs.record.field_named.Lts as lts
+use Rattle.references.proofs.record.inas_named.Reads as inas-named-reads
+use Rattle.references.proofs.record.spas_named.Reads as spas-named-reads
+
+inas-named-requires : tie.Need-inas-named-requires
+inas-named-requires c κs = (search needs, search field-ways)
+
+returns : tie.Need-returns
+returns c = search field-ways
+
+spas-named-requires : tie.Need-spas-named-requires
+spas-named-requires c κs = (search needs, search needs, search field-ways)
+
+returns-2 : tie.Need-returns-2
+returns-2 c = search field-ways
+
+returns-3 : tie.Need-returns-3
+returns-3 c = search field-ways
+
+pub field-named-spec : {M : Type 1} → statement M
+field-named-spec =
+    tie.close (tie.spec inas-named-requires returns spas-named-requires returns-2 returns-3)

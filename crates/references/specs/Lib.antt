@@ -1,0 +1,3 @@
+pub mod Readable
+pub mod Named
+pub mod Linked

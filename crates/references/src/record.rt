@@ -1,0 +1,127 @@
+// The records that the associations of one record name, INAS (0x494e4153) and SPAS (0x53504153): number 11.
+// The table t, its first n entries, and the map are of the file f from start on.
+use base::Verdict;
+use keys::look::key_at;
+use keys::present::has;
+use skeleton::directory::Shape;
+use skeleton::place::Place;
+use skeleton::place::place_at;
+ghost use mathlib.Core.Path.{_≡_};
+ghost use mathlib.Core.Bool.{true};
+ghost use mathlib.Core.List.{[], _∷_};
+ghost use Prim.Native.Nat.{_≤_};
+ghost use lib.ListN.{length};
+ghost use Rattle.fields.specs.Table.{headOf, tupleOf};
+ghost use Rattle.fields.specs.Content.{fill, many};
+ghost use Rattle.fields.specs.declared.Format.the-variants.{InasNew, Spas};
+ghost use Rattle.skeleton.specs.Place.{fieldsAt};
+ghost use Rattle.skeleton.specs.Shape.{Bounded};
+ghost use Rattle.rules.specs.Associations.{inasKey, spasMarks, fieldMarks, marks};
+ghost use Rattle.keys.specs.Table.{Laid};
+ghost use Rattle.references.specs.Readable.{readable, allReadable};
+ghost use Rattle.references.specs.Named.{Says};
+
+// The record that the INAS b, field i, names.
+fn inas_named(
+    f: &[u8],
+    start: usize,
+    t: &[u32],
+    n: usize,
+    map: &[u8],
+    b: &[u8],
+    i: usize,
+) -> Verdict
+    requires { ⌜ (Laid (now f) start (now t) n (now map)) × (fill (headOf InasNew) (tupleOf InasNew) (now b) ≡ true) ⌝ }
+    ensures { λ v. ⌜ Says (now (f .entry)) start (record { key = inasKey (now (b .entry)); field = i; tuple = 0 } ∷ []) v ⌝ }
+{
+    if has(f, start, t, n, map, key_at(b, 0)) {
+        return Verdict::Passed;
+    }
+    Verdict::Refused(11, i, 0)
+}
+
+// The records that the tuples of the SPAS b, field i, name.
+fn spas_named(
+    f: &[u8],
+    start: usize,
+    t: &[u32],
+    n: usize,
+    map: &[u8],
+    b: &[u8],
+    i: usize,
+) -> Verdict
+    requires { ⌜ (Laid (now f) start (now t) n (now map)) × (length (now b) ≤ 16777216) × (fill (headOf Spas) (tupleOf Spas) (now b) ≡ true) ⌝ }
+    ensures { λ v. ⌜ Says (now (f .entry)) start (spasMarks i 1 (many (tupleOf Spas) (now (b .entry)))) v ⌝ }
+{
+    let mut at = 0;
+    let mut j = 1;
+    while at < b.len() {
+        if !has(f, start, t, n, map, key_at(b, at)) {
+            return Verdict::Refused(11, i, j);
+        }
+        at += 15;
+        j += 1;
+    }
+    Verdict::Passed
+}
+
+// The records that field i with this tag names.
+fn field_named(
+    f: &[u8],
+    start: usize,
+    t: &[u32],
+    n: usize,
+    map: &[u8],
+    tag: u32,
+    b: &[u8],
+    i: usize,
+) -> Verdict
+    requires { ⌜ (Laid (now f) start (now t) n (now map)) × (length (now b) ≤ 16777216) × (readable (record { tag = tag; body = now b }) ≡ true) ⌝ }
+    ensures { λ v. ⌜ Says (now (f .entry)) start (fieldMarks i (record { tag = tag; body = now (b .entry) })) v ⌝ }
+{
+    if tag == 0x494e4153 {
+        return inas_named(f, start, t, n, map, b, i);
+    }
+    if tag == 0x53504153 {
+        return spas_named(f, start, t, n, map, b, i);
+    }
+    Verdict::Passed
+}
+
+// The records that the record r names.
+pub fn record_named(
+    f: &[u8],
+    start: usize,
+    t: &[u32],
+    n: usize,
+    map: &[u8],
+    r: &[u8],
+    h: Shape,
+) -> Verdict
+    requires { ⌜ (Laid (now f) start (now t) n (now map)) × Bounded h × (length (now r) ≤ 16777216) × (allReadable (fieldsAt (now r) h 24) ≡ true) ⌝ }
+    ensures { λ v. ⌜ Says (now (f .entry)) start (marks 1 (fieldsAt (now (r .entry)) h 24)) v ⌝ }
+{
+    let mut q = 24;
+    let mut i = 1;
+    loop {
+        match place_at(r, h, q) {
+            Place::At {
+                tag,
+                start: from,
+                end,
+                next,
+            } => match field_named(f, start, t, n, map, tag, &r[from..end], i) {
+                Verdict::Passed => {
+                    q = next;
+                    i += 1;
+                }
+                Verdict::Refused(k, x, y) => {
+                    return Verdict::Refused(k, x, y);
+                }
+            },
+            Place::Done => {
+                return Verdict::Passed;
+            }
+        }
+    }
+}
