@@ -1,15 +1,18 @@
--- Numbers in bytes and runs of text, at a place of a list. Assumes nothing.
-use Prim.Native.Nat.{ℕ, suc, _+_, _*_, _≤_, _<_}
-use mathlib.Core.Path.{_≡_, refl, _∙_}
-use mathlib.Core.Bool.{Bool, true, false}
-use mathlib.Core.List.{List, [], _∷_}
+-- Numbers in bytes, the bytes of numbers, and runs of text, at a place of a list. Assumes nothing.
+use Prim.Native.Nat.{ℕ, zero, suc, _+_, _*_, _/_, _%_, _^_, _≤_, _<_, zero-le, suc-le-suc}
+use mathlib.Core.Path.{_≡_, refl, sym, ap, _∙_}
+use mathlib.Core.Bool.{Bool, true, false, true≢false}
+use mathlib.Core.List.{List, [], _∷_, _++_}
 use native.Mathlib.Numerals.{add-one}
+use native.Mathlib.Nat.{not-suc-le-zero, le-of-suc-le-suc, pow-suc, div-lt-iff-lt-mul}
 use native.Mathlib.Omega.{arith}
-use lib.ListN.{length, getD, drop, drop-of-length-le}
-use lib.Seq.{drop-cons}
+use lib.ListN.{length, getD, take, drop, drop-of-length-le}
+use lib.Seq.{drop-cons, getD-drop}
+use lib.Dec.{lit<}
 use borrow.Author.Tests.{eq-eqb, ne-eqb}
 use Rattle.base.specs.Choice.{pick}
-use Rattle.fields.specs.Bytes.{le, run, sep}
+use Rattle.fields.specs.Bytes.{sep, le, bytes, run, clean}
+use Rattle.fields.specs.Valid.{Bytes}
 
 -- ---- numbers
 
@@ -68,3 +71,68 @@ module _ (l : List ℕ) (i e : ℕ) (inv : e ≡ i + run (drop i l)) where
       omega arith
 
 pub ruleset text-turn = (run-none, run-30, run-31, run-more, arith)
+
+-- ---- the bytes of a number
+
+pub bytes-drop : (l : List ℕ) (n : ℕ) → Bytes l → Bytes (drop n l)
+bytes-drop l n h k = rw (getD-drop n l k 0) (h (n + k))
+
+low : (x y : ℕ) → x < 256 → (x + 256 * y) % 256 ≡ x
+low x y h = omega arith
+
+high : (x y : ℕ) → x < 256 → (x + 256 * y) / 256 ≡ y
+high x y h = omega arith
+
+pub bytes-le : (w : ℕ) (l : List ℕ) → Bytes l → w ≤ length l → bytes w (le w l) ≡ take w l
+unfolding bytes le
+bytes-le zero l h g = refl
+bytes-le (suc w) [] h g = absurd (not-suc-le-zero g)
+bytes-le (suc w) (x ∷ l) h g =
+    rw (low x (le w l) (h 0), high x (le w l) (h 0)) (ap (λ (r : List ℕ). x ∷ r) (bytes-le w l (λ k. h (suc k)) (le-of-suc-le-suc g)))
+
+pub length-bytes : (w n : ℕ) → length (bytes w n) ≡ w
+unfolding bytes
+length-bytes zero n = refl
+length-bytes (suc w) n = ap suc (length-bytes w (n / 256))
+
+pub le-bytes : (w n : ℕ) (r : List ℕ) → n < 256 ^ w → le w (bytes w n ++ r) ≡ n
+unfolding bytes le
+le-bytes zero n r h = omega arith
+le-bytes (suc w) n r h =
+    let q : n / 256 < 256 ^ w = div-lt-iff-lt-mul {k = 256} (lit< tt) .1 (rw pow-suc at h) in
+    let e : le w (bytes w (n / 256) ++ r) ≡ n / 256 = le-bytes w (n / 256) r q in
+    rw e (omega arith)
+
+-- w bytes are a number below 256 ^ w
+pub le-bound : (w : ℕ) (l : List ℕ) → Bytes l → le w l < 256 ^ w
+unfolding le
+le-bound zero l h = lit< tt
+le-bound (suc w) [] h = rw pow-suc (let q : le w [] < 256 ^ w = le-bound w [] h in omega arith)
+le-bound (suc w) (x ∷ l) h = rw pow-suc (let q : le w l < 256 ^ w = le-bound w l (λ k. h (suc k)) in let b : x < 256 = h 0 in omega arith)
+
+-- ---- texts without separators
+
+clean-both : (u v : Bool) → pick u false v ≡ true → (u ≡ false) × (v ≡ true)
+clean-both true v e = absurd (true≢false (sym e))
+clean-both false v e = (refl, e)
+
+pub clean-run : (t : List ℕ) (x : ℕ) (r : List ℕ) → clean t ≡ true → sep x ≡ true → run (t ++ x ∷ r) ≡ length t
+unfolding run clean
+clean-run [] x r c e = rw e
+clean-run (y ∷ t) x r c e = let p = clean-both (sep y) (clean t) c in rw (p .0) (ap suc (clean-run t x r (p .1) e))
+
+pub clean-le : (t r : List ℕ) → clean t ≡ true → length t ≤ run (t ++ r)
+unfolding run clean
+clean-le [] r c = zero-le
+clean-le (y ∷ t) r c = let p = clean-both (sep y) (clean t) c in rw (p .0) (suc-le-suc (clean-le t r (p .1)))
+
+clean-by : (u : Bool) (w n : ℕ) (t : List ℕ) → (w ≤ n → clean t ≡ true) → suc w ≤ pick u 0 (suc n) → pick u false (clean t) ≡ true
+clean-by true w n t ih h = absurd (not-suc-le-zero h)
+clean-by false w n t ih h = ih (le-of-suc-le-suc h)
+
+-- what stands before a separator is clean
+pub clean-take : (w : ℕ) (l : List ℕ) → w ≤ run l → clean (take w l) ≡ true
+unfolding run clean
+clean-take zero l h = refl
+clean-take (suc w) [] h = absurd (not-suc-le-zero h)
+clean-take (suc w) (x ∷ l) h = clean-by (sep x) w (run l) (take w l) (clean-take w l) h

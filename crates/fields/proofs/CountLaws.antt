@@ -79,7 +79,7 @@ by-less w m k pos h =
     let q : m / w ≡ 0 = div-eq-of-lt h in
     sym (simp (ne-eqb (m % w) 0 (λ e. omega (arith, mod-eq-of-lt h))) (ap Short (omega arith)))
 
-not-raw {ℓ} : {X : Type ℓ} → false ≡ true → X
+pub not-raw {ℓ} : {X : Type ℓ} → false ≡ true → X
 not-raw e = absurd (true≢false (sym e))
 
 -- n bytes and then s bytes are n + s bytes

@@ -19,7 +19,7 @@ use Rattle.fields.specs.declared.Sub.{Sub}
 use Rattle.fields.specs.declared.Sub.the-variants.{B11, B12, B14, Among, Raw, Text, Fixed}
 use Rattle.fields.proofs.ByteLaws.{run-le}
 use Rattle.fields.proofs.SizeLaws.{num-some, text-some, fixed-some, size-bound, sizes-cons, sizes-join, sizes-bound}
-use Rattle.fields.proofs.TupleLaws.{First, tuples-end, tuples-on, tuples-ind}
+use Rattle.fields.proofs.TupleLaws.{no-bytes, First, tuples-end, tuples-on, tuples-ind}
 use Rattle.fields.proofs.ValueLaws.{values-first}
 
 -- ---- bytes
@@ -109,10 +109,6 @@ sizes-behind (d ∷ ds) l r n e =
 -- tuples, and behind them what others are
 abbrev pub behind : List (List Val) → Got (List Val) → Got (List Val)
 behind vs g = record { items = vs ++ g .items; ending = g .ending }
-
-no-bytes : (l : List ℕ) → length l ≤ 0 → l ≡ []
-no-bytes [] h = refl
-no-bytes (x ∷ l) h = absurd (not-suc-le-zero h)
 
 module _ (t : List Sub) (r : List ℕ) where
   join-base : (l : List ℕ) → length l ≤ 0 → tuples t (l ++ r) ≡ behind (many t l) (tuples t r)

@@ -9,3 +9,5 @@ pub mod ValueLaws
 pub mod EvenLaws
 pub mod JoinLaws
 pub mod WiderLaws
+pub mod EncodeLaws
+pub mod DecodeLaws
