@@ -37,7 +37,6 @@ pub record Sees {P T F B : Type 0} (d : TupleRule P T F B) (make : List Val → 
 
 module _ {P T F B : Type 0} (d : TupleRule P T F B) (make : List Val → T) (lo hi : ℕ) (b : List ℕ) (whole : Bool) (Holds : P → ℕ → Type 0)
     (sees : (h : P) (at : ℕ) → Stands lo hi b at → Reach b 0 at → Holds h at → Sees d make Holds b whole h at) where
-
   -- the tuples left at a state are those from the offset on, and what is known of the tuples passed holds there
   record Matches (s : Passing P T) (u : Spot) : Type 0 where
     left : s .left ≡ each make (many (shape lo hi) (drop (u .offset) b))
@@ -81,8 +80,8 @@ module _ {P T F B : Type 0} (d : TupleRule P T F B) (make : List Val → T) (lo 
           standing = st .behind;
           reached = reach-next b 0 (u .offset) (m .reached);
           placed = see .place ∙ ap (λ (k : ℕ). k + 1) (m .placed);
-          holding = see .holds
-        })
+          holding = see .holds;
+        });
       }
 
   -- ---- the rule over all tuples
@@ -112,6 +111,6 @@ module _ {P T F B : Type 0} (d : TupleRule P T F B) (make : List Val → T) (lo 
       let n : ℕ = length ts + length b in
       let start : Matches (passing h ts) (spot 0 1) = record { left = e; standing = z; reached = there refl; placed = p; holding = i } in
       ap (λ (c : Check B). faultyTuple (bind c (λ r. allTaken (found r) (d .place (d .pastOf r)) (d .leftOf r))))
-        (rule-bound d (length ts) n h 0 false ts (omega arith) (omega arith) ∙ rule-reads d n h 0 false ts)
+      (rule-bound d (length ts) n h 0 false ts (omega arith) (omega arith) ∙ rule-reads d n h 0 false ts)
       ∙ top-agree found _ _ (read-alike (source d) (tuplesIn b whole) Matches present (λ s u m. m .placed) look n 0 false (passing h ts) (spot 0 1) start)
       ∙ ap (λ (c : Check (Read Spot (Unit {0}))). remains (length b) (walkOf c)) (run-is (tuplesIn b whole) (tuples-fall b whole) n 0 false (spot 0 1) (omega arith))

@@ -5,3 +5,5 @@ pub mod TestLaws
 pub mod TurnLaws
 pub mod TupleShape
 pub mod FieldRule
+pub mod AttrRules
+pub mod FieldLaws

@@ -76,8 +76,8 @@ number-at d ds b at next n i f e =
       takes = ap (sizes ds) (sym on) ∙ r;
       all = omega arith;
       vals = ap (λ (v : Val). v ∷ values ds (drop (amount (size d (drop at b))) (drop at b))) (num-value d (drop at b) i)
-        ∙ ap (λ (o : Option ℕ). num (le (width d) (drop at b)) ∷ values ds (drop (amount o) (drop at b))) s
-        ∙ ap (λ (l : List ℕ). num (le (width d) (drop at b)) ∷ values ds l) on
+          ∙ ap (λ (o : Option ℕ). num (le (width d) (drop at b)) ∷ values ds (drop (amount o) (drop at b))) s
+          ∙ ap (λ (l : List ℕ). num (le (width d) (drop at b)) ∷ values ds l) on;
     }
 
 -- a text at an offset, as the last subfield
@@ -112,18 +112,18 @@ stands lo hi b at h e =
     let whole : at + f .bytes ≡ past b at = omega arith in
     let on : drop (f .bytes) (drop at b) ≡ drop (past b at) b = drop-drop (f .bytes) at b ∙ ap (λ (j : ℕ). drop j b) whole in
     let vals : values (shape lo hi) (drop at b) ≡ valuesAt b at =
-        natc .vals
-        ∙ ap (λ (v : List Val). num (two b at) ∷ v) (atix .vals)
-        ∙ ap (λ (v : List Val). num (two b at) ∷ num (two b (at + 2)) ∷ v) (paix .vals)
-        ∙ ap (λ (v : List Val). num (two b at) ∷ num (two b (at + 2)) ∷ num (two b (at + 4)) ∷ v) (atin .vals)
-        ∙ ap (λ (v : List Val). num (two b at) ∷ num (two b (at + 2)) ∷ num (two b (at + 4)) ∷ num (le 1 (drop (at + 6) b)) ∷ v) (text .vals) in
+    natc .vals
+    ∙ ap (λ (v : List Val). num (two b at) ∷ v) (atix .vals)
+    ∙ ap (λ (v : List Val). num (two b at) ∷ num (two b (at + 2)) ∷ v) (paix .vals)
+    ∙ ap (λ (v : List Val). num (two b at) ∷ num (two b (at + 2)) ∷ num (two b (at + 4)) ∷ v) (atin .vals)
+    ∙ ap (λ (v : List Val). num (two b at) ∷ num (two b (at + 2)) ∷ num (two b (at + 4)) ∷ num (le 1 (drop (at + 6) b)) ∷ v) (text .vals) in
     record {
       inside = omega (arith, text .inside);
       closing = text .closing;
       behind = ap (λ (l : List ℕ). (tuples (shape lo hi) l) .ending) (sym on) ∙ f .rest;
       found = ap (λ (g : Got (List Val)). g .items) (f .found)
-        ∙ ap (λ (v : List Val). v ∷ (tuples (shape lo hi) (drop (f .bytes) (drop at b))) .items) vals
-        ∙ ap (λ (l : List ℕ). valuesAt b at ∷ (tuples (shape lo hi) l) .items) on
+          ∙ ap (λ (v : List Val). v ∷ (tuples (shape lo hi) (drop (f .bytes) (drop at b))) .items) vals
+          ∙ ap (λ (l : List ℕ). valuesAt b at ∷ (tuples (shape lo hi) l) .items) on;
     }
 
 -- no tuple at the end of the bytes

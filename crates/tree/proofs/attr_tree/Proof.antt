@@ -1,0 +1,18 @@
+use Rattle.tree.proofs.FieldLaws.{attr-whole, attr-tree}
+use mathlib.Core.Path.{_∙_}
+use borrow.Author.Needs.{needs}
+use native.Mathlib.Omega.{arith}
+use Rattle.tree.proofs.attr_tree.Statement.{statement}
+use Rattle.tree.proofs.attr_tree.Tie as tie
+use Rattle.tree.proofs.attr_tree.Reads as reads
+use Rattle.tree.proofs.attr_tree.Lts as lts
+use Rattle.tree.proofs.walk.check.Reads as check-reads
+
+check-requires : tie.Need-check-requires
+check-requires c κs = attr-whole _ (c .before .pre)
+
+returns : tie.Need-returns
+returns c = c .check .ensures ∙ attr-tree _ (c .before .before .pre)
+
+pub attr-tree-spec : {M : Type 1} → statement M
+attr-tree-spec = tie.close (tie.spec check-requires returns)
