@@ -6,191 +6,200 @@ use mathlib.Core.Option.{Option, some}
 use mathlib.Core.List.{List, [], _∷_}
 use native.Mathlib.Omega.{arith}
 use lib.ListN.{length}
+use Rattle.fields.specs.Valid.{Bytes}
 use Rattle.rules.specs.General.{numberOf}
 use Rattle.rules.specs.Written.{Dataset, writtenBytes, count}
 use Rattle.rules.specs.Outcome.{Outcome, done, refused}
 use Rattle.rules.specs.File.{readDataset, writable}
 use Rattle.rules.specs.Answers.{notTooLong, write}
 use Rattle.rules.proofs.OutcomeLaws.{done-inj}
+use Rattle.sequence.proofs.Tests.{never, some-inj}
 use Rattle.updates.specs.Accepted.{Accepted}
 use Rattle.updates.proofs.Accepted.{accepted as is-accepted}
+use Rattle.updates.proofs.Kept.{result-writable}
 use Rattle.displays.specs.Display.{Handed, taken, after, shown, numberRead, numberShown, numberSent, bears, updatedBy, ruled}
 use Rattle.displays.specs.Publisher.{Publisher, accepted, next, start, first, Genuine, Cable, inOrder}
-use Rattle.displays.specs.RoundTrip.{RoundTrip}
-use Rattle.sequence.proofs.Tests.{never, some-inj}
-use Rattle.updates.proofs.Kept.{result-writable}
+use Rattle.displays.specs.RoundTrip.{Came, came-read, came-updated, RoundTrip}
 use Rattle.displays.proofs.Room.{answer-done, takes, Turn, stays, moves, turn}
 use Rattle.displays.proofs.Form.{short-file, written-as, gives-back}
 use Rattle.displays.proofs.Ruled.{Ruled, ruled-inv, ruled-by, by-ruled}
 
--- ---- one file
+-- ---- one file that the rules accept
 
 -- the number that a chart shows is that of the dataset that it is
 shows : (c : List ℕ) (d : Dataset) → readDataset c ≡ done d → numberShown c ≡ numberOf (d .general)
 unfolding numberShown numberRead
 shows c d e = rw e
 
--- what the rules accept obeys the laws of an accepted update
-lawful : (c f : List ℕ) (r : Dataset) (q : Ruled c f r) → Accepted (q .dataset) (q .sent) r
-lawful c f r q = is-accepted c f (q .dataset) (q .sent) r (q .isRead) (q .isSent) (q .isUpdated)
+module _ (c f : List ℕ) (r : Dataset) (q : Ruled c f r) where
+  -- it obeys the laws of an accepted update
+  lawful : Accepted (q .dataset) (q .sent) r
+  lawful = is-accepted c f (q .dataset) (q .sent) r (q .isRead) (q .isSent) (q .isUpdated)
 
--- an accepted file bears the chart's number plus one
-pub follows : (c f : List ℕ) (r : Dataset) → ruled c f ≡ done r → bears f ≡ some (numberShown c + 1)
-unfolding bears numberSent
-follows c f r e =
-    let q = ruled-inv c f r e in
-    rw (q .isSent, shows c (q .dataset) (q .isRead)) (ap {B = Option ℕ} some ((lawful c f r q) .follows))
+  -- it bears the chart's number plus one
+  follows : bears f ≡ some (numberShown c + 1)
+  unfolding bears numberSent
+  follows = rw (q .isSent, shows c (q .dataset) (q .isRead)) (ap {B = Option ℕ} some (lawful .follows))
 
-module _ (T : RoundTrip) where
-  -- the written result is read again
-  pub again : (c f : List ℕ) (r : Dataset) → ruled c f ≡ done r → readDataset (writtenBytes r) ≡ done r
-  again c f r e = let q = ruled-inv c f r e in T .result c f (q .dataset) r (q .sent) (q .isRead) (q .isWritable) (q .isSent) (q .isUpdated)
+  -- the result's number is the chart's plus one
+  raised : numberOf (r .general) ≡ numberShown c + 1
+  raised = lawful .number ∙ ap (λ (n : ℕ). n + 1) (sym (shows c (q .dataset) (q .isRead)))
 
-  -- and shows the chart's number plus one
-  pub raised : (c f : List ℕ) (r : Dataset) → ruled c f ≡ done r → numberShown (writtenBytes r) ≡ numberShown c + 1
-  raised c f r e =
-      let q = ruled-inv c f r e in
-      shows (writtenBytes r) r (again c f r e) ∙ (lawful c f r q) .number ∙ ap (λ (n : ℕ). n + 1) (sym (shows c (q .dataset) (q .isRead)))
+-- ---- the publisher's updates in order
 
-  -- (iii) handed a file that the rules accept, with room for the result, a display holds the result and moves on by one
-  pub moves-on : (c : List ℕ) (h : Handed) (r : Dataset) → ruled c (h .file) ≡ done r → length (writtenBytes r) ≤ h .room → 400000 ≤ h .work
-      → (after c h ≡ writtenBytes r) × (numberShown (after c h) ≡ numberShown c + 1)
-  unfolding after
-  moves-on c h r e l w =
-      let z : after c h ≡ writtenBytes r = ap (taken c) (answer-done (h .room) (h .work) c (h .file) r e l w) ∙ takes c (h .room) _ in
-      (z, ap numberShown z ∙ raised c (h .file) r e)
+module _ (P : Publisher) where
+  -- the result of the next file is the next in order
+  next-right : (k : ℕ) (d r : Dataset) (f : List ℕ) → inOrder P k ≡ some d → P .issued (first P + suc k) ≡ some f → updatedBy d f ≡ done r → inOrder P (suc k) ≡ some r
+  unfolding inOrder next accepted
+  next-right k d r f a b e = rw (a, b, e)
 
-  -- a file moves a display by one or leaves its chart
-  pub by-one : (c : List ℕ) (h : Handed) → (after c h ≡ c) ⊎ (numberShown (after c h) ≡ numberShown c + 1)
-  by-one c h = go (turn c h)
+  -- and the next in order is the result of the next file
+  next-inv : (k : ℕ) (d r : Dataset) (f : List ℕ) → inOrder P k ≡ some d → P .issued (first P + suc k) ≡ some f → inOrder P (suc k) ≡ some r → updatedBy d f ≡ done r
+  unfolding inOrder next
+  next-inv k d r f a b e = go (updatedBy d f) (rw (a, b) at e)
     where
-      go : Turn c h → (after c h ≡ c) ⊎ (numberShown (after c h) ≡ numberShown c + 1)
-      go (stays e) = inl e
-      go (moves r e z) = inr (ap numberShown z ∙ raised c (h .file) r e)
+      go : (m : Outcome Dataset) → accepted m ≡ some r → m ≡ done r
+      go (done d) x = unfold accepted in ap done (some-inj x)
+      go (refused file n y) x = unfold accepted in never (sym x)
 
+module _ (T : RoundTrip) (P : Publisher) where
   -- ---- any list of files
 
-  module _ (P : Publisher) where
-    -- a chart is the written result of the updates up to its own number
-    record Right (c : List ℕ) : Type 0 where
-      count : ℕ
-      dataset : Dataset
-      counted : numberShown c ≡ first P + count
-      right : inOrder P count ≡ some dataset
-      form : c ≡ writtenBytes dataset
-      isRead : readDataset c ≡ done dataset
-      isWritable : writable dataset ≡ done dataset
-      isShort : notTooLong 1 c ≡ done tt
+  -- a chart is the written result of the updates up to its own number
+  record Right (c : List ℕ) : Type 0 where
+    steps : ℕ
+    dataset : Dataset
+    counted : numberShown c ≡ first P + steps
+    right : inOrder P steps ≡ some dataset
+    form : c ≡ writtenBytes dataset
+    came : Came dataset
+    isRead : readDataset c ≡ done dataset
+    isWritable : writable dataset ≡ done dataset
+    isShort : notTooLong 1 c ≡ done tt
 
-    -- the first chart
-    started : Right (start P)
-    unfolding start first inOrder
-    started =
-        let e = T .written (P .source) (P .dataset) (P .isRead) (P .isWritable) in
-        record { count = 0; dataset = P .dataset; counted = shows (start P) (P .dataset) e ∙ omega arith; right = refl; form = refl; isRead = e; isWritable = P .isWritable; isShort = short-file 3 1 (writtenBytes (P .dataset)) (P .isShort) }
+  -- the written form of a dataset that came so far
+  right-at : (k : ℕ) (d : Dataset) → inOrder P k ≡ some d → numberOf (d .general) ≡ first P + k → Came d → writable d ≡ done d → notTooLong 3 (writtenBytes d) ≡ done tt → Right (writtenBytes d)
+  right-at k d o n a w s =
+      let e = T .again d a in
+      record {
+        steps = k;
+        dataset = d;
+        counted = shows (writtenBytes d) d e ∙ n;
+        right = o;
+        form = refl;
+        came = a;
+        isRead = e;
+        isWritable = w;
+        isShort = short-file 3 1 (writtenBytes d) s;
+      }
 
-    -- the result of the next file is the next in order
-    next-right : (k : ℕ) (d r : Dataset) (f : List ℕ) → inOrder P k ≡ some d → P .issued (first P + suc k) ≡ some f → updatedBy d f ≡ done r → inOrder P (suc k) ≡ some r
-    unfolding inOrder next accepted
-    next-right k d r f a b e = rw (a, b, e)
+  -- the first chart
+  started : Right (start P)
+  unfolding start first inOrder
+  started = right-at 0 (P .dataset) refl (omega arith) (came-read (P .source) (P .isBytes) (P .isRead) (P .isWritable)) (P .isWritable) (P .isShort)
 
-    -- a chart after a file that the rules accept
-    moved : (c f : List ℕ) (r : Dataset) → Genuine P f → Right c → ruled c f ≡ done r → Right (writtenBytes r)
-    unfolding Genuine
-    moved c f r g t e =
-        let q = ruled-inv c f r e in
-        let z : q .dataset ≡ t .dataset = done-inj (q .dataset) (t .dataset) (sym (q .isRead) ∙ t .isRead) in
-        let b : bears f ≡ some (first P + suc (t .count)) = follows c f r e ∙ ap {B = Option ℕ} some (omega (arith, t .counted)) in
-        record {
-          count = suc (t .count);
-          dataset = r;
-          counted = omega (arith, raised c f r e, t .counted);
-          right = next-right (t .count) (t .dataset) r f (t .right) (g (first P + suc (t .count)) b) (ap (λ (d : Dataset). updatedBy d f) (sym z) ∙ ruled-by c f r q);
-          form = refl;
-          isRead = again c f r e;
-          isWritable = result-writable (q .dataset) (q .sent) r (q .isWritable) (q .isUpdated);
-          isShort = short-file 3 1 (writtenBytes r) (q .short-result);
-        }
+  -- what the rules make of a chart that is right came from reading and updating
+  came-on : (c f : List ℕ) (r : Dataset) → Bytes f → Right c → Ruled c f r → Came r
+  came-on c f r b t q =
+      let z : q .dataset ≡ t .dataset = done-inj (q .dataset) (t .dataset) (sym (q .isRead) ∙ t .isRead) in
+      came-updated f (q .sent) (t .dataset) (t .came) b (q .isSent) (rw z at (q .isUpdated))
 
-    -- a chart after any file
-    stepped : (c : List ℕ) (h : Handed) → Genuine P (h .file) → Right c → Right (after c h)
-    stepped c h g t = go (turn c h)
-      where
-        go : Turn c h → Right (after c h)
-        go (stays e) = subst Right (sym e) t
-        go (moves r e z) = subst Right (sym z) (moved c (h .file) r g t e)
+  -- it shows the chart's number plus one
+  moved-number : (c f : List ℕ) (r : Dataset) → Bytes f → Right c → Ruled c f r → numberShown (writtenBytes r) ≡ numberShown c + 1
+  moved-number c f r b t q = shows (writtenBytes r) r (T .again r (came-on c f r b t q)) ∙ raised c f r q
 
-    -- a chart after any list of files
-    walked : (c : List ℕ) (hs : List Handed) → Cable P hs → Right c → Right (shown c hs)
-    unfolding shown Cable
-    walked c [] t r = r
-    walked c (h ∷ hs) t r = walked (after c h) hs (t .1) (stepped c h (t .0) r)
+  -- a chart after a file that the rules accept
+  moved : (c f : List ℕ) (r : Dataset) → Bytes f → Genuine P f → Right c → Ruled c f r → Right (writtenBytes r)
+  unfolding Genuine
+  moved c f r b g t q =
+      let z : q .dataset ≡ t .dataset = done-inj (q .dataset) (t .dataset) (sym (q .isRead) ∙ t .isRead) in
+      let n : bears f ≡ some (first P + suc (t .steps)) = follows c f r q ∙ ap {B = Option ℕ} some (omega (arith, t .counted)) in
+      let u : updatedBy (t .dataset) f ≡ done r = rw z at (ruled-by c f r q) in
+      right-at (suc (t .steps)) r (next-right P (t .steps) (t .dataset) r f (t .right) (g (first P + suc (t .steps)) n) u)
+      (omega (arith, raised c f r q, t .counted))
+      (came-on c f r b t q)
+      (result-writable (q .dataset) (q .sent) r (q .isWritable) (q .isUpdated))
+      (q .short-result)
 
-    -- (i) after every list of files a display holds exactly the written result of the updates after the dataset, up to its own number, in order
-    pub holds : (hs : List Handed) → Cable P hs
-        → (first P ≤ numberShown (shown (start P) hs))
-        × ((r : Dataset) × (inOrder P (numberShown (shown (start P) hs) - first P) ≡ some r) × (shown (start P) hs ≡ writtenBytes r))
-    holds hs t =
-        let r = walked (start P) hs t started in
-        let e : numberShown (shown (start P) hs) - first P ≡ r .count = omega (arith, r .counted) in
-        (omega (arith, r .counted), (r .dataset, rw e (r .right), r .form))
-
-    -- (ii) two displays hold equal bytes exactly when they show equal numbers
-    pub same-bytes : (hs ks : List Handed) → Cable P hs → Cable P ks
-        → (shown (start P) hs ≡ shown (start P) ks) ↔ (numberShown (shown (start P) hs) ≡ numberShown (shown (start P) ks))
-    same-bytes hs ks t u = (
-      λ e. ap numberShown e,
-      λ e. let (a, x) = holds hs t in let (b, y) = holds ks u in alike x y e,
-    )
-      where
-        alike : (x : (r : Dataset) × (inOrder P (numberShown (shown (start P) hs) - first P) ≡ some r) × (shown (start P) hs ≡ writtenBytes r))
-            → (y : (r : Dataset) × (inOrder P (numberShown (shown (start P) ks) - first P) ≡ some r) × (shown (start P) ks ≡ writtenBytes r))
-            → numberShown (shown (start P) hs) ≡ numberShown (shown (start P) ks) → shown (start P) hs ≡ shown (start P) ks
-        alike x y e =
-            let z : some (x .0) ≡ some (y .0) = sym (x .1) ∙ ap (λ (n : ℕ). inOrder P (n - first P)) e ∙ y .1 in
-            x .2 ∙ ap writtenBytes (some-inj z) ∙ sym (y .2)
-
-    -- ---- the next file
-
-    -- what was accepted, taken back
-    accepted-inv : (m : Outcome Dataset) (r : Dataset) → accepted m ≡ some r → m ≡ done r
-    unfolding accepted
-    accepted-inv (done d) r e = ap done (some-inj e)
-    accepted-inv (refused file n x) r e = never (sym e)
-
-    -- the next in order is the result of the next file
-    next-inv : (k : ℕ) (d r : Dataset) (f : List ℕ) → inOrder P k ≡ some d → P .issued (first P + suc k) ≡ some f → inOrder P (suc k) ≡ some r → updatedBy d f ≡ done r
-    unfolding inOrder next
-    next-inv k d r f a b e = accepted-inv (updatedBy d f) r (rw (a, b) at e)
-
-    -- (iii) handed the next file, where the updates in order go on by it and there is room for the result, a display moves on by one
-    pub onward : (hs : List Handed) → Cable P hs → (h : Handed) (r : Dataset)
-        → P .issued (numberShown (shown (start P) hs) + 1) ≡ some (h .file) → inOrder P (suc (numberShown (shown (start P) hs) - first P)) ≡ some r
-        → length (writtenBytes r) ≤ h .room → 400000 ≤ h .work
-        → (after (shown (start P) hs) h ≡ writtenBytes r) × (numberShown (after (shown (start P) hs) h) ≡ numberShown (shown (start P) hs) + 1)
-    onward hs t h r i o l w =
-        let c = shown (start P) hs in
-        let q = walked (start P) hs t started in
-        let a : numberShown c + 1 ≡ first P + suc (q .count) = omega (arith, q .counted) in
-        let b : numberShown c - first P ≡ q .count = omega (arith, q .counted) in
-        let u : updatedBy (q .dataset) (h .file) ≡ done r = next-inv (q .count) (q .dataset) r (h .file) (q .right) (rw a at i) (rw b at o) in
-        moves-on c h r (by-ruled c (h .file) (q .dataset) r (q .isShort) (q .isRead) (q .isWritable) u) l w
-
-    -- a chart is in the written form: the writer gives it back
-    pub written-form : (hs : List Handed) → Cable P hs → (room : ℕ) → length (shown (start P) hs) ≤ room
-        → ((write (shown (start P) hs) room) .answer .number ≡ 0) × (taken [] (write (shown (start P) hs) room) ≡ shown (start P) hs)
-    written-form hs t room l =
-        let q = walked (start P) hs t started in
-        gives-back room (shown (start P) hs) (count (q .dataset)) (written-as room (shown (start P) hs) (q .dataset) (q .form) l (q .isShort) (q .isRead) (q .isWritable))
-
-  -- ---- numbers
-
-  -- a display never falls back
-  pub never-back : (c : List ℕ) (hs : List Handed) → numberShown c ≤ numberShown (shown c hs)
-  unfolding shown
-  never-back c [] = omega arith
-  never-back c (h ∷ hs) = omega (arith, go (by-one c h), never-back (after c h) hs)
+  -- a chart after any file
+  stepped : (c : List ℕ) (h : Handed) → Genuine P (h .file) → Right c → Right (after c h)
+  stepped c h g t = go (turn c h)
     where
-      go : (after c h ≡ c) ⊎ (numberShown (after c h) ≡ numberShown c + 1) → numberShown c ≤ numberShown (after c h)
-      go (inl e) = omega (arith, ap numberShown e)
-      go (inr e) = omega (arith, e)
+      go : Turn c h → Right (after c h)
+      go (stays e) = subst Right (sym e) t
+      go (moves r e z) = subst Right (sym z) (moved c (h .file) r (h .isBytes) g t (ruled-inv c (h .file) r e))
+
+  -- a chart after any list of files
+  walked : (c : List ℕ) (hs : List Handed) → Cable P hs → Right c → Right (shown c hs)
+  unfolding shown Cable
+  walked c [] t r = r
+  walked c (h ∷ hs) t r = walked (after c h) hs (t .1) (stepped c h (t .0) r)
+
+  -- the chart of a display of this publisher
+  displayed : (hs : List Handed) → Cable P hs → Right (shown (start P) hs)
+  displayed hs t = walked (start P) hs t started
+
+  -- (i) after every list of files a display holds exactly the written result of the updates after the dataset, up to its own number, in order
+  pub holds : (hs : List Handed) → Cable P hs
+      → (first P ≤ numberShown (shown (start P) hs))
+      × ((r : Dataset) × (inOrder P (numberShown (shown (start P) hs) - first P) ≡ some r) × (shown (start P) hs ≡ writtenBytes r))
+  holds hs t =
+      let r = displayed hs t in
+      let e : numberShown (shown (start P) hs) - first P ≡ r .steps = omega (arith, r .counted) in
+      (omega (arith, r .counted), (r .dataset, rw e (r .right), r .form))
+
+  -- (ii) two displays hold equal bytes exactly when they show equal numbers
+  pub same-bytes : (hs ks : List Handed) → Cable P hs → Cable P ks
+      → (shown (start P) hs ≡ shown (start P) ks) ↔ (numberShown (shown (start P) hs) ≡ numberShown (shown (start P) ks))
+  same-bytes hs ks t u = (
+    λ e. ap numberShown e,
+    λ e. let x = (holds hs t) .1 in
+        let y = (holds ks u) .1 in
+        let z : some (x .0) ≡ some (y .0) = sym (x .1) ∙ ap (λ (n : ℕ). inOrder P (n - first P)) e ∙ y .1 in
+        x .2 ∙ ap writtenBytes (some-inj z) ∙ sym (y .2),
+  )
+
+  -- ---- the next file
+
+  -- a chart that is right, and a file that the rules accept, with room for the result
+  moves-right : (c : List ℕ) (h : Handed) (r : Dataset) → Right c → ruled c (h .file) ≡ done r → length (writtenBytes r) ≤ h .room → 400000 ≤ h .work
+      → (after c h ≡ writtenBytes r) × (numberShown (after c h) ≡ numberShown c + 1)
+  unfolding after
+  moves-right c h r t e l w =
+      let z : after c h ≡ writtenBytes r = ap (taken c) (answer-done (h .room) (h .work) c (h .file) r e l w) ∙ takes c (h .room) _ in
+      (z, ap numberShown z ∙ moved-number c (h .file) r (h .isBytes) t (ruled-inv c (h .file) r e))
+
+  -- (iii) handed a file for which no number but 13 or 15 is due, with room for the result, a display holds the result and moves on by one
+  pub moves-on : (hs : List Handed) → Cable P hs → (h : Handed) (r : Dataset) → ruled (shown (start P) hs) (h .file) ≡ done r
+      → length (writtenBytes r) ≤ h .room → 400000 ≤ h .work
+      → (after (shown (start P) hs) h ≡ writtenBytes r) × (numberShown (after (shown (start P) hs) h) ≡ numberShown (shown (start P) hs) + 1)
+  moves-on hs t h r e l w = moves-right (shown (start P) hs) h r (displayed hs t) e l w
+
+  -- the same by the publisher's files alone: handed the one with the next number, where the updates in order go on by it
+  pub onward : (hs : List Handed) → Cable P hs → (h : Handed) (r : Dataset)
+      → P .issued (numberShown (shown (start P) hs) + 1) ≡ some (h .file) → inOrder P (suc (numberShown (shown (start P) hs) - first P)) ≡ some r
+      → length (writtenBytes r) ≤ h .room → 400000 ≤ h .work
+      → (after (shown (start P) hs) h ≡ writtenBytes r) × (numberShown (after (shown (start P) hs) h) ≡ numberShown (shown (start P) hs) + 1)
+  onward hs t h r i o l w =
+      let c = shown (start P) hs in
+      let q = displayed hs t in
+      let a : numberShown c + 1 ≡ first P + suc (q .steps) = omega (arith, q .counted) in
+      let b : numberShown c - first P ≡ q .steps = omega (arith, q .counted) in
+      let u : updatedBy (q .dataset) (h .file) ≡ done r = next-inv P (q .steps) (q .dataset) r (h .file) (q .right) (rw a at i) (rw b at o) in
+      moves-right c h r q (by-ruled c (h .file) (q .dataset) r (q .isShort) (q .isRead) (q .isWritable) u) l w
+
+  -- a file moves a display by one or leaves its chart
+  pub by-one : (hs : List Handed) → Cable P hs → (h : Handed)
+      → (after (shown (start P) hs) h ≡ shown (start P) hs) ⊎ (numberShown (after (shown (start P) hs) h) ≡ numberShown (shown (start P) hs) + 1)
+  by-one hs t h = go (turn (shown (start P) hs) h)
+    where
+      go : Turn (shown (start P) hs) h → (after (shown (start P) hs) h ≡ shown (start P) hs) ⊎ (numberShown (after (shown (start P) hs) h) ≡ numberShown (shown (start P) hs) + 1)
+      go (stays e) = inl e
+      go (moves r e z) = inr (ap numberShown z ∙ moved-number (shown (start P) hs) (h .file) r (h .isBytes) (displayed hs t) (ruled-inv _ (h .file) r e))
+
+  -- a chart is in the written form: the writer answers 0 and gives it back
+  pub written-form : (hs : List Handed) → Cable P hs → (room : ℕ) → length (shown (start P) hs) ≤ room
+      → ((write (shown (start P) hs) room) .answer .number ≡ 0) × (taken [] (write (shown (start P) hs) room) ≡ shown (start P) hs)
+  written-form hs t room l =
+      let q = displayed hs t in
+      gives-back room (shown (start P) hs) (count (q .dataset)) (written-as room (shown (start P) hs) (q .dataset) (q .form) l (q .isShort) (q .isRead) (q .isWritable))

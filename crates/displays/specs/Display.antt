@@ -5,6 +5,7 @@ use mathlib.Core.List.{List, [], _∷_}
 use lib.ListN.{take}
 use lib.Dec.{eqb}
 use Rattle.base.specs.Choice.{pick}
+use Rattle.fields.specs.Valid.{Bytes}
 use Rattle.rules.specs.General.{numberOf}
 use Rattle.rules.specs.Written.{Dataset, writtenBytes}
 use Rattle.rules.specs.Outcome.{Outcome, done, refused, andThen}
@@ -14,9 +15,10 @@ use Rattle.rules.specs.Answers.{Output, notTooLong, update}
 
 -- ---- what a display does
 
--- a file that reaches a display, and what the display can lend then: an output slice of so many bytes and a workspace of so many
+-- a file of bytes that reaches a display, and what the display can lend then: an output slice of so many bytes and a workspace of so many
 pub record Handed : Type 0 where
   pub file : List ℕ
+  pub isBytes : Bytes file
   pub room : ℕ
   pub work : ℕ
 

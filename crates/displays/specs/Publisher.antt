@@ -3,6 +3,7 @@ use Prim.Native.Nat.{ℕ, zero, suc, _+_}
 use mathlib.Core.Path.{_≡_}
 use mathlib.Core.Option.{Option, some, none}
 use mathlib.Core.List.{List, [], _∷_}
+use Rattle.fields.specs.Valid.{Bytes}
 use Rattle.rules.specs.General.{numberOf}
 use Rattle.rules.specs.Written.{Dataset, writtenBytes}
 use Rattle.rules.specs.Outcome.{Outcome, done, refused}
@@ -10,9 +11,10 @@ use Rattle.rules.specs.File.{readDataset, writable}
 use Rattle.rules.specs.Answers.{notTooLong}
 use Rattle.displays.specs.Display.{Handed, bears, updatedBy}
 
--- one dataset that the writer writes, and at most one update file for each update number
+-- one dataset, in a file of bytes that the writer would write, and at most one update file for each update number
 pub record Publisher : Type 0 where
   pub source : List ℕ
+  pub isBytes : Bytes source
   pub dataset : Dataset
   pub isRead : readDataset source ≡ done dataset
   pub isWritable : writable dataset ≡ done dataset

@@ -13,7 +13,6 @@ use Rattle.skeleton.specs.File.{Field, recordsOf}
 use Rattle.rules.specs.Tags.{CSID}
 use Rattle.rules.specs.ByTag.{firstTag}
 use Rattle.rules.specs.Kind.{kindOf}
-use Rattle.rules.specs.Grammar.{inDataset, inUpdate}
 use Rattle.rules.specs.Associations.{marks}
 use Rattle.rules.specs.Record.{Rec, keyNamed, keyOf}
 use Rattle.rules.specs.General.{merged}
@@ -22,6 +21,7 @@ use Rattle.rules.specs.Outcome.{done, refused, at}
 use Rattle.rules.specs.File.{lastRank, datasetTest, updateTest, through, ending, taken, datasetOf, references, readDataset, writable, Sent, updateOf, readUpdate}
 use Rattle.rules.specs.Update.{find, stepAs, step, steps, general, updated}
 use Rattle.rules.specs.Answers.{notTooLong}
+use Rattle.rules.specs.declared.Mode.the-variants.{InDataset, InUpdate}
 use Rattle.numbers.specs.Fair.{fair, FairCheck, fair-ok, fair-no, FairOutcome, fair-done, fair-refused}
 use Rattle.numbers.proofs.Checks.{fair-pick, fair-bind, fair-passed, fair-then, fair-choice, fair-at, fair-every}
 use Rattle.numbers.proofs.Endings.{ends, records-end}
@@ -35,7 +35,7 @@ fair-dataset-test : (n : ℕ) (seen : List Rec) (fs : List Field) → FairCheck 
 unfolding datasetTest fair
 fair-dataset-test n seen fs =
     fair-pick (eqb n 1) _ _ fair-ok
-    (fair-pick (eqb n 2) _ _ (fair-bind _ _ (fair-general inDataset fs) (λ _. fair-ok))
+    (fair-pick (eqb n 2) _ _ (fair-bind _ _ (fair-general InDataset fs) (λ _. fair-ok))
     (fair-pick (eqb n 3) _ _ (fair-bind _ _ (fair-pick (eqb (firstTag fs) CSID) _ _ fair-ok (fair-no refl)) (λ _. fair-ok))
     (fair-bind _ _ (fair-dataset-record (lastRank seen) (each keyOf seen) fs) (λ r. fair-ok))))
 
@@ -44,7 +44,7 @@ fair-update-test : (n : ℕ) (seen : List Rec) (fs : List Field) → FairCheck (
 unfolding updateTest
 fair-update-test n seen fs =
     fair-pick (eqb n 1) _ _ fair-ok
-    (fair-pick (eqb n 2) _ _ (fair-bind _ _ (fair-general inUpdate fs) (λ _. fair-ok))
+    (fair-pick (eqb n 2) _ _ (fair-bind _ _ (fair-general InUpdate fs) (λ _. fair-ok))
     (fair-bind _ _ (fair-passed _ (fair-update-record fs)) (λ _. fair-ok)))
 
 -- a number that a walk may end with, where it is not 0

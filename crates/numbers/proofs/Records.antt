@@ -20,7 +20,7 @@ use Rattle.fields.specs.declared.Tally.the-variants.{Whole, Short}
 use Rattle.rules.specs.Tags.{ATTR, INAS, COCC, DSID}
 use Rattle.rules.specs.ByTag.{front}
 use Rattle.rules.specs.Kind.{Row, kindOf, rank, rowsOf, generalRows}
-use Rattle.rules.specs.Grammar.{rowsAfter, onRows, inOrder, complete, Mode, inUpdate, inDataset, ruinByte, asStored, forbidden, fieldsStand, onKind, number4}
+use Rattle.rules.specs.Grammar.{rowsAfter, onRows, inOrder, complete, ruinByte, asStored, forbidden, fieldsStand, onKind, number4}
 use Rattle.rules.specs.Coordinates.{sent, placeIn}
 use Rattle.rules.specs.Content.{insertOnly, identFormat, formatOf, filled, stands, allStand, miscounts, counted, number5}
 use Rattle.rules.specs.Trees.{tupOf, utupOf, attrTree, inasTree, attrActs, treeStands, treesStand, number6}
@@ -29,6 +29,8 @@ use Rattle.rules.specs.Record.{keyOf, recOf, datasetRecord, updateRecord}
 use Rattle.rules.specs.General.{generalFormat, generalRecord, nameOf, editionOf, numberOf, number8}
 use Rattle.rules.specs.Written.{writtenLength, number12}
 use Rattle.rules.specs.declared.Kind.{Kind}
+use Rattle.rules.specs.declared.Mode.{Mode}
+use Rattle.rules.specs.declared.Mode.the-variants.{InDataset, InUpdate}
 use Rattle.numbers.specs.Fair.{fair, FairCheck, fair-ok, fair-no}
 use Rattle.numbers.proofs.Checks.{fair-pick, fair-bind, fair-field, fair-passed}
 use Rattle.numbers.proofs.Trees.{fair-tree, fair-acts}
@@ -150,18 +152,18 @@ fair11 keys (m ∷ ms) = fair-pick (among (take 2 (m .key)) keys) _ _ (fair11 ke
 pub fair-dataset-record : (least : ℕ) (keys : List (List ℕ)) (fs : List Field) → FairCheck (datasetRecord least keys fs)
 unfolding datasetRecord fair
 fair-dataset-record least keys fs =
-    fair-bind _ _ (fair4 inDataset least fs) (λ k.
-    fair-bind _ _ (fair5 inDataset k fs) (λ _.
-    fair-bind _ _ (fair6 inDataset k fs) (λ _.
+    fair-bind _ _ (fair4 InDataset least fs) (λ k.
+    fair-bind _ _ (fair5 InDataset k fs) (λ _.
+    fair-bind _ _ (fair6 InDataset k fs) (λ _.
     fair-pick (among (keyOf (recOf k fs)) keys) _ _ (fair-no refl) (fair-bind _ _ (fair7 fs) (λ _. fair-ok)))))
 
 -- of an update
 pub fair-update-record : (fs : List Field) → FairCheck (updateRecord fs)
 unfolding updateRecord
 fair-update-record fs =
-    fair-bind _ _ (fair4 inUpdate 0 fs) (λ k.
-    fair-bind _ _ (fair5 inUpdate k fs) (λ _.
-    fair-bind _ _ (fair6 inUpdate k fs) (λ _.
+    fair-bind _ _ (fair4 InUpdate 0 fs) (λ k.
+    fair-bind _ _ (fair5 InUpdate k fs) (λ _.
+    fair-bind _ _ (fair6 InUpdate k fs) (λ _.
     fair-pick (eqb (ruinByte k (front fs)) 1) _ _ (fair-bind _ _ (fair7 fs) (λ _. fair-ok)) fair-ok)))
 
 -- the general record

@@ -11,7 +11,6 @@ use Rattle.base.specs.Lists.{each}
 use Rattle.base.specs.Keys.{same}
 use Rattle.base.proofs.CheckLaws.{bind-inv, ok-inj}
 use Rattle.skeleton.specs.File.{Field}
-use Rattle.rules.specs.Grammar.{inUpdate}
 use Rattle.rules.specs.Record.{Rec}
 use Rattle.rules.specs.General.{generalRecord}
 use Rattle.rules.specs.Written.{Dataset, writtenFields}
@@ -19,6 +18,7 @@ use Rattle.rules.specs.Outcome.{done, at}
 use Rattle.rules.specs.File.{references, readDataset, Sent, readUpdate}
 use Rattle.rules.specs.Update.{general, steps, updated}
 use Rattle.rules.specs.declared.Kind.{Kind}
+use Rattle.rules.specs.declared.Mode.the-variants.{InUpdate}
 use Rattle.rules.proofs.OutcomeLaws.{andThen-inv, at-inv, done-inj}
 use Rattle.rules.proofs.Follows.{number8-inv, general-inv, raises}
 use Rattle.sequence.specs.History.{history, version}
@@ -98,7 +98,7 @@ parted d u r e =
     parted-as d u r g rs (at-inv 2 2 (general (d .general) (u .general)) g a) c h (done-inj _ r i)
 
 -- a general record that stands is not empty
-general-some : (fs : List Field) → generalRecord inUpdate fs ≡ pass → (f : Field) × (rest : List Field) × (fs ≡ f ∷ rest)
+general-some : (fs : List Field) → generalRecord InUpdate fs ≡ pass → (f : Field) × (rest : List Field) × (fs ≡ f ∷ rest)
 unfolding generalRecord
 general-some [] e = refused e
 general-some (f ∷ rest) e = (f, rest, refl)

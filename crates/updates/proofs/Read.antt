@@ -11,12 +11,12 @@ use Rattle.base.specs.declared.Fault.{Fault}
 use Rattle.base.specs.Walk.{Got}
 use Rattle.base.proofs.CheckLaws.{bind-inv, ok-inj}
 use Rattle.skeleton.specs.File.{Field, recordsOf}
-use Rattle.rules.specs.Grammar.{inUpdate}
 use Rattle.rules.specs.Record.{Rec, updateRecord}
 use Rattle.rules.specs.General.{generalRecord}
 use Rattle.rules.specs.Written.{Dataset}
 use Rattle.rules.specs.Outcome.{done, refused, at}
 use Rattle.rules.specs.File.{datasetTest, updateTest, through, ending, taken, Stored, storedAs, datasetOf, references, readDataset, Sent, sentAs, updateOf, readUpdate}
+use Rattle.rules.specs.declared.Mode.the-variants.{InUpdate}
 use Rattle.rules.proofs.OutcomeLaws.{andThen-inv, at-inv, done-inj}
 use Rattle.sequence.proofs.Tests.{by-bool}
 use Rattle.sequence.proofs.Tests as tests
@@ -84,7 +84,7 @@ adds-none n seen fs new e =
     by-bool (eqb n 1)
     (λ h. sym (ok-inj [] new (rw h at e)))
     (λ h. by-bool (eqb n 2)
-    (λ g. let (t, x, y) = bind-inv (generalRecord inUpdate fs) (λ _. ok []) new (rw (h, g) at e) in sym (ok-inj [] new y))
+    (λ g. let (t, x, y) = bind-inv (generalRecord InUpdate fs) (λ _. ok []) new (rw (h, g) at e) in sym (ok-inj [] new y))
     (λ g. let (t, x, y) = bind-inv (passed (updateRecord fs)) (λ _. ok []) new (rw (h, g) at e) in sym (ok-inj [] new y)))
 
 -- none and none are none
@@ -117,7 +117,7 @@ is-sent f u e =
     }
 
 -- the general record of an update that is read
-general-tested : (items : List (List Field)) → 2 < 1 + length items → through updateTest 2 1 [] items ≡ done [] → generalRecord inUpdate (getD items 1 []) ≡ pass
+general-tested : (items : List (List Field)) → 2 < 1 + length items → through updateTest 2 1 [] items ≡ done [] → generalRecord InUpdate (getD items 1 []) ≡ pass
 unfolding through updateTest
 general-tested [] n e = absurd (omega arith)
 general-tested (a ∷ []) n e = absurd (omega arith)
@@ -125,9 +125,9 @@ general-tested (a ∷ b ∷ rest) n e =
     let (one, x, y) = andThen-inv (at 2 1 (updateTest 1 [] a)) _ [] e in
     let (later, v, w) = andThen-inv (through updateTest 2 2 (one ++ []) (b ∷ rest)) _ [] y in
     let (two, p, q) = andThen-inv (at 2 2 (updateTest 2 (one ++ []) b)) _ later v in
-    let (t, g, h) = bind-inv (generalRecord inUpdate b) (λ _. ok []) two (at-inv 2 2 (updateTest 2 (one ++ []) b) two p) in
+    let (t, g, h) = bind-inv (generalRecord InUpdate b) (λ _. ok []) two (at-inv 2 2 (updateTest 2 (one ++ []) b) two p) in
     g
 
 -- it begins with DSID
-pub general-sent : (f : List ℕ) (u : Sent) → readUpdate f ≡ done u → generalRecord inUpdate (u .general) ≡ pass
+pub general-sent : (f : List ℕ) (u : Sent) → readUpdate f ≡ done u → generalRecord InUpdate (u .general) ≡ pass
 general-sent f u e = let s = is-sent f u e in rw (ap (λ (z : Sent). z .general) (s .said)) (general-tested (s .items) (s .enough) (s .tested))

@@ -14,7 +14,7 @@ use Rattle.skeleton.specs.File.{Field}
 use Rattle.rules.specs.Tags.{CSID}
 use Rattle.rules.specs.ByTag.{firstTag}
 use Rattle.rules.specs.Kind.{kindOf, rank}
-use Rattle.rules.specs.Grammar.{inDataset, onKind, fieldsStand, number4}
+use Rattle.rules.specs.Grammar.{onKind, fieldsStand, number4}
 use Rattle.rules.specs.Content.{number5}
 use Rattle.rules.specs.Trees.{number6}
 use Rattle.rules.specs.Associations.{number7}
@@ -23,6 +23,7 @@ use Rattle.rules.specs.General.{generalRecord}
 use Rattle.rules.specs.Outcome.{done, refused, at}
 use Rattle.rules.specs.File.{lastRank, datasetTest, through}
 use Rattle.rules.specs.declared.Kind.{Kind}
+use Rattle.rules.specs.declared.Mode.the-variants.{InDataset}
 use Rattle.rules.proofs.OutcomeLaws.{andThen-inv, at-inv, done-inj}
 use Rattle.sequence.specs.Keyed.{Ordered}
 use Rattle.sequence.proofs.Tests.{by-bool}
@@ -31,18 +32,18 @@ use Rattle.updates.specs.Acts.{chart}
 use Rattle.updates.proofs.Steps.{placed}
 
 -- a kind that passes 4 has a rank that is not below the last one's
-number4-rank : (least : ℕ) (fs : List Field) (k : Kind) → number4 inDataset least fs ≡ ok k → least ≤ rank k
+number4-rank : (least : ℕ) (fs : List Field) (k : Kind) → number4 InDataset least fs ≡ ok k → least ≤ rank k
 unfolding number4
 number4-rank least [] k e = tests.refused e
 number4-rank least (f ∷ fs) k e = go (kindOf (f .tag)) e
   where
     go : (m : Option Kind)
-        → onKind m (λ k. pick (ltb (rank k) least) (no (fault 4 1 0)) (bind (fieldsStand inDataset k (f .body) fs) (λ _. ok k))) ≡ ok k → least ≤ rank k
+        → onKind m (λ k. pick (ltb (rank k) least) (no (fault 4 1 0)) (bind (fieldsStand InDataset k (f .body) fs) (λ _. ok k))) ≡ ok k → least ≤ rank k
     go none x = tests.refused x
     go (some j) x =
         by-bool (ltb (rank j) least)
         (λ h. tests.refused (rw h at x))
-        (λ h. let (t, y, z) = bind-inv (fieldsStand inDataset j (f .body) fs) (λ _. ok j) k (rw h at x) in
+        (λ h. let (t, y, z) = bind-inv (fieldsStand InDataset j (f .body) fs) (λ _. ok j) k (rw h at x) in
         let w : j ≡ k = ok-inj j k z in
         rw (← w) (ltb-false (rank j) least h))
 
@@ -50,9 +51,9 @@ number4-rank least (f ∷ fs) k e = go (kindOf (f .tag)) e
 record-rank : (least : ℕ) (keys : List (List ℕ)) (fs : List Field) (r : Rec) → datasetRecord least keys fs ≡ ok r → least ≤ rank (r .kind)
 unfolding datasetRecord recOf
 record-rank least keys fs r e =
-    let (k, a, b) = bind-inv (number4 inDataset least fs) _ r e in
-    let (t, c, d) = bind-inv (number5 inDataset k fs) _ r b in
-    let (s, g, h) = bind-inv (number6 inDataset k fs) _ r d in
+    let (k, a, b) = bind-inv (number4 InDataset least fs) _ r e in
+    let (t, c, d) = bind-inv (number5 InDataset k fs) _ r b in
+    let (s, g, h) = bind-inv (number6 InDataset k fs) _ r d in
     by-bool (among (keyOf (recOf k fs)) keys)
     (λ m. tests.refused (rw m at h))
     (λ m. let (w, x, y) = bind-inv (number7 fs) (λ _. ok (recOf k fs)) r (rw m at h) in
@@ -74,7 +75,7 @@ test-next n seen fs new e =
     by-bool (eqb n 1)
     (λ h. rw (← ok-inj [] new (rw h at e)) next-none)
     (λ h. by-bool (eqb n 2)
-    (λ g. adds-none seen (generalRecord inDataset fs) new (rw (h, g) at e))
+    (λ g. adds-none seen (generalRecord InDataset fs) new (rw (h, g) at e))
     (λ g. by-bool (eqb n 3)
     (λ l. adds-none seen (pick (eqb (firstTag fs) CSID) pass (no (fault 4 1 0))) new (rw (h, g, l) at e))
     (λ l. let (r, x, y) = bind-inv (datasetRecord (lastRank seen) (each keyOf seen) fs) (λ r. ok (r ∷ [])) new (rw (h, g, l) at e) in
