@@ -1,13 +1,13 @@
 // Number 4: a record's tags, their order and their presence.
+use crate::order::Instructions;
+use crate::order::order;
+use crate::tagged::coui_byte;
+use crate::tagged::has_field;
 use rules::Kind;
 use rules::Mode;
 use skeleton::directory::Shape;
 use skeleton::place::Place;
 use skeleton::place::place_at;
-use crate::order::Instructions;
-use crate::order::order;
-use crate::tagged::coui_byte;
-use crate::tagged::has_field;
 ghost use mathlib.Core.Path.{_≡_};
 ghost use Prim.Native.Nat.{_≤_};
 ghost use lib.ListN.{length};
@@ -119,7 +119,13 @@ fn kind_order(r: &[u8], h: Shape, p: usize, k: Kind, s: Instructions) -> usize
         Kind::Info => order(r, h, p, &[0x41545452, 0x494e4153], s),
         Kind::Point => order(r, h, p, &[0x494e4153, 0x43324954], s),
         Kind::Multi => order(r, h, p, &[0x494e4153, 0x434f4343, 0x4332494c], s),
-        Kind::Feature => order(r, h, p, &[0x464f4944, 0x41545452, 0x494e4153, 0x53504153], s),
+        Kind::Feature => order(
+            r,
+            h,
+            p,
+            &[0x464f4944, 0x41545452, 0x494e4153, 0x53504153],
+            s,
+        ),
     }
 }
 

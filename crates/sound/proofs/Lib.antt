@@ -1,0 +1,15 @@
+pub mod Lists
+pub mod Values
+pub mod Trees
+pub mod Keys
+pub mod Order
+pub mod Bodies
+pub mod Stand
+pub mod Attributes
+pub mod Associations
+pub mod Coordinates
+pub mod Spatial
+pub mod Idents
+pub mod Marks
+pub mod Records
+pub mod Parts
