@@ -13,3 +13,5 @@ pub mod Idents
 pub mod Marks
 pub mod Records
 pub mod Parts
+pub mod Modified
+pub mod Changed
