@@ -28,8 +28,9 @@ use Rattle.forest.proofs.EditLaws.{edit-plain}
 use Rattle.rules.specs.Trees.{tupOf, utupOf, attrTree, attrActs}
 use Rattle.rules.specs.Modify.{actAttr}
 use Rattle.sequence.specs.Keyed.{Each}
+use Rattle.updates.proofs.Kept.{of-each}
 use Rattle.sound.specs.Sound.{Attributes}
-use Rattle.sound.proofs.Lists.{each-map, each-made}
+use Rattle.sound.proofs.Lists.{each-map}
 use Rattle.sound.proofs.Values.{is-num, is-text, all-length, each-pass}
 use Rattle.sound.proofs.Trees.{Good, GoodTuple, GoodAct, acts-ranged, edit-ranged, tuples-ranged}
 use Rattle.sound.proofs.Stand.{Has}
@@ -60,7 +61,7 @@ pub tree-attributes : (vss : List (List Val)) (f : Forest) → Each (λ vs. pass
 unfolding tupleOf tupOf tuplesOf
 tree-attributes vss f e h =
     let (a, b) = tree-sound (each tupOf vss) f h in
-    record { plain = b; ranged = tuples-ranged [] 0 1 f (rw (a) (each-made GoodTuple tupOf vss (each-map vss (λ vs p. good-values insert vs p) e))) }
+    record { plain = b; ranged = tuples-ranged [] 0 1 f (rw (a) (of-each GoodTuple tupOf vss (each-map vss (λ vs p. good-values insert vs p) e))) }
 
 -- the tree of an ATTR that is read
 pub attributes-read : (b : List ℕ) (f : Forest) → Bytes b → Has AttrNew b → attrTree b ≡ ok f → Attributes f
@@ -74,5 +75,5 @@ unfolding actAttr attrActs headOf tupleOf endingAt utupOf
 attributes-edited b f h g e a x =
     let (us, y, z) = bind-inv (attrActs b) _ h x in
     let p = each-pass (tupleOf Attr) (many (tupleOf Attr) b) (pass-many (tupleOf Attr) b (fill-list (tupleOf Attr) b e) g) in
-    let r = acts-ranged (each utupOf (many (tupleOf Attr) b)) us (each-made GoodAct utupOf (many (tupleOf Attr) b) (each-map (many (tupleOf Attr) b) (λ vs q. good-values change vs q) p)) y in
+    let r = acts-ranged (each utupOf (many (tupleOf Attr) b)) us (of-each GoodAct utupOf (many (tupleOf Attr) b) (each-map (many (tupleOf Attr) b) (λ vs q. good-values change vs q) p)) y in
     record { plain = edit-plain f us h (a .plain) z; ranged = edit-ranged f us h r (a .ranged) z }

@@ -25,8 +25,9 @@ use Rattle.rules.specs.Coordinates.{Coord, coordOf, coordsIn}
 use Rattle.rules.specs.Written.{coordVals}
 use Rattle.sequence.specs.Keyed.{Each}
 use Rattle.sequence.proofs.Tests.{by-bool, refused}
+use Rattle.updates.proofs.Kept.{of-each}
 use Rattle.sound.specs.Sound.{SoundCoord}
-use Rattle.sound.proofs.Lists.{each-map, each-made, each-join}
+use Rattle.sound.proofs.Lists.{each-map, each-join}
 use Rattle.sound.proofs.Values.{numsFrom, all-nums, each-pass}
 use Rattle.sound.proofs.Stand.{Has}
 
@@ -39,7 +40,7 @@ coord-made vs p = ap (passAll (tupleOf C2il)) (sym (all-nums (tupleOf C2il) vs r
 coords-made : (b : List ℕ) → Bytes b → (tuples (tupleOf C2il) b) .ending ≡ 0 → Each SoundCoord (coordsIn b)
 unfolding coordsIn
 coords-made b g e =
-    each-made SoundCoord coordOf (many (tupleOf C2il) b) (each-map (many (tupleOf C2il) b) coord-made (each-pass (tupleOf C2il) _ (pass-many (tupleOf C2il) b e g)))
+    of-each SoundCoord coordOf (many (tupleOf C2il) b) (each-map (many (tupleOf C2il) b) coord-made (each-pass (tupleOf C2il) _ (pass-many (tupleOf C2il) b e g)))
 
 -- those of a C2IL
 pub list-read : (b : List ℕ) → Bytes b → Has C2il b → Each SoundCoord (coordsIn b)

@@ -15,3 +15,8 @@ pub mod Records
 pub mod Parts
 pub mod Modified
 pub mod Changed
+pub mod FileBytes
+pub mod General
+pub mod WrittenKeys
+pub mod Read
+pub mod Updated

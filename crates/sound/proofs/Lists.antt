@@ -22,18 +22,6 @@ unfolding Each
 each-join P [] b p q = q
 each-join P (x ∷ a) b p q = (p .0, each-join P a b (p .1) q)
 
--- what is made of each
-pub each-made : {A B : Type 0} (P : B → Type 0) (f : A → B) (l : List A) → Each (λ a. P (f a)) l → Each P (each f l)
-unfolding Each each
-each-made P f [] e = tt
-each-made P f (x ∷ l) e = (e .0, each-made P f l (e .1))
-
--- and back
-pub each-from : {A B : Type 0} (P : B → Type 0) (f : A → B) (l : List A) → Each P (each f l) → Each (λ a. P (f a)) l
-unfolding Each each
-each-from P f [] e = tt
-each-from P f (x ∷ l) e = (e .0, each-from P f l (e .1))
-
 -- the lists that are made of each
 pub each-gathered : {A B : Type 0} (P : B → Type 0) (f : A → List B) (l : List A) → Each (λ a. Each P (f a)) l → Each P (gather f l)
 unfolding Each gather
@@ -45,3 +33,9 @@ pub each-each : {A B C : Type 0} (g : B → C) (f : A → B) (l : List A) → ea
 unfolding each
 each-each g f [] = refl
 each-each g f (x ∷ l) = rw (each-each g f l)
+
+-- each of two lists joined
+pub each-parts : {A : Type 0} (P : A → Type 0) (a b : List A) → Each P (a ++ b) → Each P a × Each P b
+unfolding Each
+each-parts P [] b e = (tt, e)
+each-parts P (x ∷ a) b e = let (p, q) = each-parts P a b (e .1) in ((e .0, p), q)

@@ -41,8 +41,9 @@ use Rattle.rules.specs.declared.Kind.the-variants.{Info, Point, Multi, Feature}
 use Rattle.rules.specs.declared.Mode.{Mode}
 use Rattle.sequence.specs.Keyed.{Each}
 use Rattle.sequence.proofs.Tests.{by-bool, refused, never}
+use Rattle.updates.proofs.Kept.{of-each, each-of}
 use Rattle.sound.specs.Sound.{Attributes, r-nil, Apart, SoundAssoc, SoundCoord, SoundSpatial, rowed, Counted, SoundParts, SoundFoid, SoundRec, identVals, Named}
-use Rattle.sound.proofs.Lists.{each-map, each-made, each-from, each-join, each-gathered, each-each}
+use Rattle.sound.proofs.Lists.{each-map, each-join, each-gathered, each-each}
 use Rattle.sound.proofs.Keys.{Within, apart-part}
 use Rattle.sound.proofs.Order.{most, tag-none}
 use Rattle.sound.proofs.Bodies.{each-body, bodies-skip, bodies-none, bodies-length}
@@ -210,7 +211,7 @@ module _ (m : Mode) (k : Kind) (f : Field) (fs : List Field) (t : Through m k f 
       record {
         attributes = attr-part k (bodies ATTR all) (at-tag ATTR refl);
         attributes-none = λ h. ap (λ (bs : List (List ℕ)). standing (attrTree (getD bs 0 []))) (lacks ATTR refl h) ∙ standing-ok [] nil attr-nothing;
-        associations = each-made SoundAssoc assocOf (bodies INAS all) (each-map (bodies INAS all) (assoc-part k) (at-tag INAS refl));
+        associations = of-each SoundAssoc assocOf (bodies INAS all) (each-map (bodies INAS all) (assoc-part k) (at-tag INAS refl));
         association-keys = rw inas-same (apart-part [] [] (λ q z. z) (within-inas all) apart);
         coordinates =
             each-gathered SoundCoord coordsIn (bodies C2IT all ++ bodies C2IL all)
@@ -224,7 +225,7 @@ module _ (m : Mode) (k : Kind) (f : Field) (fs : List Field) (t : Through m k f 
             let (b, z) = needed C2IT refl o h in
             point-one k (bodies C2IT all) b z c2it);
         spatial =
-            each-made SoundSpatial spatialOf (gather (many (tupleOf Spas)) (bodies SPAS all))
+            of-each SoundSpatial spatialOf (gather (many (tupleOf Spas)) (bodies SPAS all))
             (each-gathered (λ vs. SoundSpatial (spatialOf vs)) (many (tupleOf Spas)) (bodies SPAS all) (each-map (bodies SPAS all) (spatial-part k) (at-tag SPAS refl)));
         spatial-keys = rw spas-same (apart-part [] [] (λ q z. z) (within-spas all) apart);
         spatial-none = λ h. ap (λ (bs : List (List ℕ)). each spatialOf (gather (many (tupleOf Spas)) bs)) (lacks SPAS refl h) ∙ none;
@@ -255,6 +256,6 @@ module _ (m : Mode) (k : Kind) (f : Field) (fs : List Field) (t : Through m k f 
   record-named keys e =
       let all : Each (Stands keys) all-keys = rw (marks-keys 1 (f ∷ fs)) at e in
       record {
-        associations = each-from (Stands keys) assocKey (each assocOf (bodies INAS (f ∷ fs))) (rw inas-same (each-within (Stands keys) (within-inas (f ∷ fs)) all));
-        spatial = each-from (Stands keys) spatialKey (each spatialOf (gather (many (tupleOf Spas)) (bodies SPAS (f ∷ fs)))) (rw spas-same (each-within (Stands keys) (within-spas (f ∷ fs)) all));
+        associations = each-of (Stands keys) assocKey (each assocOf (bodies INAS (f ∷ fs))) (rw inas-same (each-within (Stands keys) (within-inas (f ∷ fs)) all));
+        spatial = each-of (Stands keys) spatialKey (each spatialOf (gather (many (tupleOf Spas)) (bodies SPAS (f ∷ fs)))) (rw spas-same (each-within (Stands keys) (within-spas (f ∷ fs)) all));
       }

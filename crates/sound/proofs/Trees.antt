@@ -21,7 +21,7 @@ use Rattle.forest.specs.Edit.{count, put, behind, cut, alter, edit}
 use Rattle.sequence.specs.Keyed.{Each}
 use Rattle.sequence.proofs.Tests.{by-bool, refused}
 use Rattle.sound.specs.Sound.{Ranged, r-nil, r-tree}
-use Rattle.sound.proofs.Lists.{each-join}
+use Rattle.sound.proofs.Lists.{each-join, each-parts}
 
 -- ---- acts
 
@@ -137,12 +137,6 @@ edit-ranged f us g a fr e = edit-gives us false f a fr g e
 -- a tuple that can be written
 abbrev pub GoodTuple : Tup → Type 0
 GoodTuple t = Good (t .natc) (t .atvl)
-
--- each of two lists joined
-each-parts : {A : Type 0} (P : A → Type 0) (a b : List A) → Each P (a ++ b) → Each P a × Each P b
-unfolding Each
-each-parts P [] b e = (tt, e)
-each-parts P (x ∷ a) b e = let (p, q) = each-parts P a b (e .1) in ((e .0, p), q)
 
 -- a tree whose tuples can
 pub tuples-ranged : (seen : List ℕ) (p k : ℕ) (f : Forest) → Each GoodTuple (tuplesFrom seen p k f) → Ranged f
