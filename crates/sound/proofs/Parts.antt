@@ -63,12 +63,12 @@ abbrev At : Kind → ℕ → List ℕ → Type 0
 At k t b = Stood true k (fieldAs t b)
 
 -- no ATTR, no attributes
-attr-nothing : attrTree [] ≡ ok nil
+pub attr-nothing : attrTree [] ≡ ok nil
 unfolding attrTree many tuplesOf tuplesFrom each
 attr-nothing = ap (λ (g : Got (List Val)). treeOf (each tupOf (g .items))) (tuples-end (tupleOf AttrNew) [] (omega arith)) ∙ tree-complete nil p-nil
 
 -- a tree that stands
-standing-ok : (b : List ℕ) (f : Forest) → attrTree b ≡ ok f → standing (attrTree b) ≡ f
+pub standing-ok : (b : List ℕ) (f : Forest) → attrTree b ≡ ok f → standing (attrTree b) ≡ f
 unfolding standing
 standing-ok b f e = rw e
 

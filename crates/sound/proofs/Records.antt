@@ -84,7 +84,7 @@ either-inv false b e h = absurd-of h
 -- ---- the identifier
 
 -- the wider format of an identifier
-ident-wider : (k : Kind) → wider (identFormat true k) ≡ identFormat false k
+pub ident-wider : (k : Kind) → wider (identFormat true k) ≡ identFormat false k
 unfolding identFormat
 ident-wider Info = refl
 ident-wider Point = refl
