@@ -9,3 +9,5 @@ pub mod Bodies
 pub mod Again
 pub mod Fields
 pub mod Order
+pub mod Record
+pub mod Dataset

@@ -173,13 +173,13 @@ merged-stands old new e f =
 -- ---- it can be carried
 
 -- tags that fit, one by one
-fits-each : (fs : List Field) → TagsFit fs → Each (λ f. TagFits (f .tag)) fs
+pub fits-each : (fs : List Field) → TagsFit fs → Each (λ f. TagFits (f .tag)) fs
 unfolding Each
 fits-each [] e = tt
 fits-each (f ∷ fs) e = (e .0, fits-each fs (e .1))
 
 -- and together
-each-fits : (fs : List Field) → Each (λ f. TagFits (f .tag)) fs → TagsFit fs
+pub each-fits : (fs : List Field) → Each (λ f. TagFits (f .tag)) fs → TagsFit fs
 unfolding Each
 each-fits [] e = tt
 each-fits (f ∷ fs) e = (e .0, each-fits fs (e .1))
