@@ -1,17 +1,16 @@
 -- Demand 3: displays that take a publisher's files from a cable. Assumes of reading and writing what `RoundTrip` says, and nothing else.
-use Prim.Native.Nat.{ℕ, suc, _+_, _-_, _≤_}
+use Prim.Native.Nat.{ℕ, suc, _+_, _-_}
 use mathlib.Core.Path.{_≡_, refl, sym, ap, subst, _∙_}
-use mathlib.Core.Logic.{_↔_, _⊎_, inl, inr}
+use mathlib.Core.Logic.{_⊎_, inl, inr}
 use mathlib.Core.Option.{Option, some}
 use mathlib.Core.List.{List, [], _∷_}
 use native.Mathlib.Omega.{arith}
-use lib.ListN.{length}
 use Rattle.fields.specs.Valid.{Bytes}
 use Rattle.rules.specs.General.{numberOf}
 use Rattle.rules.specs.Written.{Dataset, writtenBytes, count}
 use Rattle.rules.specs.Outcome.{Outcome, done, refused}
 use Rattle.rules.specs.File.{readDataset, writable}
-use Rattle.rules.specs.Answers.{notTooLong, write}
+use Rattle.rules.specs.Answers.{notTooLong}
 use Rattle.rules.proofs.OutcomeLaws.{done-inj}
 use Rattle.sequence.proofs.Tests.{never, some-inj}
 use Rattle.updates.specs.Accepted.{Accepted}
@@ -19,6 +18,7 @@ use Rattle.updates.proofs.Accepted.{accepted as is-accepted}
 use Rattle.updates.proofs.Kept.{result-writable}
 use Rattle.displays.specs.Display.{Handed, taken, after, shown, numberRead, numberShown, numberSent, bears, updatedBy, ruled}
 use Rattle.displays.specs.Publisher.{Publisher, accepted, next, start, first, Genuine, Cable, inOrder}
+use Rattle.displays.specs.Demand.{chart, InStep, HasRoom, MovedOn, Demand3}
 use Rattle.displays.specs.RoundTrip.{Came, came-read, came-updated, RoundTrip}
 use Rattle.displays.proofs.Room.{answer-done, takes, Turn, stays, moves, turn}
 use Rattle.displays.proofs.Form.{short-file, written-as, gives-back}
@@ -136,70 +136,54 @@ module _ (T : RoundTrip) (P : Publisher) where
   walked c (h ∷ hs) t r = walked (after c h) hs (t .1) (stepped c h (t .0) r)
 
   -- the chart of a display of this publisher
-  displayed : (hs : List Handed) → Cable P hs → Right (shown (start P) hs)
+  displayed : (hs : List Handed) → Cable P hs → Right (chart P hs)
   displayed hs t = walked (start P) hs t started
 
-  -- (i) after every list of files a display holds exactly the written result of the updates after the dataset, up to its own number, in order
-  pub holds : (hs : List Handed) → Cable P hs
-      → (first P ≤ numberShown (shown (start P) hs))
-      × ((r : Dataset) × (inOrder P (numberShown (shown (start P) hs) - first P) ≡ some r) × (shown (start P) hs ≡ writtenBytes r))
-  holds hs t =
-      let r = displayed hs t in
-      let e : numberShown (shown (start P) hs) - first P ≡ r .steps = omega (arith, r .counted) in
-      (omega (arith, r .counted), (r .dataset, rw e (r .right), r .form))
+  -- (i)
+  in-step : (hs : List Handed) → Cable P hs → InStep P (chart P hs)
+  in-step hs t =
+      let q = displayed hs t in
+      let e : numberShown (chart P hs) - first P ≡ q .steps = omega (arith, q .counted) in
+      record { result = q .dataset; reached = omega (arith, q .counted); made = rw e (q .right); written = q .form }
 
-  -- (ii) two displays hold equal bytes exactly when they show equal numbers
-  pub same-bytes : (hs ks : List Handed) → Cable P hs → Cable P ks
-      → (shown (start P) hs ≡ shown (start P) ks) ↔ (numberShown (shown (start P) hs) ≡ numberShown (shown (start P) ks))
-  same-bytes hs ks t u = (
-    λ e. ap numberShown e,
-    λ e. let x = (holds hs t) .1 in
-        let y = (holds ks u) .1 in
-        let z : some (x .0) ≡ some (y .0) = sym (x .1) ∙ ap (λ (n : ℕ). inOrder P (n - first P)) e ∙ y .1 in
-        x .2 ∙ ap writtenBytes (some-inj z) ∙ sym (y .2),
-  )
+  -- two charts in step that show one number
+  one-chart : (b c : List ℕ) → InStep P b → InStep P c → numberShown b ≡ numberShown c → b ≡ c
+  one-chart b c x y e =
+      let z : some (x .result) ≡ some (y .result) = sym (x .made) ∙ ap (λ (n : ℕ). inOrder P (n - first P)) e ∙ y .made in
+      x .written ∙ ap writtenBytes (some-inj z) ∙ sym (y .written)
 
   -- ---- the next file
 
   -- a chart that is right, and a file that the rules accept, with room for the result
-  moves-right : (c : List ℕ) (h : Handed) (r : Dataset) → Right c → ruled c (h .file) ≡ done r → length (writtenBytes r) ≤ h .room → 400000 ≤ h .work
-      → (after c h ≡ writtenBytes r) × (numberShown (after c h) ≡ numberShown c + 1)
+  moves-right : (c : List ℕ) (h : Handed) (r : Dataset) → Right c → ruled c (h .file) ≡ done r → HasRoom h r → MovedOn c h r
   unfolding after
-  moves-right c h r t e l w =
-      let z : after c h ≡ writtenBytes r = ap (taken c) (answer-done (h .room) (h .work) c (h .file) r e l w) ∙ takes c (h .room) _ in
-      (z, ap numberShown z ∙ moved-number c (h .file) r (h .isBytes) t (ruled-inv c (h .file) r e))
+  moves-right c h r t e m =
+      let z : after c h ≡ writtenBytes r = ap (taken c) (answer-done (h .room) (h .work) c (h .file) r e (m .slice) (m .workspace)) ∙ takes c (h .room) _ in
+      record { holds = z; by-one = ap numberShown z ∙ moved-number c (h .file) r (h .isBytes) t (ruled-inv c (h .file) r e) }
 
-  -- (iii) handed a file for which no number but 13 or 15 is due, with room for the result, a display holds the result and moves on by one
-  pub moves-on : (hs : List Handed) → Cable P hs → (h : Handed) (r : Dataset) → ruled (shown (start P) hs) (h .file) ≡ done r
-      → length (writtenBytes r) ≤ h .room → 400000 ≤ h .work
-      → (after (shown (start P) hs) h ≡ writtenBytes r) × (numberShown (after (shown (start P) hs) h) ≡ numberShown (shown (start P) hs) + 1)
-  moves-on hs t h r e l w = moves-right (shown (start P) hs) h r (displayed hs t) e l w
-
-  -- the same by the publisher's files alone: handed the one with the next number, where the updates in order go on by it
-  pub onward : (hs : List Handed) → Cable P hs → (h : Handed) (r : Dataset)
-      → P .issued (numberShown (shown (start P) hs) + 1) ≡ some (h .file) → inOrder P (suc (numberShown (shown (start P) hs) - first P)) ≡ some r
-      → length (writtenBytes r) ≤ h .room → 400000 ≤ h .work
-      → (after (shown (start P) hs) h ≡ writtenBytes r) × (numberShown (after (shown (start P) hs) h) ≡ numberShown (shown (start P) hs) + 1)
-  onward hs t h r i o l w =
-      let c = shown (start P) hs in
-      let q = displayed hs t in
+  -- a chart that is right, and the file that was issued next
+  goes-on : (c : List ℕ) (h : Handed) (r : Dataset) → Right c → P .issued (numberShown c + 1) ≡ some (h .file) → inOrder P (suc (numberShown c - first P)) ≡ some r
+      → HasRoom h r → MovedOn c h r
+  goes-on c h r q i o m =
       let a : numberShown c + 1 ≡ first P + suc (q .steps) = omega (arith, q .counted) in
       let b : numberShown c - first P ≡ q .steps = omega (arith, q .counted) in
       let u : updatedBy (q .dataset) (h .file) ≡ done r = next-inv P (q .steps) (q .dataset) r (h .file) (q .right) (rw a at i) (rw b at o) in
-      moves-right c h r q (by-ruled c (h .file) (q .dataset) r (q .isShort) (q .isRead) (q .isWritable) u) l w
+      moves-right c h r q (by-ruled c (h .file) (q .dataset) r (q .isShort) (q .isRead) (q .isWritable) u) m
 
-  -- a file moves a display by one or leaves its chart
-  pub by-one : (hs : List Handed) → Cable P hs → (h : Handed)
-      → (after (shown (start P) hs) h ≡ shown (start P) hs) ⊎ (numberShown (after (shown (start P) hs) h) ≡ numberShown (shown (start P) hs) + 1)
-  by-one hs t h = go (turn (shown (start P) hs) h)
-    where
-      go : Turn (shown (start P) hs) h → (after (shown (start P) hs) h ≡ shown (start P) hs) ⊎ (numberShown (after (shown (start P) hs) h) ≡ numberShown (shown (start P) hs) + 1)
-      go (stays e) = inl e
-      go (moves r e z) = inr (ap numberShown z ∙ moved-number (shown (start P) hs) (h .file) r (h .isBytes) (displayed hs t) (ruled-inv _ (h .file) r e))
+  -- a chart that is right, and any file
+  by-turn : (c : List ℕ) (h : Handed) → Right c → Turn c h → (after c h ≡ c) ⊎ (numberShown (after c h) ≡ numberShown c + 1)
+  by-turn c h t (stays e) = inl e
+  by-turn c h t (moves r e z) = inr (ap numberShown z ∙ moved-number c (h .file) r (h .isBytes) t (ruled-inv c (h .file) r e))
 
-  -- a chart is in the written form: the writer answers 0 and gives it back
-  pub written-form : (hs : List Handed) → Cable P hs → (room : ℕ) → length (shown (start P) hs) ≤ room
-      → ((write (shown (start P) hs) room) .answer .number ≡ 0) × (taken [] (write (shown (start P) hs) room) ≡ shown (start P) hs)
-  written-form hs t room l =
-      let q = displayed hs t in
-      gives-back room (shown (start P) hs) (count (q .dataset)) (written-as room (shown (start P) hs) (q .dataset) (q .form) l (q .isShort) (q .isRead) (q .isWritable))
+  -- demand 3, of every publisher
+  pub demand3 : Demand3 P
+  demand3 =
+      record {
+        in-step = in-step;
+        alike = λ hs ks t u. (λ e. ap numberShown e, λ e. one-chart (chart P hs) (chart P ks) (in-step hs t) (in-step ks u) e);
+        moves-on = λ hs t h r e m. moves-right (chart P hs) h r (displayed hs t) e m;
+        onward = λ hs t h r i o m. goes-on (chart P hs) h r (displayed hs t) i o m;
+        stays = λ hs t h. by-turn (chart P hs) h (displayed hs t) (turn (chart P hs) h);
+        written-form = λ hs t room l. let q = displayed hs t in
+            gives-back room (chart P hs) (count (q .dataset)) (written-as room (chart P hs) (q .dataset) (q .form) l (q .isShort) (q .isRead) (q .isWritable));
+      }

@@ -3,3 +3,4 @@ pub mod Ruled
 pub mod Form
 pub mod Demand
 pub mod Own
+pub mod Sample

@@ -1,14 +1,13 @@
 -- Room decides 13 and 15 and nothing else. Assumes nothing.
 use Prim.Native.Nat.{ℕ, _-_, _≤_, _<_}
 use mathlib.Core.Path.{_≡_, refl, sym, ap, _∙_}
-use mathlib.Core.Bool.{true, false}
+use mathlib.Core.Bool.{Bool, true, false}
 use mathlib.Core.List.{List}
 use native.Mathlib.Omega.{arith}
 use borrow.Author.Tests.{lt-ltb, le-ltb}
 use lib.ListN.{length, replicate}
 use lib.Seq.{take-append-seam}
 use lib.Dec.{eqb, ltb}
-use Rattle.base.specs.Choice.{pick}
 use Rattle.base.specs.Check.{fault}
 use Rattle.base.specs.declared.Fault.{Fault}
 use Rattle.rules.specs.Written.{Dataset, writtenBytes, count}
@@ -19,18 +18,15 @@ use Rattle.rules.specs.Answers.{refusal, success, Written, notTooLong, roomFor,
 use Rattle.rules.proofs.OutcomeLaws.{andThen-assoc}
 use Rattle.numbers.specs.Fair.{fair, FairOutcome, fair-done, fair-refused}
 use Rattle.numbers.proofs.Checks.{fair-then}
+use Rattle.numbers.proofs.Answers.{not-zero}
 use Rattle.numbers.proofs.Files.{fair-read, fair-sent, fair-writable, fair-length, fair-updated}
 use Rattle.sequence.proofs.Tests.{by-bool}
 use Rattle.updates.proofs.Streams.{alike}
-use Rattle.displays.specs.Display.{Handed, taken, after, ruled}
-
--- a result in an output slice of so many bytes: 13, or what is written
-unfoldable pub inRoom : ℕ → Dataset → Outcome Written
-inRoom room r = pick (ltb room (length (writtenBytes r))) (refused 3 0 (fault 13 0 0)) (done (record { bytes = writtenBytes r; records = count r }))
+use Rattle.displays.specs.Display.{Handed, taken, after, ruled, inRoom, roomed}
 
 -- the updater: 15, then what the rules alone say, then 13
-pub room-decides : (room work : ℕ) (c f : List ℕ) → updateOutcome room work c f ≡ andThen (enoughWork work) (λ _. andThen (ruled c f) (λ r. inRoom room r))
-unfolding updateOutcome ruled roomFor inRoom andThen
+pub room-decides : (room work : ℕ) (c f : List ℕ) → updateOutcome room work c f ≡ roomed room work c f
+unfolding updateOutcome roomed ruled roomFor inRoom andThen
 room-decides room work c f =
     alike (enoughWork work) _ _ (λ _ _.
     alike (notTooLong 1 c) _ _ (λ _ _.
@@ -64,25 +60,34 @@ module _ (room work : ℕ) (c f : List ℕ) where
   -- with room for the result, the result and nothing else
   pub answer-done : (r : Dataset) → ruled c f ≡ done r → length (writtenBytes r) ≤ room → 400000 ≤ work
       → update c f room work ≡ outputOf room (done (record { bytes = writtenBytes r; records = count r }))
-  unfolding update enoughWork inRoom andThen
+  unfolding update roomed enoughWork inRoom andThen
   answer-done r e h g = ap (outputOf room) (room-decides room work c f ∙ rw (le-ltb work 400000 g, e, le-ltb room (length (writtenBytes r)) h))
 
   -- without room for it, 13
   pub answer-13 : (r : Dataset) → ruled c f ≡ done r → room < length (writtenBytes r) → 400000 ≤ work → update c f room work ≡ outputOf room (refused 3 0 (fault 13 0 0))
-  unfolding update enoughWork inRoom andThen
+  unfolding update roomed enoughWork inRoom andThen
   answer-13 r e h g = ap (outputOf room) (room-decides room work c f ∙ rw (le-ltb work 400000 g, e, lt-ltb room (length (writtenBytes r)) h))
 
   -- what the rules refuse is refused so in any room
   pub answer-refused : (file n : ℕ) (x : Fault) → ruled c f ≡ refused file n x → 400000 ≤ work → update c f room work ≡ outputOf room (refused file n x)
-  unfolding update enoughWork andThen
+  unfolding update roomed enoughWork andThen
   answer-refused file n x e g = ap (outputOf room) (room-decides room work c f ∙ rw (le-ltb work 400000 g, e))
 
--- ---- what a display makes of them
+  -- a number that is not fair, 0, 13 or 15, from a workspace that is long enough: the rules alone accept
+  pub no-other : 400000 ≤ work → fair (((update c f room work) .answer) .number) ≡ false → (r : Dataset) × (ruled c f ≡ done r)
+  no-other g e = go (ruled c f) refl (ruled-fair c f)
+    where
+      clash : {b : Bool} → b ≡ true → b ≡ false → ⊥
+      clash x y = let z : _≡_ {A = ℕ} 0 1 = cc in omega arith
 
--- a fair number is not 0
-not-zero : (n : ℕ) → fair n ≡ true → eqb n 0 ≡ false
-unfolding fair
-not-zero n e = by-bool (eqb n 0) (λ h. absurd (let y = rw h at e in let z : _≡_ {A = ℕ} 0 1 = cc in omega arith)) (λ h. h)
+      number-of : (file n : ℕ) (y : Fault) → ruled c f ≡ refused file n y → y .number ≡ ((update c f room work) .answer) .number
+      number-of file n y x = unfold outputOf refusal in rw (answer-refused file n y x g)
+
+      go : (m : Outcome Dataset) → ruled c f ≡ m → FairOutcome m → (r : Dataset) × (ruled c f ≡ done r)
+      go (done r) x p = (r, x)
+      go (refused file n y) x (fair-refused q) = absurd (clash q (ap fair (number-of file n y x) ∙ e))
+
+-- ---- what a display makes of them
 
 -- it keeps its chart on a refusal
 keeps : (c : List ℕ) (room file n : ℕ) (x : Fault) → eqb (x .number) 0 ≡ false → taken c (outputOf room (refused file n x)) ≡ c
@@ -101,7 +106,7 @@ pub data Turn (c : List ℕ) (h : Handed) : Type 0 where
 
 -- by what the rules say
 turn-by : (c : List ℕ) (h : Handed) (m : Outcome Dataset) → ruled c (h .file) ≡ m → FairOutcome m → Turn c h
-unfolding after update inRoom enoughWork andThen
+unfolding after update roomed inRoom enoughWork andThen
 turn-by c h m e p =
     by-bool (ltb (h .work) 400000)
     (λ l. stays (ap (λ (o : Outcome Written). taken c (outputOf (h .room) o)) (room-decides (h .room) (h .work) c (h .file) ∙ rw l) ∙ keeps c (h .room) 0 0 (fault 15 0 0) refl))
@@ -115,5 +120,6 @@ turn-by c h m e p =
         (λ l. stays (k (done r) e ∙ rw l (keeps c (h .room) 3 0 (fault 13 0 0) refl)))
         (λ l. moves r e (k (done r) e ∙ rw l (takes c (h .room) _)))
 
+-- any file
 pub turn : (c : List ℕ) (h : Handed) → Turn c h
 turn c h = turn-by c h (ruled c (h .file)) refl (ruled-fair c (h .file))

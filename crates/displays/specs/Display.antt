@@ -2,16 +2,17 @@
 use Prim.Native.Nat.{ℕ}
 use mathlib.Core.Option.{Option, some, none}
 use mathlib.Core.List.{List, [], _∷_}
-use lib.ListN.{take}
-use lib.Dec.{eqb}
+use lib.ListN.{length, take}
+use lib.Dec.{eqb, ltb}
 use Rattle.base.specs.Choice.{pick}
+use Rattle.base.specs.Check.{fault}
 use Rattle.fields.specs.Valid.{Bytes}
 use Rattle.rules.specs.General.{numberOf}
-use Rattle.rules.specs.Written.{Dataset, writtenBytes}
+use Rattle.rules.specs.Written.{Dataset, writtenBytes, count}
 use Rattle.rules.specs.Outcome.{Outcome, done, refused, andThen}
 use Rattle.rules.specs.File.{readDataset, writable, Sent, readUpdate}
 use Rattle.rules.specs.Update.{updated}
-use Rattle.rules.specs.Answers.{Output, notTooLong, update}
+use Rattle.rules.specs.Answers.{Output, Written, notTooLong, enoughWork, update}
 
 -- ---- what a display does
 
@@ -75,3 +76,13 @@ ruled chart file =
     andThen (readUpdate file) (λ u.
     andThen (updated w u) (λ r.
     andThen (notTooLong 3 (writtenBytes r)) (λ _. done r)))))))
+
+-- ---- and with room
+
+-- a result in an output slice of so many bytes: 13, or what is written
+unfoldable pub inRoom : ℕ → Dataset → Outcome Written
+inRoom room r = pick (ltb room (length (writtenBytes r))) (refused 3 0 (fault 13 0 0)) (done (record { bytes = writtenBytes r; records = count r }))
+
+-- first 15, then what the rules alone say, then 13: that is all that room decides
+unfoldable pub roomed : ℕ → ℕ → List ℕ → List ℕ → Outcome Written
+roomed room work chart file = andThen (enoughWork work) (λ _. andThen (ruled chart file) (λ r. inRoom room r))

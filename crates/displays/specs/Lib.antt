@@ -1,3 +1,4 @@
 pub mod Display
 pub mod Publisher
+pub mod Demand
 pub mod RoundTrip

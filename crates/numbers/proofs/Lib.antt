@@ -4,3 +4,4 @@ pub mod Endings
 pub mod Records
 pub mod Changes
 pub mod Files
+pub mod Answers

@@ -5,3 +5,4 @@ pub mod Refusal
 pub mod Result
 pub mod Gather
 pub mod Stream
+pub mod Arms

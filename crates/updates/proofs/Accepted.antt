@@ -5,7 +5,7 @@ use mathlib.Core.Bool.{Bool, true, false}
 use mathlib.Core.Option.{Option, some, none}
 use mathlib.Core.List.{List, [], _∷_}
 use native.Mathlib.Omega.{arith}
-use Rattle.base.specs.Choice.{both, either}
+use Rattle.base.specs.Choice.{both}
 use Rattle.base.specs.Check.{Check, ok, pass}
 use Rattle.base.specs.Lists.{each}
 use Rattle.base.specs.Keys.{same}
@@ -23,7 +23,7 @@ use Rattle.rules.proofs.OutcomeLaws.{andThen-inv, at-inv, done-inj}
 use Rattle.rules.proofs.Follows.{number8-inv, general-inv, raises}
 use Rattle.sequence.specs.History.{history, version}
 use Rattle.sequence.specs.Order.{keep, isDelete, deleted}
-use Rattle.sequence.proofs.Tests.{by-bool, refused}
+use Rattle.sequence.proofs.Tests.{by-bool, neither, refused}
 use Rattle.updates.specs.Acts.{kindIn, actOf, doneBy, changedBy, chart}
 use Rattle.updates.specs.Accepted.{rverOf, times, Accepted}
 use Rattle.updates.proofs.Acted.{Acted, acted-insert, acted-delete, acted-modify, acted, acted-new}
@@ -33,11 +33,6 @@ use Rattle.updates.proofs.Streams.{resultOf}
 use Rattle.updates.proofs.Results.{read-sorted, steps-sorted, steps-version, steps-stream, steps-count, steps-untouched}
 
 -- ---- RVER
-
--- neither of two tests holds
-neither : (a b : Bool) → either a b ≡ false → (a ≡ false) × (b ≡ false)
-neither true b e = absurd (let z : _≡_ {A = ℕ} 0 1 = cc in omega arith)
-neither false b e = (refl, e)
 
 -- an update record of kind k that is no delete leaves a record, with an RVER one more than it found
 stays : (k : Kind) (fs : List Field) (o p : Option Rec) → isDelete (doneBy (some k) fs) ≡ false → Acted k fs o p → (s : Rec) × (p ≡ some s) × (s .rver ≡ rverOf o + 1)
@@ -89,6 +84,7 @@ parted-as : (d : Dataset) (u : Sent) (r : Dataset) (g : List Field) (rs : List R
 parted-as d u r g rs a b c e =
     rw (← e) (record { general = a; stepped = b; referred = c; descriptive = refl; systems = refl })
 
+-- every accepted update has them
 pub parted : (d : Dataset) (u : Sent) (r : Dataset) → updated d u ≡ done r → Parted d u r
 unfolding updated
 parted d u r e =

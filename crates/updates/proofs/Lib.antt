@@ -1,8 +1,10 @@
 pub mod Acted
 pub mod Steps
 pub mod Read
+pub mod ReadEach
 pub mod ReadOrdered
 pub mod Results
 pub mod Streams
+pub mod Lengths
 pub mod Accepted
 pub mod Kept

@@ -48,6 +48,7 @@ pub record IsRead (f : List ℕ) (d : Dataset) : Type 0 where
 walk-as : {A : Type 0} (g : Got A) → g .ending ≡ 0 → g ≡ record { items = g .items; ending = 0 }
 walk-as g e = λ i. record { items = g .items; ending = e i }
 
+-- every dataset that is read did
 pub is-read : (f : List ℕ) (d : Dataset) → readDataset f ≡ done d → IsRead f d
 unfolding readDataset datasetOf taken
 is-read f d e =
@@ -102,6 +103,7 @@ through-none n seen (fs ∷ rest) recs e =
     let y : later ≡ [] = through-none (n + 1) (new ++ seen) rest later c in
     none-and-none new later recs x y (done-inj (new ++ later) recs d)
 
+-- every update that is read did
 pub is-sent : (f : List ℕ) (u : Sent) → readUpdate f ≡ done u → IsSent f u
 unfolding readUpdate updateOf taken
 is-sent f u e =

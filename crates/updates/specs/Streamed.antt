@@ -12,7 +12,7 @@ use Rattle.skeleton.specs.File.{Field}
 use Rattle.skeleton.specs.Emit.{emit}
 use Rattle.rules.specs.Associations.{Mark, marks}
 use Rattle.rules.specs.Record.{Rec}
-use Rattle.rules.specs.Written.{Dataset, writtenFields, fieldWidth}
+use Rattle.rules.specs.Written.{Dataset, writtenFields, fieldWidth, writtenLength}
 use Rattle.rules.specs.Outcome.{Outcome, done, refused, andThen, at, everyRecord}
 use Rattle.rules.specs.File.{Sent, readDataset, writable, readUpdate}
 use Rattle.rules.specs.Update.{general}
@@ -66,6 +66,34 @@ joinedBytes q (u ∷ us) = gather recordBytes (joinedOf chart q u us) ++ joinedB
 -- all of the result's
 unfoldable pub resultBytes : Dataset → List Field → List (List Field) → List ℕ
 resultBytes d g us = headBytes d g ++ gather (λ q. keptBytes q us (d .records) ++ joinedBytes q us) kinds
+
+-- ---- lengths
+
+-- what f gives for each, in all
+unfoldable pub total : {A : Type 0} → (A → ℕ) → List A → ℕ
+total f [] = 0
+total f (x ∷ xs) = f x + total f xs
+
+-- how long a record is written
+unfoldable pub recordLength : Rec → ℕ
+recordLength r = writtenLength (writtenFields r)
+
+-- the first three records of a result with this general record
+unfoldable pub headLength : Dataset → List Field → ℕ
+headLength d g = writtenLength (d .descriptive) + (writtenLength g + writtenLength (d .systems))
+
+-- the old records of kind q that stay
+unfoldable pub keptLength : ℕ → List (List Field) → List Rec → ℕ
+keptLength q us ds = total (λ r. total recordLength (keptOf chart q us r)) ds
+
+-- the inserted records of kind q that stay
+unfoldable pub joinedLength : ℕ → List (List Field) → ℕ
+joinedLength q [] = 0
+joinedLength q (u ∷ us) = total recordLength (joinedOf chart q u us) + joinedLength q us
+
+-- all of the result
+unfoldable pub resultLength : Dataset → List Field → List (List Field) → ℕ
+resultLength d g us = headLength d g + total (λ q. keptLength q us (d .records) + joinedLength q us) kinds
 
 -- ---- the update
 
