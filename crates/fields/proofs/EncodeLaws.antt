@@ -1,31 +1,28 @@
 -- Read, then written: over every head and tuple, what is read is written again as it was, and it can be written. Assumes nothing.
-use Prim.Native.Nat.{ℕ, zero, suc, _+_, _*_, _-_, _/_, _%_, _^_, _≤_, _<_, zero-le, suc-le-suc}
+use Prim.Native.Nat.{ℕ, suc, _^_, _≤_, _<_}
 use mathlib.Core.Path.{_≡_, refl, sym, ap, ap₂, _∙_}
-use mathlib.Core.Bool.{Bool, true, false, true≢false}
-use mathlib.Core.Option.{Option, none, some}
-use mathlib.Core.List.{List, [], _∷_, _++_, append-assoc, append-nil}
-use native.Mathlib.Nat.{not-suc-le-zero, le-of-suc-le-suc, pow-suc, div-lt-iff-lt-mul}
+use mathlib.Core.Bool.{Bool, true, false}
+use mathlib.Core.Option.{none, some}
+use mathlib.Core.List.{List, [], _∷_, _++_, append-nil}
 use native.Mathlib.Omega.{arith}
-use lib.ListN.{length, getD, take, drop, length-append, length-take, length-drop, take-append-drop}
+use lib.ListN.{length, getD, take, drop, take-append-drop}
 use lib.Seq.{take-suc, take-add, length-take-le}
-use lib.Dec.{ltb, eqb, lit<}
-use borrow.Author.Tests.{eq-eqb, le-leb, lt-ltb, ltb-true, eqb-true}
+use borrow.Author.Tests.{eq-eqb, lt-ltb, eqb-true}
 use Rattle.base.specs.Choice.{pick, both}
 use Rattle.base.specs.Lists.{gather}
-use Rattle.base.specs.Walk.{Got, before}
-use Rattle.base.proofs.ChoiceLaws.{both-hold}
-use Rattle.fields.specs.Bytes.{sep, le, bytes, run, clean}
-use Rattle.fields.specs.Sizes.{numSize, textSize, fixedSize, size, sizes, amount}
-use Rattle.fields.specs.Values.{Val, num, txt, value, values, width, mark, put, puts, putAll}
+use Rattle.base.specs.Walk.{Got}
+use Rattle.fields.specs.Bytes.{le, run}
+use Rattle.fields.specs.Sizes.{textSize, size, sizes, amount}
+use Rattle.fields.specs.Values.{Val, value, values, width, mark, put, puts, putAll}
 use Rattle.fields.specs.Content.{Content, tuples, many, fill, content, decode, encode}
 use Rattle.fields.specs.Valid.{Bytes, allows, takesText, passes, passAll, passEach, valid}
 use Rattle.fields.specs.Places.{endingAt}
 use Rattle.fields.specs.declared.Sub.{Sub}
 use Rattle.fields.specs.declared.Sub.the-variants.{B11, B12, B14, Among, Raw, Text, Fixed}
 use Rattle.fields.proofs.ByteLaws.{bytes-drop, bytes-le, le-bound, clean-take, run-le}
-use Rattle.fields.proofs.SizeLaws.{isNum, num-size, num-some, text-some, fixed-some, some-inj, size-bound, sizes-cons, sizes-bound}
-use Rattle.fields.proofs.TupleLaws.{no-bytes, First, tuples-end, tuples-on, tuples-ind}
-use Rattle.fields.proofs.FieldLaws.{filled, fills}
+use Rattle.fields.proofs.SizeLaws.{isNum, num-size, num-some, text-some, fixed-some, some-inj, sizes-cons, sizes-bound}
+use Rattle.fields.proofs.TupleLaws.{no-bytes, First, tuples-end, tuples-ind}
+use Rattle.fields.proofs.FieldLaws.{filled}
 use Rattle.fields.proofs.ValueLaws.{num-value, values-first}
 
 -- ---- written again

@@ -56,7 +56,8 @@ module _ (t : List Sub) (even : allNum t ≡ true) where
       base : (l : List ℕ) → length l ≤ 0 → length l ≡ widths t * length (many t l)
       base l h = rw (none l h, mul-zero) (omega arith)
 
-      turn : (l : List ℕ) → 0 < length l → (f : First t l) → length (drop (f .bytes) l) ≡ widths t * length (many t (drop (f .bytes) l)) → length l ≡ widths t * length (many t l)
+      turn : (l : List ℕ) → 0 < length l → (f : First t l) → length (drop (f .bytes) l) ≡ widths t * length (many t (drop (f .bytes) l))
+          → length l ≡ widths t * length (many t l)
       turn l h f ih =
           rw (first-many l f, mul-suc) (omega (arith, ih, first-width l f, first-bytes l f, length-drop (f .bytes) l))
 

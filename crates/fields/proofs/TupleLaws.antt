@@ -23,6 +23,7 @@ use Rattle.fields.specs.Content.{tupleStep, tuples, many}
 use Rattle.fields.specs.Places.{after, subfieldsEnd, endingAt, tupleAt}
 use Rattle.fields.specs.declared.Sub.{Sub}
 use Rattle.fields.specs.declared.Stop.the-variants.{At, Bad}
+use Rattle.fields.specs.declared.Tuple.{Tuple}
 use Rattle.fields.specs.declared.Tuple.the-variants.{Until, Over}
 use Rattle.fields.proofs.SizeLaws.{sizes-bound, after-at, after-bad}
 
@@ -196,15 +197,16 @@ tuple-there t b p h z =
       },
     )
 
--- a tuple that is found
-pub tuple-next : (t : List Sub) (b : List ℕ) (p n : ℕ) → endingAt t b p ≡ 0 → tupleAt t b p ≡ Until n → Next t b p n
-tuple-next t b p n z q =
-    split (length b) p (λ h. over-until (tuple-end t b p h ∙ q))
-    (λ h. let r = tuple-there t b p h z in let e : r .0 ≡ n = until-inj (sym (r .1) ∙ q) in rw e at (r .2))
+module _ (t : List Sub) (b : List ℕ) (p : ℕ) (r : Tuple) (got : r ≡ tupleAt t b p) (z : endingAt t b p ≡ 0) where
+  -- a tuple that is found
+  pub tuple-next : (n : ℕ) → r ≡ Until n → Next t b p n
+  tuple-next n q =
+      split (length b) p (λ h. over-until (tuple-end t b p h ∙ sym got ∙ q))
+      (λ h. let x = tuple-there t b p h z in let e : x .0 ≡ n = until-inj (sym (x .1) ∙ sym got ∙ q) in rw e at (x .2))
 
--- where none is found there is none
-pub tuple-over : (t : List Sub) (b : List ℕ) (p : ℕ) → endingAt t b p ≡ 0 → tupleAt t b p ≡ Over → (length b ≤ p) × (many t (drop p b) ≡ [])
-unfolding many
-tuple-over t b p z q =
-    split (length b) p (λ h. (h, ap (λ (g : Got (List Val)). g .items) (here-end t b p h)))
-    (λ h. let r = tuple-there t b p h z in over-until (sym q ∙ r .1))
+  -- where none is found there is none
+  pub tuple-over : r ≡ Over → (length b ≤ p) × (many t (drop p b) ≡ [])
+  unfolding many
+  tuple-over q =
+      split (length b) p (λ h. (h, ap (λ (g : Got (List Val)). g .items) (here-end t b p h)))
+      (λ h. let x = tuple-there t b p h z in over-until (sym q ∙ got ∙ x .1))

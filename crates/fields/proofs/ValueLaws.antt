@@ -21,6 +21,7 @@ use Rattle.fields.specs.Content.{fill}
 use Rattle.fields.specs.Places.{subfieldEnd, subfieldsEnd, headPlace}
 use Rattle.fields.specs.declared.Sub.{Sub}
 use Rattle.fields.specs.declared.Sub.the-variants.{B11, B12, B14, Among, Raw, Text, Fixed}
+use Rattle.fields.specs.declared.Stop.{Stop}
 use Rattle.fields.specs.declared.Stop.the-variants.{At, Bad}
 use Rattle.fields.proofs.SizeLaws.{isNum, some-inj, num-size, num-some, text-some, size-bound, sizes-cons, at-inj, end-nil, end-cons}
 use Rattle.fields.proofs.TupleLaws.{Next}
@@ -71,6 +72,9 @@ num-value (Fixed n) l i = absurd (true≢false (sym i))
 num-takes : (d : Sub) (l : List ℕ) (m : ℕ) → isNum d ≡ true → size d l ≡ some m → width d ≡ m
 num-takes d l m i e = num-some (width d) (allows d) l m (sym (num-size d l i) ∙ e) .0
 
+num-allowed : (d : Sub) (l : List ℕ) (m : ℕ) → isNum d ≡ true → size d l ≡ some m → allows d (numOf (value d l)) ≡ true
+num-allowed d l m i e = rw (num-value d l i) (num-some (width d) (allows d) l m (sym (num-size d l i) ∙ e) .2)
+
 text-takes : (d : Sub) (l : List ℕ) (m : ℕ) → isText d ≡ true → size d l ≡ some m → (run l + 1 ≡ m) × (value d l ≡ txt (take (run l) l))
 unfolding size value
 text-takes (B11 lo hi) l m i e = absurd (true≢false (sym i))
@@ -96,6 +100,7 @@ end-first d ds b at m e = end-cons d ds b at ∙ rw e
 pub record Stands (ds : List Sub) (j : ℕ) (b : List ℕ) (at n p : ℕ) : Type 0 where
   pub before : subfieldsEnd (take j ds) b at ≡ At p
   pub number : (w : ℕ) → isNumber ds j w ≡ true → (p + w ≤ length b) × (numAt (values ds (drop at b)) j ≡ le w (drop p b))
+  pub allowed : (w : ℕ) → isNumber ds j w ≡ true → allows (getD ds j Text) (numAt (values ds (drop at b)) j) ≡ true
   pub text : isTextAt ds j ≡ true → (p + run (drop p b) < length b) × (textAt (values ds (drop at b)) j ≡ take (run (drop p b)) (drop p b))
   pub last-text : isTextAt ds j ≡ true → length ds ≡ suc j → p + run (drop p b) + 1 ≡ at + n
   pub constant : (o : ℕ) → lies ds j o ≡ true → p ≡ at + o
@@ -119,6 +124,7 @@ module _ (d : Sub) (ds : List Sub) (b : List ℕ) (at m k n : ℕ) (g : at ≤ l
         let r = both-hold (isNum d) (eqb (width d) w) i in
         let v : width d ≡ w = eqb-true (width d) w (r .1) in
         (omega (arith, num-takes d (drop at b) m (r .0) e, in-bytes), ap numOf (num-value d (drop at b) (r .0)) ∙ ap (λ (x : ℕ). le x (drop at b)) v);
+    allowed = λ w i. num-allowed d (drop at b) m (both-hold (isNum d) (eqb (width d) w) i .0) e;
     text = λ i.
         let r = text-takes d (drop at b) m i e in
         (omega (arith, r .0, in-bytes), ap textOf (r .1));
@@ -137,6 +143,7 @@ module _ (d : Sub) (ds : List Sub) (b : List ℕ) (at m k n : ℕ) (g : at ≤ l
   later-stands j p r = record {
     before = end-first d (take j ds) b at m e ∙ r .before;
     number = λ w i. let v = r .number w i in (v .0, ap numOf (value-later j) ∙ v .1);
+    allowed = λ w i. ap (λ (v : Val). allows (getD ds j Text) (numOf v)) (value-later j) ∙ r .allowed w i;
     text = λ i. let v = r .text i in (v .0, ap textOf (value-later j) ∙ v .1);
     last-text = λ i h. omega (arith, r .last-text i (omega arith));
     constant = λ o i.
@@ -151,7 +158,9 @@ stands [] j b at n g e h = absurd (not-suc-le-zero h)
 stands (d ∷ ds) zero b at n g e h = let r = sizes-cons d ds (drop at b) n e in (at, first-stands d ds b at (r .0) (r .1) n g (r .2) (r .3) (r .4))
 stands (d ∷ ds) (suc j) b at n g e h =
     let r = sizes-cons d ds (drop at b) n e in
-    let ih = stands ds j b (at + r .0) (r .1) (in-bytes d ds b at (r .0) (r .1) n g (r .2) (r .3) (r .4)) (ap (sizes ds) (sym (drop-drop (r .0) at b)) ∙ r .3) (le-of-suc-le-suc h) in
+    let inside : at + r .0 ≤ length b = in-bytes d ds b at (r .0) (r .1) n g (r .2) (r .3) (r .4) in
+    let rest : sizes ds (drop (at + r .0) b) ≡ some (r .1) = ap (sizes ds) (sym (drop-drop (r .0) at b)) ∙ r .3 in
+    let ih = stands ds j b (at + r .0) (r .1) inside rest (le-of-suc-le-suc h) in
     (ih .0, later-stands d ds b at (r .0) (r .1) n g (r .2) (r .3) (r .4) j (ih .0) (ih .1))
 
 -- ---- in a head
@@ -177,23 +186,29 @@ module _ (h t : List Sub) (b : List ℕ) (e : fill h t b ≡ true) where
       let p : r .0 ≡ o = r .1 .constant o q ∙ zero-add o in
       rw p at (r .1 .number w i)
 
-  -- the walk to a subfield comes there
-  pub place-found : (j : ℕ) → j < length h → headPlace h j b ≡ Bad → ⊥
-  unfolding headPlace
-  place-found j g q = let r = head-stands j g in let z : _≡_ {A = ℕ} 0 1 = cc (r .1 .before) in omega arith
+  -- any number is within its range
+  pub head-allowed : (j w : ℕ) → isNumber h j w ≡ true → allows (getD h j Text) (numAt (values h b) j) ≡ true
+  head-allowed j w i = head-stands j (is-there h j w i) .1 .allowed w i
 
-  placed : (j p : ℕ) → j < length h → headPlace h j b ≡ At p → Stands h j b 0 (filled h t b e .bytes) p
-  unfolding headPlace
-  placed j p g q = let r = head-stands j g in let s : r .0 ≡ p = at-inj (sym (r .1 .before) ∙ q) in rw s at (r .1)
+  -- r, what the walk to subfield j gives
+  module _ (j : ℕ) (r : Stop) (got : r ≡ headPlace h j b) where
+    -- it comes there
+    pub place-found : j < length h → r ≡ Bad → ⊥
+    unfolding headPlace
+    place-found g q = let x = head-stands j g in let z : _≡_ {A = ℕ} 0 1 = cc (x .1 .before) in omega arith
 
-  -- a number there
-  pub placed-number : (j p w : ℕ) → isNumber h j w ≡ true → headPlace h j b ≡ At p → (p + w ≤ length b) × (numAt (values h b) j ≡ le w (drop p b))
-  placed-number j p w i q = placed j p (is-there h j w i) q .number w i
+    placed : (p : ℕ) → j < length h → r ≡ At p → Stands h j b 0 (filled h t b e .bytes) p
+    unfolding headPlace
+    placed p g q = let x = head-stands j g in let s : x .0 ≡ p = at-inj (sym (x .1 .before) ∙ sym got ∙ q) in rw s at (x .1)
 
-  -- a text there, which ends before the field does
-  pub placed-text : (j p : ℕ) → isTextAt h j ≡ true → headPlace h j b ≡ At p
-      → (p + run (drop p b) < length b) × (textAt (values h b) j ≡ take (run (drop p b)) (drop p b))
-  placed-text j p i q = placed j p (text-there h j i) q .text i
+    -- a number there
+    pub placed-number : (p w : ℕ) → isNumber h j w ≡ true → r ≡ At p → (p + w ≤ length b) × (numAt (values h b) j ≡ le w (drop p b))
+    placed-number p w i q = placed p (is-there h j w i) q .number w i
+
+    -- a text there, which ends before the field does
+    pub placed-text : (p : ℕ) → isTextAt h j ≡ true → r ≡ At p
+        → (p + run (drop p b) < length b) × (textAt (values h b) j ≡ take (run (drop p b)) (drop p b))
+    placed-text p i q = placed p (text-there h j i) q .text i
 
 -- ---- in a tuple from p to n
 
@@ -208,6 +223,10 @@ module _ (t : List Sub) (b : List ℕ) (p n : ℕ) (x : Next t b p n) where
       let r = tuple-stands j (is-there t j w i) in
       let s : r .0 ≡ p + o = r .1 .constant o q in
       rw s at (r .1 .number w i)
+
+  -- any number is within its range
+  pub tuple-allowed : (j w : ℕ) → isNumber t j w ≡ true → allows (getD t j Text) (numAt (values t (drop p b)) j) ≡ true
+  tuple-allowed j w i = tuple-stands j (is-there t j w i) .1 .allowed w i
 
   -- a text behind numbers alone, which is the last subfield: it ends one byte before the tuple
   pub tuple-text : (j o : ℕ) → isTextAt t j ≡ true → lies t j o ≡ true → length t ≡ suc j

@@ -1,6 +1,6 @@
 -- Formats with narrower ranges: what fills them fills the wider ones, with the same values. A dataset's formats take insert alone, an update's more.
 -- Assumes nothing.
-use Prim.Native.Nat.{ℕ, _+_, _≤_, _<_}
+use Prim.Native.Nat.{ℕ, _≤_, _<_}
 use mathlib.Core.Path.{_≡_, refl, sym, ap, ap₂, _∙_}
 use mathlib.Core.Bool.{Bool, true}
 use mathlib.Core.Option.{Option, some}
@@ -9,7 +9,6 @@ use native.Mathlib.Omega.{arith}
 use lib.ListN.{length, drop}
 use lib.Dec.{T, leb, lit≤}
 use borrow.Author.Tests.{le-leb, leb-true}
-use Rattle.base.specs.Choice.{both}
 use Rattle.base.specs.Walk.{Got, before}
 use Rattle.base.proofs.ChoiceLaws.{both-hold}
 use Rattle.fields.specs.Bytes.{le}
@@ -19,7 +18,7 @@ use Rattle.fields.specs.Values.{Val, value, values}
 use Rattle.fields.specs.Content.{tuples, many, fill, content}
 use Rattle.fields.specs.Places.{endingAt}
 use Rattle.fields.specs.declared.Format.{Format}
-use Rattle.fields.specs.declared.Format.the-variants.{Dsid, DsidUpdate, Irid, IridNew, Prid, PridNew, Mrid, MridNew, Frid, FridNew, Foid, Attr, AttrNew, InasNew, InasGone, Spas, SpasNew, Cocc, C2it, C2il}
+use Rattle.fields.specs.declared.Format.the-variants.{Dsid, DsidUpdate, Irid, IridNew, Prid, PridNew, Mrid, MridNew, Frid, FridNew, Attr, AttrNew, Spas, SpasNew}
 use Rattle.fields.specs.declared.Sub.{Sub}
 use Rattle.fields.specs.declared.Sub.the-variants.{B11, B12}
 use Rattle.fields.proofs.SizeLaws.{num-some, sizes-cons, sizes-join}
@@ -45,7 +44,8 @@ in-wider a b c d v p q e =
     let r = both-hold (leb a v) (leb v b) e in
     simp (le-leb c v (omega (arith, leb-true a v (r .0))), le-leb v d (omega (arith, leb-true v b (r .1))))
 
-num-wider : (w : ℕ) (ok wide : ℕ → Bool) (l : List ℕ) (n : ℕ) → ((v : ℕ) → ok v ≡ true → wide v ≡ true) → numSize w ok l ≡ some n → numSize w wide l ≡ some n
+num-wider : (w : ℕ) (ok wide : ℕ → Bool) (l : List ℕ) (n : ℕ) → ((v : ℕ) → ok v ≡ true → wide v ≡ true)
+    → numSize w ok l ≡ some n → numSize w wide l ≡ some n
 unfolding numSize
 num-wider w ok wide l n f e =
     let r = num-some w ok l n e in
@@ -90,7 +90,8 @@ tuples-wider {t} {u} rs = tuples-ind t (λ l. tuples u l ≡ tuples t l) base tu
         let s = sizes-wider rs l (f .bytes) (f .taken) in
         tuples-on u l h (f .bytes) (s .0) (f .some-bytes) ∙ ap₂ before (sym (s .1)) ih ∙ sym (f .found)
 
-pub fill-wider : {h i t u : List Sub} → Narrows h i → Narrows t u → (b : List ℕ) → fill h t b ≡ true → (fill i u b ≡ true) × (content h t b ≡ content i u b)
+pub fill-wider : {h i t u : List Sub} → Narrows h i → Narrows t u → (b : List ℕ) → fill h t b ≡ true
+    → (fill i u b ≡ true) × (content h t b ≡ content i u b)
 unfolding content endingAt many
 fill-wider {h} {i} {t} {u} rh rt b e =
     let r = filled h t b e in
@@ -111,76 +112,40 @@ narrows-same : (ds : List Sub) → Narrows ds ds
 narrows-same [] = end
 narrows-same (d ∷ ds) = row same (narrows-same ds)
 
--- the format of the same field in which every change may stand
-abbrev pub wider : Format → Format
-wider Dsid = Dsid
-wider DsidUpdate = Dsid
-wider Irid = Irid
-wider IridNew = Irid
-wider Prid = Prid
-wider PridNew = Prid
-wider Mrid = Mrid
-wider MridNew = Mrid
-wider Frid = Frid
-wider FridNew = Frid
-wider Foid = Foid
-wider Attr = Attr
-wider AttrNew = Attr
-wider InasNew = InasNew
-wider InasGone = InasGone
-wider Spas = Spas
-wider SpasNew = Spas
-wider Cocc = Cocc
-wider C2it = C2it
-wider C2il = C2il
+-- the second is the format of the same field in which other instructions, or a first UPDN, may stand
+pub data Wide : Format → Format → Type 0 where
+  kept : {k : Format} → Wide k k
+  dsid : Wide DsidUpdate Dsid
+  irid : Wide IridNew Irid
+  prid : Wide PridNew Prid
+  mrid : Wide MridNew Mrid
+  frid : Wide FridNew Frid
+  attr : Wide AttrNew Attr
+  spas : Wide SpasNew Spas
 
-head-wider : (k : Format) → Narrows (headOf k) (headOf (wider k))
+head-wider : {k w : Format} → Wide k w → Narrows (headOf k) (headOf w)
 unfolding headOf
-head-wider Dsid = narrows-same (headOf Dsid)
-head-wider DsidUpdate = row same (row same (row same (row same (row same (row same (row same (row same (row same (row (b12 tt tt) (narrows-same _))))))))))
-head-wider Irid = narrows-same (headOf Irid)
-head-wider IridNew = row same (row same (row same (row same (row (b11 tt tt) end))))
-head-wider Prid = narrows-same (headOf Prid)
-head-wider PridNew = row same (row same (row same (row (b11 tt tt) end)))
-head-wider Mrid = narrows-same (headOf Mrid)
-head-wider MridNew = row same (row same (row same (row (b11 tt tt) end)))
-head-wider Frid = narrows-same (headOf Frid)
-head-wider FridNew = row same (row same (row same (row same (row (b11 tt tt) end))))
-head-wider Foid = narrows-same (headOf Foid)
-head-wider Attr = end
-head-wider AttrNew = end
-head-wider InasNew = narrows-same (headOf InasNew)
-head-wider InasGone = narrows-same (headOf InasGone)
-head-wider Spas = end
-head-wider SpasNew = end
-head-wider Cocc = narrows-same (headOf Cocc)
-head-wider C2it = narrows-same (headOf C2it)
-head-wider C2il = end
+head-wider {k} kept = narrows-same (headOf k)
+head-wider dsid = row same (row same (row same (row same (row same (row same (row same (row same (row same (row (b12 tt tt) (row same end))))))))))
+head-wider irid = row same (row same (row same (row same (row (b11 tt tt) end))))
+head-wider prid = row same (row same (row same (row (b11 tt tt) end)))
+head-wider mrid = row same (row same (row same (row (b11 tt tt) end)))
+head-wider frid = row same (row same (row same (row same (row (b11 tt tt) end))))
+head-wider attr = end
+head-wider spas = end
 
-tuple-wider : (k : Format) → Narrows (tupleOf k) (tupleOf (wider k))
+tuple-wider : {k w : Format} → Wide k w → Narrows (tupleOf k) (tupleOf w)
 unfolding tupleOf
-tuple-wider Dsid = end
-tuple-wider DsidUpdate = end
-tuple-wider Irid = end
-tuple-wider IridNew = end
-tuple-wider Prid = end
-tuple-wider PridNew = end
-tuple-wider Mrid = end
-tuple-wider MridNew = end
-tuple-wider Frid = end
-tuple-wider FridNew = end
-tuple-wider Foid = end
-tuple-wider Attr = narrows-same (tupleOf Attr)
-tuple-wider AttrNew = row same (row same (row same (row (b11 tt tt) (row same end))))
-tuple-wider InasNew = narrows-same (tupleOf InasNew)
-tuple-wider InasGone = end
-tuple-wider Spas = narrows-same (tupleOf Spas)
-tuple-wider SpasNew = row same (row same (row same (row same (row same (row (b11 tt tt) end)))))
-tuple-wider Cocc = end
-tuple-wider C2it = end
-tuple-wider C2il = narrows-same (tupleOf C2il)
+tuple-wider {k} kept = narrows-same (tupleOf k)
+tuple-wider dsid = end
+tuple-wider irid = end
+tuple-wider prid = end
+tuple-wider mrid = end
+tuple-wider frid = end
+tuple-wider attr = row same (row same (row same (row (b11 tt tt) (row same end))))
+tuple-wider spas = row same (row same (row same (row same (row same (row (b11 tt tt) end)))))
 
 -- a field has its wider format too, and the same content
-pub format-wider : (k : Format) (b : List ℕ) → fill (headOf k) (tupleOf k) b ≡ true
-    → (fill (headOf (wider k)) (tupleOf (wider k)) b ≡ true) × (content (headOf k) (tupleOf k) b ≡ content (headOf (wider k)) (tupleOf (wider k)) b)
-format-wider k b e = fill-wider (head-wider k) (tuple-wider k) b e
+pub format-wider : {k w : Format} → Wide k w → (b : List ℕ) → fill (headOf k) (tupleOf k) b ≡ true
+    → (fill (headOf w) (tupleOf w) b ≡ true) × (content (headOf k) (tupleOf k) b ≡ content (headOf w) (tupleOf w) b)
+format-wider x b e = fill-wider (head-wider x) (tuple-wider x) b e

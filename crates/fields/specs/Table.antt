@@ -1,4 +1,5 @@
 -- The formats as tables: for each field its subfields with their widths and ranges.
+-- A further field is a clause of `headOf` and one of `tupleOf`; src/row.rt says what else it takes.
 use mathlib.Core.List.{List, [], _∷_}
 use Rattle.fields.specs.declared.Format.{Format}
 use Rattle.fields.specs.declared.Format.the-variants.{Dsid, DsidUpdate, Irid, IridNew, Prid, PridNew, Mrid, MridNew, Frid, FridNew, Foid, Attr, AttrNew, InasNew, InasGone, Spas, SpasNew, Cocc, C2it, C2il}

@@ -1,4 +1,5 @@
 // One subfield of any format: a function for each way in which one is written, and the choice among them.
+// A further way is a variant of `Sub`, a function here and an arm of `subfield_end`.
 use crate::Stop;
 use crate::Sub;
 use crate::number::le8;

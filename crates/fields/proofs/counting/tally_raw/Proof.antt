@@ -45,7 +45,10 @@ div-t8 : tie.Need-div-t8
 div-t8 c = search needs
 
 add-t12 : tie.Need-add-t12
-add-t12 c = let a = c .before .before .before .before .before .before .before .before .args in omega (arith, div-le-self (length (a .b .now) - a .at) (c .before .before .before .n .given .0 .0 - a .at))
+add-t12 c =
+    let a = c .before .before .before .before .before .before .before .before .args in
+    let width = c .before .before .before .n .given .0 .0 - a .at in
+    omega (arith, div-le-self (length (a .b .now) - a .at) width)
 
 returns-5 : tie.Need-returns-5
 returns-5 c = search raw-turn
