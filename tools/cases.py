@@ -5,6 +5,9 @@
     tools/cases.py CASES ANSWERS --all --scratch DIR   make DIR a repository with every case that is small enough, for a run by hand:
                                                        cd DIR && rt dev cases
 
+    tools/cases.py CASES ANSWERS --back                write the kept cases and their answers back into files of these names, so that
+                                                       the second program can be asked again
+
     --keep N        how many cases are kept, spread over operations and refusals (default 200)
     --largest N     leave out a case whose dataset and update have more bytes together (default 1200)
     --room N        leave out a case whose output slice has more bytes (default 20000)
@@ -21,6 +24,7 @@ workspace is zero is not computed (the definition says it of every call): an ans
 """
 import argparse
 import pathlib
+import re
 import struct
 import sys
 
@@ -154,6 +158,30 @@ def scratch(folder):
     return crates / "cases/proofs"
 
 
+def back(cases, answers):
+    """The kept cases as a framed file, and their answers as lines; how many there are."""
+    frames, lines = [], []
+    for path in sorted((ROOT / "crates/cases/proofs").glob("Cases*.antt")):
+        text = path.read_text()
+        files = {"[]": b""}
+        for name, size, number in re.findall(r"^(f\d+) = bytes (\d+) (0x[0-9a-f]+)", text, re.M):
+            files[name] = int(number, 16).to_bytes(int(size), "little")
+        for word, given, want in re.findall(r"\b(reads|writes|updates|lists)((?: (?:f\d+|\[\]|\d+))+) \(([^()]*)\)", text):
+            given, want = given.split(), [int(n, 0) for n in want.split(" ∷ ")[:-1]]
+            operation = {"reads": READ, "writes": WRITE, "updates": UPDATE, "lists": LISTING}[word]
+            parts, numbers = [files[g] for g in given if g in files], [int(g) for g in given if g not in files]
+            dataset, update = parts[0], parts[1] if len(parts) > 1 else b""
+            room, work = (numbers + [0, 0])[:2]
+            frames.append(struct.pack("<BIIII", operation, len(dataset), len(update), room, work) + dataset + update)
+            if operation == LISTING:
+                lines.append(f"listing {want[0]} {want[1]:016x}\n")
+            else:
+                lines.append(" ".join(str(n) for n in want[:5]) + f" {want[5]:016x} 1\n")
+    cases.write_bytes(b"".join(frames))
+    answers.write_text("".join(lines))
+    return len(frames)
+
+
 def main():
     options = argparse.ArgumentParser(description=__doc__, formatter_class=argparse.RawDescriptionHelpFormatter)
     options.add_argument("cases", type=pathlib.Path)
@@ -165,7 +193,11 @@ def main():
     options.add_argument("--room", type=int, default=20000)
     options.add_argument("--chunk", type=int, default=10)
     options.add_argument("--modules", type=int, default=10)
+    options.add_argument("--back", action="store_true")
     given = options.parse_args()
+    if given.back:
+        print(f"{back(given.cases, given.answers)} cases written to {given.cases}, their answers to {given.answers}")
+        return
     cases = framed(given.cases, given.answers)
     small = [c for c in cases if len(c.dataset) + len(c.update) <= given.largest and c.room <= given.room]
     kept = small if given.all else spread(small, given.keep)

@@ -1,8 +1,10 @@
 -- Tests one after the other. Assumes nothing.
-use mathlib.Core.Path.{_≡_, refl}
+use mathlib.Core.Path.{_≡_, refl, ap}
 use Prim.Native.Nat.{ℕ}
 use native.Mathlib.Omega.{arith}
+use mathlib.Core.Logic.{_⊎_, inl, inr}
 use Rattle.base.specs.Check.{Check, ok, no, bind, refuse}
+use Rattle.base.specs.declared.Fault.{Fault}
 
 -- a refusal is no value
 pub never : {A X : Type 0} {n t : ℕ} {a : A} → refuse n t ≡ ok a → X
@@ -29,3 +31,17 @@ pub bind-then : {A B C : Type 0} (c : Check A) (f : A → B) (k : B → Check C)
 unfolding bind
 bind-then (ok a) f k = refl
 bind-then (no e) f k = refl
+
+-- a value is no refusal
+pub ok-no : {A X : Type 0} {a : A} {f : Fault} → ok a ≡ no f → X
+ok-no e = absurd (let z : _≡_ {A = ℕ} 0 1 = cc in omega arith)
+
+-- the same refusal
+pub no-same : {A : Type 0} {f g : Fault} → _≡_ {A = Check A} (no f) (no g) → f ≡ g
+no-same e = cc
+
+-- which of two tests refused
+pub bind-no : {A B : Type 0} (c : Check A) (k : A → Check B) (f : Fault) → bind c k ≡ no f → (c ≡ no f) ⊎ ((a : A) × (c ≡ ok a) × (k a ≡ no f))
+unfolding bind
+bind-no (ok a) k f e = inr (a, refl, e)
+bind-no (no g) k f e = inl (ap no (no-same e))

@@ -3,6 +3,7 @@ pub mod CheckLaws
 pub mod ReaderLaws
 pub mod TupleReader
 pub mod RunLaws
+pub mod FaultLaws
 pub mod TuplesLaws
 pub mod TreeLaws
 pub mod EditLaws

@@ -2,7 +2,8 @@
 -- sources that look alike are read alike. Assumes nothing.
 use mathlib.Core.Path.{_≡_, refl, sym, ap, _∙_}
 use mathlib.Core.Bool.{Bool, true, false, not, true≢false}
-use Prim.Native.Nat.{ℕ, zero, suc, _≤_, _<_}
+use mathlib.Core.Logic.{⊎-elim}
+use Prim.Native.Nat.{ℕ, zero, suc, _+_, _≤_, _<_}
 use native.Mathlib.Omega.{arith}
 use lib.Dec.{eqb}
 use borrow.Author.Tests.{eq-eqb, ne-eqb, eqb-true}
@@ -10,8 +11,14 @@ use Rattle.base.specs.Choice.{pick, both, either}
 use Rattle.base.specs.Check.{Check, ok, no, bind, fault, refuse}
 use Rattle.base.specs.declared.Fault.{Fault}
 use Rattle.base.proofs.ChoiceLaws.{both-hold}
-use Rattle.forest.proofs.CheckLaws.{never, ok-same, bind-inv, bind-same}
+use Rattle.forest.proofs.CheckLaws.{never, ok-same, bind-inv, bind-same, ok-no, no-same, bind-no}
 use Rattle.forest.specs.Reader.{Reader, Read, belongs, faulty, entryThen, readUpTo, readRun, Falls}
+
+-- 6 at a place from k on, below m
+pub record Refusal (k m : ℕ) (f : Fault) : Type 0 where
+  pub six : f ≡ fault 6 0 (f .tuple)
+  pub from : k ≤ f .tuple
+  pub below : f .tuple < m
 
 module _ {S F : Type 0} (d : Reader S F) where
   -- ---- one turn
@@ -143,6 +150,48 @@ module _ {S F : Type 0} (d : Reader S F) where
         ∙ ap (λ (c : Check (Read S F)). entryThen d s c (readUpTo d n p shut)) (run-is n (d .place s) (d .shuts s) (d .next s) (omega arith))
         ∙ entry-same s (readRun d (d .place s) (d .shuts s) (d .next s)) _ _
         (λ k e. run-is n p shut (k .end) (omega (arith, below, read-falls (d .rest (d .next s)) (d .place s) (d .shuts s) (d .next s) k e)))
+
+  -- ---- what a refusal says
+
+  module _ (falls : Falls d) (even : (s : S) → d .here s ≡ true → (d .place s < d .place (d .next s)) × (d .place (d .next s) + d .rest (d .next s) ≤ d .place s + d .rest s)) where
+    -- the places from k on, below m, where so many entries at most are left
+    abbrev Between : ℕ → ℕ → S → Type 0
+    Between k m s = (k ≤ d .place s) × (d .place s + d .rest s ≤ m)
+
+    -- behind an entry
+    between-next : (k m : ℕ) (s : S) → d .here s ≡ true → Between k m s → Between k m (d .next s)
+    between-next k m s h b = (omega (arith, even s h, b), omega (arith, even s h, b))
+
+    -- behind a run
+    pub between-end : (k m n p : ℕ) (shut : Bool) (s : S) (r : Read S F) → readUpTo d n p shut s ≡ ok r → Between k m s → Between k m (r .end)
+    between-end k m n p shut s r e b = read-keeps (λ q t. Between k m t) (λ q t h x i. between-next k m t h i) (λ q t u h x i j. j) n p shut s r e b
+
+    -- an entry that is refused, from what a run below it says
+    entry-refused : (k m n p : ℕ) (shut : Bool) (s : S) (f : Fault) → d .here s ≡ true → Between k m s
+        → ((q : ℕ) (c : Bool) (t : S) → Between k m t → readUpTo d n q c t ≡ no f → Refusal k m f)
+        → entryThen d s (readUpTo d n (d .place s) (d .shuts s) (d .next s)) (readUpTo d n p shut) ≡ no f → Refusal k m f
+    unfolding entryThen
+    entry-refused k m n p shut s f h b ih e =
+        ⊎-elim (ih (d .place s) (d .shuts s) (d .next s) (between-next k m s h b))
+        (λ x. let (r, kids, rest) = x in
+        ⊎-elim (ih p shut (r .end) (between-end k m n _ _ (d .next s) r kids (between-next k m s h b))) (λ y. ok-no (y .2)) (bind-no (readUpTo d n p shut (r .end)) _ f rest))
+        (bind-no (readUpTo d n (d .place s) (d .shuts s) (d .next s)) _ f e)
+
+    -- a faulty entry
+    faulty-refused : (k m : ℕ) (s : S) (f : Fault) → d .here s ≡ true → Between k m s → f ≡ fault 6 0 (d .place s) → Refusal k m f
+    faulty-refused k m s f h b e = rw e (record { six = refl; from = b .0; below = omega (arith, falls s h, b) })
+
+    -- a run that is refused
+    pub read-refused : (k m n p : ℕ) (shut : Bool) (s : S) (f : Fault) → Between k m s → readUpTo d n p shut s ≡ no f → Refusal k m f
+    unfolding readUpTo
+    read-refused k m zero p shut s f b e = ok-no e
+    read-refused k m (suc n) p shut s f b e = go (read-refused k m n) (belongs d p s) refl (faulty d shut s) refl
+      where
+        go : ((q : ℕ) (c : Bool) (t : S) (g : Fault) → Between k m t → readUpTo d n q c t ≡ no g → Refusal k m g)
+            → (x : Bool) → belongs d p s ≡ x → (y : Bool) → faulty d shut s ≡ y → Refusal k m f
+        go ih false x y z = ok-no (sym (read-past (suc n) p shut s x) ∙ e)
+        go ih true x true z = faulty-refused k m s f (both-hold _ _ x .0) b (no-same (sym e ∙ read-faulty n p shut s x z))
+        go ih true x false z = entry-refused k m n p shut s f (both-hold _ _ x .0) b (λ q c t. ih q c t f) (sym (read-entry n p shut s x z) ∙ e)
 
 -- ---- two sources that look alike
 

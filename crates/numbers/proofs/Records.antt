@@ -18,9 +18,9 @@ use Rattle.fields.specs.declared.Format.the-variants.{AttrNew, Attr}
 use Rattle.fields.specs.declared.Tally.{Tally}
 use Rattle.fields.specs.declared.Tally.the-variants.{Whole, Short}
 use Rattle.rules.specs.Tags.{ATTR, INAS, COCC, DSID}
-use Rattle.rules.specs.ByTag.{front}
+use Rattle.rules.specs.ByTag.{has, front}
 use Rattle.rules.specs.Kind.{Row, kindOf, rank, rowsOf, generalRows}
-use Rattle.rules.specs.Grammar.{rowsAfter, onRows, inOrder, complete, ruinByte, asStored, forbidden, fieldsStand, onKind, number4}
+use Rattle.rules.specs.Grammar.{rowsAfter, onRows, inOrder, complete, ruinByte, couiByte, asStored, forbidden, fieldsStand, onKind, number4}
 use Rattle.rules.specs.Coordinates.{sent, placeIn}
 use Rattle.rules.specs.Content.{insertOnly, identFormat, formatOf, filled, stands, allStand, miscounts, counted, number5}
 use Rattle.rules.specs.Trees.{tupOf, utupOf, attrTree, inasTree, attrActs, treeStands, treesStand, number6}
@@ -57,7 +57,7 @@ fair-kind (some k) go p = p k
 fair-fields : (m : Mode) (k : Kind) (b : List ℕ) (fs : List Field) → FairCheck (fieldsStand m k b fs)
 unfolding fieldsStand fair
 fair-fields m k b fs =
-    fair-bind _ _ (fair-order (forbidden m (ruinByte k b) fs) (rowsOf k) 2 fs) (λ _.
+    fair-bind _ _ (fair-order (forbidden m (ruinByte k b) (couiByte fs) (has COCC fs)) (rowsOf k) 2 fs) (λ _.
     fair-pick (either (not (asStored m (ruinByte k b))) (complete (rowsOf k) fs)) _ _ fair-ok (fair-no refl))
 
 -- tags

@@ -1,2 +1,4 @@
 pub mod RowsLaws
 pub mod OrderLaws
+pub mod TaggedLaws
+pub mod GrammarLaws

@@ -13,12 +13,11 @@ ghost use Prim.Native.Nat.{_≤_};
 ghost use lib.ListN.{length};
 ghost use Rattle.skeleton.specs.Place.{between, fieldsAt};
 ghost use Rattle.skeleton.specs.Shape.{Bounded};
-ghost use Rattle.rules.specs.Kind.{kindOf, rank, coded, rowsOf, generalRows};
+ghost use Rattle.rules.specs.Kind.{kindOf, rank, rowsOf};
 ghost use Rattle.rules.specs.Grammar.{inOrder, complete, ruinByte, asStored, fieldsStand, number4};
 ghost use Rattle.base.specs.Check.{bind, ok};
-ghost use Rattle.base.specs.Choice.{pick};
 ghost use Rattle.records.specs.Order.{shutOut, faultyField};
-ghost use Rattle.records.specs.Graded.{graded, foundKind};
+ghost use Rattle.records.specs.Graded.{graded, foundKind, ruinPlace};
 
 // A record's kind, where its tags are right; or the refusal's number, field and tuple.
 pub enum Tags {
@@ -65,7 +64,7 @@ pub fn rank_of(k: Kind) -> usize
 
 // Where RUIN stands in an identifier: behind the code, if there is one.
 fn ruin_place(k: Kind) -> usize
-    ensures { λ n. ⌜ n ≡ pick (coded k) 9 7 ⌝ }
+    ensures { λ n. ⌜ n ≡ ruinPlace k ⌝ }
 {
     match k {
         Kind::Info => 9,

@@ -6,25 +6,33 @@ use Prim.Native.Nat.{ℕ, _+_, _-_, _≤_, _<_}
 use native.Mathlib.Omega.{arith}
 use lib.ListN.{length, getD, take, drop, length-drop}
 use lib.Seq.{take-all}
-use lib.Dec.{eqb}
+use lib.Dec.{leb, eqb}
 use Rattle.base.specs.Choice.{pick, both}
 use Rattle.base.specs.Lists.{each}
-use Rattle.fields.specs.Table.{headOf, tupleOf}
+use Rattle.fields.specs.Table.{code, insert, headOf, tupleOf}
 use Rattle.base.specs.Walk.{Got}
 use Rattle.fields.specs.Values.{Val}
 use Rattle.fields.specs.Content.{many, content, fill}
 use Rattle.fields.specs.declared.Sub.{Sub}
 use Rattle.fields.specs.Places.{endingAt}
 use Rattle.fields.specs.declared.Format.the-variants.{Attr, AttrNew, InasNew, InasGone}
-use Rattle.fields.proofs.FieldLaws.{fill-list, head-even, head-length}
+use Rattle.fields.proofs.FieldLaws.{filled, fill-list, head-even, head-length}
 use Rattle.fields.proofs.TupleLaws.{tuples-end}
+use Rattle.fields.proofs.ByteLaws.{le1}
+use Rattle.fields.proofs.SizeLaws.{num-some, sizes-cons}
+use Rattle.base.proofs.ChoiceLaws.{both-hold}
+use Rattle.fields.specs.Bytes.{le}
+use Rattle.fields.specs.Sizes.{inRange, size, sizes}
+use borrow.Author.Tests.{leb-true}
+use mathlib.Core.Option.{some}
+use Rattle.fields.specs.declared.Sub.the-variants.{B11, Raw}
 use Rattle.forest.specs.Rule.{treeOf}
 use Rattle.rules.specs.Content.{inasFormat}
 use Rattle.rules.specs.Trees.{tupOf, utupOf, attrTree, attrActs, inasTree}
 use Rattle.tree.specs.Source.{runAt, remains}
 use Rattle.tree.specs.Known.{Whole}
 use Rattle.tree.specs.Verdict.{faultyTuple}
-use Rattle.tree.proofs.TupleShape.{shape, stands-whole}
+use Rattle.tree.proofs.TupleShape.{shape, number-at, stands-whole}
 use Rattle.tree.proofs.AttrRules.{tree-walk, acts-walk}
 
 -- what the walk over all tuples of some bytes finds
@@ -94,6 +102,10 @@ behindHead b = take (length b - 10) (drop 10 b)
 behind-all : (b : List ℕ) → behindHead b ≡ drop 10 b
 behind-all b = take-all (length b - 10) (drop 10 b) (omega (arith, length-drop 10 b))
 
+-- and no more than the field
+pub behind-short : (b : List ℕ) → length (behindHead b) ≤ length b
+behind-short b = omega (arith, ap length (behind-all b), length-drop 10 b)
+
 -- its head is there
 pub inas-long : (b : List ℕ) → fill (headOf (inasFormat false b)) (tupleOf (inasFormat false b)) b ≡ true → 10 ≤ length b
 inas-long b e = inas-behind b e .long
@@ -107,3 +119,23 @@ pub inas-tree : (b : List ℕ) → fill (headOf (inasFormat false b)) (tupleOf (
 inas-tree b e =
     let i = inas-behind b e in
     rw (behind-all b) (sym (tree-walk 1 1 (drop 10 b) (i .standing)) ∙ ap faultyTuple (sym (i .same)))
+
+-- the byte of an instruction that has to be insert
+insert-byte : (b : List ℕ) (n : ℕ) → sizes (headOf InasNew) b ≡ some n → getD b 9 0 ≡ 1
+unfolding headOf size
+insert-byte b n e =
+    let rrnm = number-at (B11 150 150) (Raw 4 ∷ code ∷ code ∷ insert ∷ []) b 0 1 n refl refl e in
+    let rrid = number-at (Raw 4) (code ∷ code ∷ insert ∷ []) b 1 5 (rrnm .left) refl refl (rrnm .takes) in
+    let niac = number-at code (code ∷ insert ∷ []) b 5 7 (rrid .left) refl refl (rrid .takes) in
+    let narc = number-at code (insert ∷ []) b 7 9 (niac .left) refl refl (niac .takes) in
+    let (m, k, iuin, rest, all) = sizes-cons insert [] (drop 9 b) (narc .left) (narc .takes) in
+    let (one, there, range) = num-some 1 (inRange 1 1) (drop 9 b) m iuin in
+    let (low, high) = both-hold (leb 1 (le 1 (drop 9 b))) (leb (le 1 (drop 9 b)) 1) range in
+    omega (arith, le1 b 9 (omega (arith, length-drop 9 b)), leb-true 1 (le 1 (drop 9 b)) low, leb-true (le 1 (drop 9 b)) 1 high)
+
+-- an INAS that passed number 5 in a record of either sort meets what the code asks for
+pub inas-asked : (new : Bool) (b : List ℕ) → fill (headOf (inasFormat new b)) (tupleOf (inasFormat new b)) b ≡ true
+    → fill (headOf (inasFormat false b)) (tupleOf (inasFormat false b)) b ≡ true
+unfolding inasFormat
+inas-asked false b e = e
+inas-asked true b e = let byte = insert-byte b _ (filled (headOf InasNew) (tupleOf InasNew) b e .taken) in rw (byte) e

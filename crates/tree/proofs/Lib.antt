@@ -7,3 +7,4 @@ pub mod TupleShape
 pub mod FieldRule
 pub mod AttrRules
 pub mod FieldLaws
+pub mod VerdictLaws

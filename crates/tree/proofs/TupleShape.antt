@@ -57,14 +57,14 @@ num-value Text l i = absurd (true≢false (sym i))
 num-value (Fixed n) l i = absurd (true≢false (sym i))
 
 -- a number at an offset, and the subfields behind it
-record Numbered (d : Sub) (ds : List Sub) (b : List ℕ) (at next n : ℕ) : Type 0 where
-  left : ℕ
-  takes : sizes ds (drop next b) ≡ some left
-  all : width d + left ≡ n
-  vals : values (d ∷ ds) (drop at b) ≡ num (le (width d) (drop at b)) ∷ values ds (drop next b)
+pub record Numbered (d : Sub) (ds : List Sub) (b : List ℕ) (at next n : ℕ) : Type 0 where
+  pub left : ℕ
+  pub takes : sizes ds (drop next b) ≡ some left
+  pub all : width d + left ≡ n
+  pub vals : values (d ∷ ds) (drop at b) ≡ num (le (width d) (drop at b)) ∷ values ds (drop next b)
 
 -- a number that stands
-number-at : (d : Sub) (ds : List Sub) (b : List ℕ) (at next n : ℕ) → isNum d ≡ true → next ≡ at + width d → sizes (d ∷ ds) (drop at b) ≡ some n → Numbered d ds b at next n
+pub number-at : (d : Sub) (ds : List Sub) (b : List ℕ) (at next n : ℕ) → isNum d ≡ true → next ≡ at + width d → sizes (d ∷ ds) (drop at b) ≡ some n → Numbered d ds b at next n
 unfolding values
 number-at d ds b at next n i f e =
     let (m, k, s, r, a) = sizes-cons d ds (drop at b) n e in

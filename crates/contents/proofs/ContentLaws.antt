@@ -1,0 +1,103 @@
+-- Laws of number 5. Assumes nothing.
+use mathlib.Core.Path.{_≡_, refl, sym, ap, _∙_}
+use mathlib.Core.Bool.{Bool, true, false}
+use mathlib.Core.List.{List, [], _∷_}
+use Prim.Native.Nat.{ℕ, _+_}
+use lib.ListN.{length}
+use Rattle.base.specs.Check.{Check, ok, no, bind, pass}
+use Rattle.base.specs.Verdict.{verdictOf}
+use Rattle.base.specs.declared.Verdict.{Verdict}
+use Rattle.base.specs.declared.Verdict.the-variants.{Passed, Refused}
+use Rattle.fields.specs.declared.Format.{Format}
+use Rattle.skeleton.specs.Place.{between, placeAt, fieldsAt}
+use Rattle.skeleton.specs.declared.directory.Shape.{Shape}
+use Rattle.skeleton.specs.declared.place.Place.{Place}
+use Rattle.skeleton.specs.declared.place.Place.the-variants.{At, Done}
+use Rattle.skeleton.proofs.PlaceLaws.{fields-more, fields-done}
+use Rattle.rules.specs.Grammar.{ruinByte, asStored}
+use Rattle.rules.specs.Coordinates.{sent}
+use Rattle.rules.specs.Content.{insertOnly, identFormat, formatOf, stands, allStand, counted, number5}
+use Rattle.rules.specs.declared.Kind.{Kind}
+use Rattle.rules.specs.declared.Mode.{Mode}
+use Rattle.contents.specs.Fit.{allFit}
+use Rattle.contents.specs.Answers.{standFrom, countedFrom, restRight}
+use Rattle.contents.proofs.VerdictLaws.{says-pass, says-no}
+use Rattle.contents.proofs.StepLaws.{step-bounds}
+use Rattle.contents.proofs.FitLaws.{all-fit, all-any}
+
+-- ---- one field, whose format is f
+
+pub stands-by : (i : ℕ) (b : List ℕ) (v : Verdict) (f g : Format) → f ≡ g → v ≡ verdictOf (stands i f b) → v ≡ verdictOf (stands i g b)
+stands-by i b v f g e x = x ∙ ap (λ (k : Format). verdictOf (stands i k b)) e
+
+pub ident-by : (m : Mode) (k : Kind) (b : List ℕ) (v : Verdict) (new : Bool) (f : Format) → new ≡ insertOnly m → f ≡ identFormat new k → v ≡ verdictOf (stands 1 f b)
+    → v ≡ verdictOf (stands 1 (identFormat (insertOnly m) k) b)
+ident-by m k b v new f e x y = y ∙ ap (λ (g : Format). verdictOf (stands 1 g b)) (x ∙ ap (λ (t : Bool). identFormat t k) e)
+
+-- ---- the loop over the fields: at place q, field i, where the whole comes to A
+
+module _ (r : List ℕ) (h : Shape) (new : Bool) (q i : ℕ) (A : Verdict) (inv : standFrom r h new q i ≡ A) (e : Place) (en : e ≡ placeAt r h q) where
+  pub stand-done : e ≡ Done → Passed ≡ A
+  unfolding standFrom allStand verdictOf
+  stand-done x = rw (fields-done r h q e en x) at inv
+
+  module _ (tag start end next : ℕ) (x : e ≡ At tag start end next) (v : Verdict)
+      (ev : v ≡ verdictOf (stands i (formatOf new tag (between r start end)) (between r start end))) where
+    here : verdictOf (bind (stands i (formatOf new tag (between r start end)) (between r start end)) (λ _. allStand new (i + 1) (fieldsAt r h next))) ≡ A
+    unfolding standFrom allStand
+    here = rw (fields-more r h q e en tag start end next x) at inv
+
+    pub stand-not : (n f t : ℕ) → v ≡ Refused n f t → Refused n f t ≡ A
+    stand-not n f t z =
+        says-no (stands i (formatOf new tag (between r start end)) (between r start end)) (λ _. allStand new (i + 1) (fieldsAt r h next)) n f t (sym ev ∙ z) ∙ here
+
+    pub stand-more : v ≡ Passed → standFrom r h new next (i + 1) ≡ A
+    unfolding standFrom bind
+    stand-more z = rw (says-pass (stands i (formatOf new tag (between r start end)) (between r start end)) (sym ev ∙ z)) at here
+
+pub ruleset stand-turn = (stand-done, stand-not, stand-more, step-bounds)
+
+-- ---- the fields behind the identifier
+
+module _ (r : List ℕ) (h : Shape) (new : Bool) (p : ℕ) (v : Verdict) (ev : v ≡ standFrom r h new p 2) where
+  pub rest-not : (n f t : ℕ) → v ≡ Refused n f t → Refused n f t ≡ restRight r h new p
+  unfolding standFrom restRight
+  rest-not n f t z =
+      let fs = fieldsAt r h p in
+      says-no (allStand new 2 fs) (λ _. counted (length (sent fs)) 2 fs) n f t (sym ev ∙ z)
+
+  module _ (z : v ≡ Passed) where
+    stood : allStand new 2 (fieldsAt r h p) ≡ pass
+    unfolding standFrom
+    stood = says-pass (allStand new 2 (fieldsAt r h p)) (sym ev ∙ z)
+
+    pub rest-fit : allFit false (fieldsAt r h p) ≡ true
+    rest-fit = all-any new (fieldsAt r h p) (all-fit new 2 (fieldsAt r h p) tt stood)
+
+    pub rest-counts : (w : Verdict) → w ≡ countedFrom r h p p 2 → w ≡ restRight r h new p
+    unfolding restRight countedFrom bind
+    rest-counts w x = rw stood x
+
+pub ruleset rest-ways = (rest-not, rest-fit, rest-counts)
+
+-- ---- the record
+
+module _ (r : List ℕ) (h : Shape) (m : Mode) (k : Kind) (e : Place) (en : e ≡ placeAt r h 24) where
+  pub five-none : e ≡ Done → Passed ≡ verdictOf (number5 m k (fieldsAt r h 24))
+  unfolding number5 verdictOf
+  five-none x = rw (fields-done r h 24 e en x)
+
+  module _ (tag start end next : ℕ) (x : e ≡ At tag start end next) (v : Verdict)
+      (ev : v ≡ verdictOf (stands 1 (identFormat (insertOnly m) k) (between r start end))) where
+    pub five-not : (n f t : ℕ) → v ≡ Refused n f t → Refused n f t ≡ verdictOf (number5 m k (fieldsAt r h 24))
+    unfolding number5
+    five-not n f t z =
+        rw (fields-more r h 24 e en tag start end next x) (says-no (stands 1 (identFormat (insertOnly m) k) (between r start end)) _ n f t (sym ev ∙ z))
+
+    pub five-rest : v ≡ Passed → (new : Bool) → new ≡ asStored m (ruinByte k (between r start end)) → (w : Verdict) → w ≡ restRight r h new next
+        → w ≡ verdictOf (number5 m k (fieldsAt r h 24))
+    unfolding number5 restRight bind
+    five-rest z new eb w y =
+        rw (fields-more r h 24 e en tag start end next x) (rw (says-pass (stands 1 (identFormat (insertOnly m) k) (between r start end)) (sym ev ∙ z)) (rw eb at y))
+
+pub ruleset five-ways = (five-none, five-not, five-rest)

@@ -1,0 +1,187 @@
+-- Laws of NCOR and of the coordinate tuples that a record sends. Assumes nothing.
+use mathlib.Core.Path.{_≡_, refl, sym, ap, _∙_}
+use mathlib.Core.Bool.{Bool, true, false, not}
+use mathlib.Core.List.{List, [], _∷_, _++_}
+use Prim.Native.Nat.{ℕ, suc, _+_, _-_, _/_, _%_, _≤_, _<_}
+use native.Mathlib.Nat.{zero-add}
+use native.Mathlib.Omega.{arith}
+use borrow.Author.Tests.{eq-eqb, ne-eqb, eqb-true, eqb-false}
+use lib.Dec.{eqb}
+use lib.ListN.{length, drop, length-append, length-drop}
+use lib.Seq.{length-take-le}
+use Rattle.base.specs.Choice.{pick, both}
+use Rattle.base.specs.Lists.{each, gather}
+use Rattle.base.specs.Walk.{Got}
+use Rattle.base.specs.Verdict.{verdictOf}
+use Rattle.base.specs.declared.Verdict.{Verdict}
+use Rattle.base.specs.declared.Verdict.the-variants.{Passed, Refused}
+use Rattle.fields.specs.Bytes.{le}
+use Rattle.fields.specs.Values.{Val, values, numAt}
+use Rattle.fields.specs.Table.{headOf, tupleOf}
+use Rattle.fields.specs.Content.{tuples, many, tallied, tally, fill}
+use Rattle.fields.specs.Places.{allRaw}
+use Rattle.fields.specs.declared.Format.the-variants.{Cocc, C2il}
+use Rattle.fields.specs.declared.Tally.{Tally}
+use Rattle.fields.specs.declared.Tally.the-variants.{Whole, Short}
+use Rattle.fields.proofs.CountLaws.{byLength, raw-tally}
+use Rattle.fields.proofs.ValueLaws.{head-number}
+use Rattle.skeleton.specs.File.{Field}
+use Rattle.skeleton.specs.Place.{between, placeAt, fieldsAt}
+use Rattle.skeleton.specs.declared.directory.Shape.{Shape}
+use Rattle.skeleton.specs.declared.place.Place.{Place}
+use Rattle.skeleton.specs.declared.place.Place.the-variants.{At, Done}
+use Rattle.skeleton.proofs.PlaceLaws.{fields-more, fields-done, place-runs, place-in}
+use Rattle.rules.specs.Tags.{COCC, C2IL}
+use Rattle.rules.specs.ByTag.{withTag, bodies}
+use Rattle.rules.specs.Coordinates.{coordOf, coordsIn, sent, placeIn}
+use Rattle.rules.specs.Content.{formatOf, miscounts, counted}
+use Rattle.contents.specs.Fit.{fits, allFit}
+use Rattle.contents.specs.Answers.{sentIn, sendFrom, countedFrom}
+use Rattle.contents.proofs.StepLaws.{step-bounds}
+use Rattle.contents.proofs.FitLaws.{fit-here, fit-next}
+use Rattle.contents.proofs.FormatLaws.{of-cocc}
+
+-- ---- how many tuples a field sends
+
+-- the tuples of a walk, counted by the length of the bytes
+items-by : (m : ℕ) (g : Got (List Val)) → tallied 0 g ≡ byLength 8 m 0 → length (g .items) ≡ m / 8
+items-by m g e = go (eqb (g .ending) 0) (eqb (m % 8) 0) e
+  where
+    go : (t u : Bool) → pick t (Whole (0 + length (g .items))) (Short (0 + length (g .items) + 1)) ≡ pick u (Whole (0 + m / 8)) (Short (0 + m / 8 + 1)) → length (g .items) ≡ m / 8
+    go true true x = let z : 0 + length (g .items) ≡ 0 + m / 8 = cc in omega arith
+    go true false x = absurd (let z : _≡_ {A = ℕ} 0 1 = cc in omega arith)
+    go false true x = absurd (let z : _≡_ {A = ℕ} 0 1 = cc in omega arith)
+    go false false x = let z : 0 + length (g .items) + 1 ≡ 0 + m / 8 + 1 = cc in omega arith
+
+-- whole or not
+c2il-many : (b : List ℕ) → length (many (tupleOf C2il) b) ≡ length b / 8
+unfolding many tupleOf allRaw tally
+c2il-many b = items-by (length b) (tuples (tupleOf C2il) b) (raw-tally (tupleOf C2il) refl (omega arith) b 0)
+
+each-length : {A B : Type 0} (f : A → B) (xs : List A) → length (each f xs) ≡ length xs
+unfolding each
+each-length f [] = refl
+each-length f (x ∷ xs) = ap suc (each-length f xs)
+
+coords-length : (b : List ℕ) → length (coordsIn b) ≡ length b / 8
+unfolding coordsIn
+coords-length b = each-length coordOf (many (tupleOf C2il) b) ∙ c2il-many b
+
+-- a field and those after it
+sent-more : (f : Field) (fs : List Field) → length (sent (f ∷ fs)) ≡ sentIn (f .tag) (length (f .body)) + length (sent fs)
+unfolding sent bodies withTag sentIn gather each
+sent-more f fs = go (eqb (f .tag) C2IL)
+  where
+    go : (t : Bool) → length (gather coordsIn (each (λ (g : Field). g .body) (pick t (f ∷ withTag C2IL fs) (withTag C2IL fs)))) ≡ pick t (length (f .body) / 8) 0 + length (gather coordsIn (each (λ (g : Field). g .body) (withTag C2IL fs)))
+    go true = length-append (coordsIn (f .body)) _ ∙ ap (λ (n : ℕ). n + length (gather coordsIn (each (λ (g : Field). g .body) (withTag C2IL fs)))) (coords-length (f .body))
+    go false = sym (zero-add _)
+
+-- ---- the loop that counts down: at place q with so many tuples left, where the whole comes to B
+
+between-length : (r : List ℕ) (start end : ℕ) → start ≤ end → end ≤ length r → length (between r start end) ≡ end - start
+between-length r start end l g = length-take-le (end - start) (drop start r) (omega (arith, length-drop start r))
+
+less-some : (a b c : ℕ) → a < b → eqb a (b + c) ≡ false
+less-some a b c h = ne-eqb a (b + c) (λ e. omega arith)
+
+take-off : (a b c : ℕ) → b ≤ a → eqb (a - b) c ≡ eqb a (b + c)
+take-off a b c h = go (eqb (a - b) c) refl
+  where
+    go : (t : Bool) → eqb (a - b) c ≡ t → eqb (a - b) c ≡ eqb a (b + c)
+    go true e = let z : a - b ≡ c = eqb-true (a - b) c e in e ∙ sym (eq-eqb a (b + c) (omega arith))
+    go false e = let z : a - b ≡ c → ⊥ = eqb-false (a - b) c e in e ∙ sym (ne-eqb a (b + c) (λ y. z (omega arith)))
+
+module _ (r : List ℕ) (h : Shape) (q left : ℕ) (B : Bool) (inv : sendFrom r h q left ≡ B) (e : Place) (en : e ≡ placeAt r h q) where
+  pub send-done : e ≡ Done → eqb left 0 ≡ B
+  unfolding sendFrom sent bodies withTag gather each
+  send-done x = rw (fields-done r h q e en x) at inv
+
+  module _ (tag start end next : ℕ) (x : e ≡ At tag start end next) (here : ℕ) (eh : here ≡ sentIn tag (end - start)) where
+    turn : eqb left (here + length (sent (fieldsAt r h next))) ≡ B
+    unfolding sendFrom
+    turn =
+        let l = between-length r start end (place-runs r h q e en tag start end next x) (place-in r h q e en tag start end next x) in
+        let m = sent-more (record { tag = tag; body = between r start end }) (fieldsAt r h next) in
+        rw (eh, ← l, ← m) (rw (fields-more r h q e en tag start end next x) at inv)
+
+    pub send-over : left < here → false ≡ B
+    send-over l = sym (less-some left here (length (sent (fieldsAt r h next))) l) ∙ turn
+
+    pub send-more : here ≤ left → sendFrom r h next (left - here) ≡ B
+    unfolding sendFrom
+    send-more l = take-off left here (length (sent (fieldsAt r h next))) l ∙ turn
+
+pub ruleset send-turn = (send-done, send-over, send-more, step-bounds)
+
+-- ---- one COCC
+
+pub sent-list : (t n : ℕ) → t ≡ 0x4332494c → n / 8 ≡ sentIn t n
+unfolding sentIn
+sent-list t n e = simp (eq-eqb t 0x4332494c e)
+
+pub sent-other : (t n : ℕ) → (t ≡ 0x4332494c → ⊥) → 0 ≡ sentIn t n
+unfolding sentIn
+sent-other t n e = simp (ne-eqb t 0x4332494c e)
+
+pub ruleset sent-in-ways = (sent-list, sent-other)
+
+module _ (r : List ℕ) (h : Shape) (p tag : ℕ) (b : List ℕ) where
+  -- how many are sent
+  abbrev count : ℕ
+  count = length (sent (fieldsAt r h p))
+
+  pub miscount-other : (tag ≡ 0x434f4343 → ⊥) → false ≡ both (eqb tag COCC) (miscounts count (placeIn b))
+  miscount-other m = simp (ne-eqb tag 0x434f4343 m)
+
+  module _ (z : tag ≡ 0x434f4343) (f : fits false (record { tag = tag; body = b }) ≡ true) where
+    cocc-fill : fill (headOf Cocc) (tupleOf Cocc) b ≡ true
+    unfolding fits
+    cocc-fill = rw (cocc-is z) at f
+      where
+        cocc-is : tag ≡ 0x434f4343 → formatOf false tag b ≡ Cocc
+        cocc-is e = sym (of-cocc false tag b (λ y. omega arith) (λ y. omega arith) (λ y. omega arith) (λ y. omega arith) e)
+
+    -- its five bytes are there
+    pub cocc-first : 0 + 1 ≤ length b
+    unfolding headOf
+    cocc-first = (head-number (headOf Cocc) (tupleOf Cocc) b cocc-fill 0 0 1 refl refl) .0
+
+    pub cocc-last : 3 + 2 ≤ length b
+    unfolding headOf
+    cocc-last = (head-number (headOf Cocc) (tupleOf Cocc) b cocc-fill 2 3 2 refl refl) .0
+
+    module _ (v : ℕ) (ev : v ≡ le 1 (drop 0 b)) where
+      coui : (placeIn b) .instruction ≡ v
+      unfolding headOf placeIn
+      coui = (head-number (headOf Cocc) (tupleOf Cocc) b cocc-fill 0 0 1 refl refl) .1 ∙ sym ev
+
+      pub miscount-delete : v ≡ 2 → false ≡ both (eqb tag COCC) (miscounts count (placeIn b))
+      unfolding miscounts
+      miscount-delete y = simp (eq-eqb tag 0x434f4343 z, coui, eq-eqb v 2 y)
+
+      pub miscount-by : (v ≡ 2 → ⊥) → (w : ℕ) → w ≡ le 2 (drop 3 b) → (t : Bool) → t ≡ sendFrom r h p w → not t ≡ both (eqb tag COCC) (miscounts count (placeIn b))
+      unfolding miscounts headOf placeIn sendFrom
+      miscount-by y w ew t et =
+          let c : (placeIn b) .count ≡ w = (head-number (headOf Cocc) (tupleOf Cocc) b cocc-fill 2 3 2 refl refl) .1 ∙ sym ew in
+          simp (eq-eqb tag 0x434f4343 z, coui, ne-eqb v 2 y, c, ← et)
+
+pub ruleset miscount-ways = (miscount-other, cocc-first, cocc-last, miscount-delete, miscount-by)
+
+-- ---- the loop over the fields: at place q, field i, where the whole comes to A
+
+module _ (r : List ℕ) (h : Shape) (p q i : ℕ) (A : Verdict) (inv : countedFrom r h p q i ≡ A) (e : Place) (en : e ≡ placeAt r h q) where
+  pub counted-done : e ≡ Done → Passed ≡ A
+  unfolding countedFrom counted verdictOf
+  counted-done x = rw (fields-done r h q e en x) at inv
+
+  module _ (tag start end next : ℕ) (x : e ≡ At tag start end next) (t : Bool)
+      (et : t ≡ both (eqb tag COCC) (miscounts (length (sent (fieldsAt r h p))) (placeIn (between r start end)))) where
+    pub counted-wrong : t ≡ true → Refused 5 i 0 ≡ A
+    unfolding countedFrom counted verdictOf
+    counted-wrong z = simp (← et, z) at (rw (fields-more r h q e en tag start end next x) at inv)
+
+    pub counted-more : t ≡ false → countedFrom r h p next (i + 1) ≡ A
+    unfolding countedFrom counted
+    counted-more z = simp (← et, z) at (rw (fields-more r h q e en tag start end next x) at inv)
+
+pub ruleset counted-turn = (counted-done, counted-wrong, counted-more, fit-here, fit-next, step-bounds)

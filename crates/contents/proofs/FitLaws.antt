@@ -1,0 +1,147 @@
+-- Fields that have their formats: what number 5 says of each, and that a field of a record that is inserted has the format of any. Assumes nothing.
+use mathlib.Core.Path.{_≡_, refl, sym, ap, _∙_}
+use mathlib.Core.Bool.{Bool, true, false, not, true≢false}
+use mathlib.Core.List.{List, [], _∷_}
+use mathlib.Core.Option.{some}
+use Prim.Native.Nat.{ℕ, zero, suc, _+_, _-_, _≤_, _<_}
+use native.Mathlib.Omega.{arith}
+use borrow.Author.Tests.{eqb-true, leb-true, ne-eqb}
+use lib.Dec.{eqb, leb}
+use lib.ListN.{length, getD, drop}
+use lib.Seq.{drop-drop}
+use Rattle.base.specs.Choice.{pick, both}
+use Rattle.base.specs.Check.{Check, ok, no, bind, Passed, pass}
+use Rattle.base.specs.Lists.{empty}
+use Rattle.base.proofs.CheckLaws.{bind-inv}
+use Rattle.base.proofs.ChoiceLaws.{both-hold}
+use Rattle.fields.specs.Bytes.{le}
+use Rattle.fields.specs.Sizes.{sizes}
+use Rattle.fields.specs.Values.{width}
+use Rattle.fields.specs.Valid.{allows}
+use Rattle.fields.specs.Table.{headOf, tupleOf}
+use Rattle.fields.specs.Content.{tallyField, isWhole, fill}
+use Rattle.fields.specs.declared.Format.{Format}
+use Rattle.fields.specs.declared.Format.the-variants.{Foid, Attr, AttrNew, InasNew, InasGone, Spas, SpasNew, Cocc, C2it, C2il}
+use Rattle.fields.specs.declared.Sub.{Sub}
+use Rattle.fields.specs.declared.Sub.the-variants.{Text}
+use Rattle.fields.specs.declared.Tally.{Tally}
+use Rattle.fields.specs.declared.Tally.the-variants.{Whole, Short}
+use Rattle.fields.proofs.ByteLaws.{le1}
+use Rattle.fields.proofs.SizeLaws.{isNum, num-size, num-some, sizes-cons}
+use Rattle.fields.proofs.FieldLaws.{filled}
+use Rattle.fields.proofs.ValueLaws.{isNumber, lies, head-number}
+use Rattle.fields.proofs.WiderLaws.{attr, spas, format-wider}
+use Rattle.skeleton.specs.File.{Field}
+use Rattle.skeleton.specs.Place.{between, placeAt, fieldsAt}
+use Rattle.skeleton.specs.declared.directory.Shape.{Shape}
+use Rattle.skeleton.specs.declared.place.Place.{Place}
+use Rattle.skeleton.specs.declared.place.Place.the-variants.{At, Done}
+use Rattle.skeleton.proofs.PlaceLaws.{fields-more}
+use Rattle.rules.specs.Tags.{ATTR, INAS, SPAS, FOID, COCC, C2IT}
+use Rattle.rules.specs.Grammar.{ruinByte, asStored}
+use Rattle.rules.specs.Content.{insertOnly, identFormat, inasFormat, formatOf, filled as filledBy, stands, allStand, number5}
+use Rattle.rules.specs.declared.Kind.{Kind}
+use Rattle.rules.specs.declared.Mode.{Mode}
+use Rattle.contents.specs.Fit.{fits, allFit}
+
+-- ---- what number 5 says
+
+whole-of : (i : ℕ) (t : Bool) (y : Tally) (u : Unit {0}) → filledBy i t y ≡ ok u → isWhole y ≡ true
+whole-of i t (Whole n) u e = refl
+whole-of i t (Short j) u e = absurd (let z : _≡_ {A = ℕ} 0 1 = cc in omega arith)
+
+-- a field that stands is filled
+pub stands-fill : (i : ℕ) (k : Format) (b : List ℕ) (u : Unit {0}) → stands i k b ≡ ok u → fill (headOf k) (tupleOf k) b ≡ true
+unfolding stands fill
+stands-fill i k b u e = whole-of i (not (empty (tupleOf k))) (tallyField (headOf k) (tupleOf k) b) u e
+
+-- so are all
+pub all-fit : (new : Bool) (i : ℕ) (fs : List Field) (u : Unit {0}) → allStand new i fs ≡ ok u → allFit new fs ≡ true
+unfolding allStand allFit fits
+all-fit new i [] u e = refl
+all-fit new i (f ∷ fs) u e =
+    let r = bind-inv (stands i (formatOf new (f .tag) (f .body)) (f .body)) (λ _. allStand new (i + 1) fs) u e in
+    rw (stands-fill i (formatOf new (f .tag) (f .body)) (f .body) (r .0) (r .1)) (all-fit new (i + 1) fs u (r .2))
+
+-- in a record that it passes
+pub five-fit : (m : Mode) (k : Kind) (f : Field) (fs : List Field) (u : Unit {0}) → number5 m k (f ∷ fs) ≡ ok u → allFit (asStored m (ruinByte k (f .body))) fs ≡ true
+unfolding number5
+five-fit m k f fs u e =
+    let r = bind-inv (stands 1 (identFormat (insertOnly m) k) (f .body)) _ u e in
+    let s = bind-inv (allStand (asStored m (ruinByte k (f .body))) 2 fs) _ u (r .2) in
+    all-fit (asStored m (ruinByte k (f .body))) 2 fs (s .0) (s .1)
+
+-- ---- field by field
+
+-- by the place e that was read at p
+module _ (r : List ℕ) (h : Shape) (p : ℕ) (e : Place) (en : e ≡ placeAt r h p) (tag start end next : ℕ) (x : e ≡ At tag start end next)
+    (new : Bool) (a : allFit new (fieldsAt r h p) ≡ true) where
+  apart : (fits new (record { tag = tag; body = between r start end }) ≡ true) × (allFit new (fieldsAt r h next) ≡ true)
+  unfolding allFit
+  apart = both-hold _ _ (rw (fields-more r h p e en tag start end next x) at a)
+
+  pub fit-here : fits new (record { tag = tag; body = between r start end }) ≡ true
+  fit-here = apart .0
+
+  pub fit-next : allFit new (fieldsAt r h next) ≡ true
+  fit-next = apart .1
+
+-- ---- a number of a head is within its range
+
+pub head-allows : (ds : List Sub) (j o w : ℕ) (l : List ℕ) (n : ℕ) → sizes ds l ≡ some n → isNumber ds j w ≡ true → lies ds j o ≡ true
+    → allows (getD ds j Text) (le w (drop o l)) ≡ true
+head-allows [] j o w l n e i q = absurd (true≢false (sym i))
+head-allows (d ∷ ds) zero o w l n e i q =
+    let s = both-hold (isNum d) (eqb (width d) w) i in
+    let r = sizes-cons d ds l n e in
+    rw (eqb-true o 0 q, ← eqb-true (width d) w (s .1)) ((num-some (width d) (allows d) l (r .0) (sym (num-size d l (s .0)) ∙ r .2)) .2)
+head-allows (d ∷ ds) (suc j) o w l n e i q =
+    let s = both-hold (isNum d) (both (leb (width d) o) (lies ds j (o - width d))) q in
+    let t = both-hold (leb (width d) o) (lies ds j (o - width d)) (s .1) in
+    let r = sizes-cons d ds l n e in
+    let m : width d ≡ r .0 = (num-some (width d) (allows d) l (r .0) (sym (num-size d l (s .0)) ∙ r .2)) .0 in
+    let f : width d ≤ o = leb-true (width d) o (t .0) in
+    let c : r .0 + (o - width d) ≡ o = omega arith in
+    let g : drop (o - width d) (drop (r .0) l) ≡ drop o l = drop-drop (o - width d) (r .0) l ∙ ap (λ (k : ℕ). drop k l) c in
+    rw g at (head-allows ds j (o - width d) w (drop (r .0) l) (r .1) (r .3) i (t .1))
+
+-- an INAS of an inserted record says insert
+inserts : (b : List ℕ) → fill (headOf InasNew) (tupleOf InasNew) b ≡ true → getD b 9 0 ≡ 2 → ⊥
+unfolding headOf allows
+inserts b e z =
+    let r = filled (headOf InasNew) (tupleOf InasNew) b e in
+    let a = both-hold (leb 1 (le 1 (drop 9 b))) (leb (le 1 (drop 9 b)) 1) (head-allows (headOf InasNew) 4 9 1 b (r .bytes) (r .taken) refl refl) in
+    let s : 9 + 1 ≤ length b = (head-number (headOf InasNew) (tupleOf InasNew) b e 4 9 1 refl refl) .0 in
+    let v : le 1 (drop 9 b) ≤ 1 = leb-true (le 1 (drop 9 b)) 1 (a .1) in
+    omega (arith, le1 b 9 s)
+
+inas-wider : (b : List ℕ) → fill (headOf InasNew) (tupleOf InasNew) b ≡ true → fill (headOf (inasFormat false b)) (tupleOf (inasFormat false b)) b ≡ true
+unfolding inasFormat
+inas-wider b e = simp (ne-eqb (getD b 9 0) 2 (inserts b e)) e
+
+-- ---- the format of any record
+
+wider-true : (t : ℕ) (b : List ℕ) → fill (headOf (formatOf true t b)) (tupleOf (formatOf true t b)) b ≡ true
+    → fill (headOf (formatOf false t b)) (tupleOf (formatOf false t b)) b ≡ true
+unfolding formatOf inasFormat
+wider-true t b e = by-tag (eqb t ATTR) (eqb t INAS) (eqb t SPAS) (pick (eqb t FOID) Foid (pick (eqb t COCC) Cocc (pick (eqb t C2IT) C2it C2il))) e
+  where
+    by-tag : (a i s : Bool) (k : Format)
+        → fill (headOf (pick a AttrNew (pick i (inasFormat true b) (pick s SpasNew k)))) (tupleOf (pick a AttrNew (pick i (inasFormat true b) (pick s SpasNew k)))) b ≡ true
+        → fill (headOf (pick a Attr (pick i (inasFormat false b) (pick s Spas k)))) (tupleOf (pick a Attr (pick i (inasFormat false b) (pick s Spas k)))) b ≡ true
+    by-tag true i s k g = (format-wider attr b g) .0
+    by-tag false true s k g = inas-wider b g
+    by-tag false false true k g = (format-wider spas b g) .0
+    by-tag false false false k g = g
+
+pub fit-any : (new : Bool) (f : Field) → fits new f ≡ true → fits false f ≡ true
+unfolding fits
+fit-any true f e = wider-true (f .tag) (f .body) e
+fit-any false f e = e
+
+pub all-any : (new : Bool) (fs : List Field) → allFit new fs ≡ true → allFit false fs ≡ true
+unfolding allFit
+all-any new [] e = refl
+all-any new (f ∷ fs) e =
+    let s = both-hold (fits new f) (allFit new fs) e in
+    rw (fit-any new f (s .0)) (all-any new fs (s .1))

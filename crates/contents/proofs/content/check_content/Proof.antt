@@ -1,0 +1,61 @@
+use Rattle.contents.proofs.StepLaws.{step-bounds, step-second}
+use Rattle.contents.proofs.ContentLaws.{five-ways}
+use native.Mathlib.Omega.{arith}
+use borrow.Author.Needs.{needs}
+use Rattle.contents.proofs.content.check_content.Statement.{statement}
+use Rattle.contents.proofs.content.check_content.Tie as tie
+use Rattle.contents.proofs.content.check_content.Reads as reads
+use Rattle.contents.proofs.content.check_content.Lts as lts
+use Rattle.contents.proofs.content.ident_stands.Reads as ident-stands-reads
+use Rattle.contents.proofs.content.rest_right.Reads as rest-right-reads
+use Rattle.contents.proofs.identifier.is_stored.Reads as is-stored-reads
+use Rattle.skeleton.proofs.place.place_at.Reads as place-at-reads
+
+place-at-requires : tie.Need-place-at-requires
+place-at-requires c κs = search needs
+
+enum-known-start : tie.Need-enum-known-start
+enum-known-start c = search needs
+
+ident-stands-requires : tie.Need-ident-stands-requires
+ident-stands-requires c κs = search step-bounds
+
+enum-told : tie.Need-enum-told
+enum-told c = search needs
+
+is-stored-requires : tie.Need-is-stored-requires
+is-stored-requires c κs = search step-bounds
+
+rest-right-requires : tie.Need-rest-right-requires
+rest-right-requires c κs = search (needs, step-second)
+
+enum-known-n : tie.Need-enum-known-n
+enum-known-n c = search needs
+
+enum-told-2 : tie.Need-enum-told-2
+enum-told-2 c = search needs
+
+returns : tie.Need-returns
+returns c = search five-ways
+
+returns-2 : tie.Need-returns-2
+returns-2 c = search five-ways
+
+returns-3 : tie.Need-returns-3
+returns-3 c = search five-ways
+
+pub check-content-spec : {M : Type 1} → statement M
+check-content-spec =
+    tie.close
+    (tie.spec
+    place-at-requires
+    enum-known-start
+    ident-stands-requires
+    enum-told
+    is-stored-requires
+    rest-right-requires
+    enum-known-n
+    enum-told-2
+    returns
+    returns-2
+    returns-3)

@@ -1,0 +1,100 @@
+// Number 5: subfields do not fill a field, or a value is out of its range.
+use crate::counts::check_counts;
+use crate::formats::format_of;
+use crate::formats::has_format;
+use crate::formats::ident_format;
+use crate::formats::insert_only;
+use crate::identifier::is_stored;
+use base::Verdict;
+use rules::Kind;
+use rules::Mode;
+use skeleton::directory::Shape;
+use skeleton::place::Place;
+use skeleton::place::place_at;
+ghost use mathlib.Core.Path.{_≡_};
+ghost use Prim.Native.Nat.{_≤_};
+ghost use lib.ListN.{length};
+ghost use Rattle.base.specs.Check.{bind};
+ghost use Rattle.base.specs.Verdict.{verdictOf};
+ghost use Rattle.skeleton.specs.Place.{between, fieldsAt};
+ghost use Rattle.skeleton.specs.Shape.{Bounded};
+ghost use Rattle.rules.specs.Grammar.{ruinByte, asStored};
+ghost use Rattle.rules.specs.Content.{insertOnly, identFormat, formatOf, stands, number5};
+ghost use Rattle.contents.specs.Answers.{standFrom, restRight};
+
+// Whether field i, r[start..end], has the format that its tag asks for.
+fn field_stands(r: &[u8], start: usize, end: usize, tag: u32, new: bool, i: usize) -> Verdict
+    requires { ⌜ (start ≤ end) × (end ≤ length (now r)) ⌝ }
+    ensures { λ v. ⌜ v ≡ verdictOf (stands i (formatOf new tag (between (now (r .entry)) start end)) (between (now (r .entry)) start end)) ⌝ }
+{
+    let b = &r[start..end];
+    has_format(i, format_of(new, tag, b), b)
+}
+
+// Whether each of the fields from the entry at p on, the second of the record, has its format.
+fn all_stand(r: &[u8], h: Shape, p: usize, new: bool) -> Verdict
+    requires { ⌜ Bounded h × (2 ≤ p) ⌝ }
+    ensures { λ v. ⌜ v ≡ standFrom (now (r .entry)) h new p 2 ⌝ }
+{
+    let mut q = p;
+    let mut i = 2;
+    loop {
+        match place_at(r, h, q) {
+            Place::At {
+                tag,
+                start,
+                end,
+                next,
+            } => match field_stands(r, start, end, tag, new, i) {
+                Verdict::Passed => {
+                    q = next;
+                    i += 1;
+                }
+                Verdict::Refused(n, f, t) => {
+                    return Verdict::Refused(n, f, t);
+                }
+            },
+            Place::Done => {
+                return Verdict::Passed;
+            }
+        }
+    }
+}
+
+// Whether the identifier r[start..end] has its format.
+fn ident_stands(r: &[u8], start: usize, end: usize, mode: Mode, k: Kind) -> Verdict
+    requires { ⌜ (start ≤ end) × (end ≤ length (now r)) ⌝ }
+    ensures { λ v. ⌜ v ≡ verdictOf (stands 1 (identFormat (insertOnly mode) k) (between (now (r .entry)) start end)) ⌝ }
+{
+    has_format(1, ident_format(insert_only(mode), k), &r[start..end])
+}
+
+// Whether the fields from the entry at p on, behind the identifier, have their formats, and NCOR is right.
+fn rest_right(r: &[u8], h: Shape, p: usize, new: bool) -> Verdict
+    requires { ⌜ Bounded h × (2 ≤ p) ⌝ }
+    ensures { λ v. ⌜ v ≡ restRight (now (r .entry)) h new p ⌝ }
+{
+    match all_stand(r, h, p, new) {
+        Verdict::Passed => check_counts(r, h, p),
+        Verdict::Refused(n, f, t) => Verdict::Refused(n, f, t),
+    }
+}
+
+// Number 5 of a record of kind k: the formats of its fields, and NCOR.
+pub fn check_content(r: &[u8], h: Shape, mode: Mode, k: Kind) -> Verdict
+    requires { ⌜ Bounded h ⌝ }
+    ensures { λ v. ⌜ v ≡ verdictOf (number5 mode k (fieldsAt (now (r .entry)) h 24)) ⌝ }
+{
+    match place_at(r, h, 24) {
+        Place::At {
+            tag: _,
+            start,
+            end,
+            next,
+        } => match ident_stands(r, start, end, mode, k) {
+            Verdict::Passed => rest_right(r, h, next, is_stored(r, start, end, mode, k)),
+            Verdict::Refused(n, f, t) => Verdict::Refused(n, f, t),
+        },
+        Place::Done => Verdict::Passed,
+    }
+}

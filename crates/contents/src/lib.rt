@@ -1,0 +1,6 @@
+// The contents of one record's fields: numbers 5, 6 and 7 within the record, and what its identifier says.
+pub mod content;
+pub mod counts;
+pub mod formats;
+pub mod identifier;
+pub mod trees;

@@ -1,0 +1,33 @@
+use Rattle.fields.proofs.FieldLaws.{count-fill}
+use mathlib.Core.Path.{sym, _∙_}
+use native.Mathlib.Omega.{arith}
+use borrow.Author.Needs.{needs}
+use Rattle.deep.proofs.acts_of.Statement.{statement}
+use Rattle.deep.proofs.acts_of.Tie as tie
+use Rattle.deep.proofs.acts_of.Reads as reads
+use Rattle.deep.proofs.acts_of.Lts as lts
+use Rattle.fields.proofs.tally_of.Reads as tally-of-reads
+use Rattle.tree.proofs.attr_acts.Reads as attr-acts-reads
+
+tally-of-requires : tie.Need-tally-of-requires
+tally-of-requires c κs = search needs
+
+enum-told : tie.Need-enum-told
+enum-told c = search needs
+
+attr-acts-requires : tie.Need-attr-acts-requires
+attr-acts-requires c κs = count-fill _ _ _ _ (sym (c .before .before .tally-of .ensures) ∙ c .enum-told .given .1)
+
+enum-told-2 : tie.Need-enum-told-2
+enum-told-2 c = search needs
+
+returns : tie.Need-returns
+returns c = search needs
+
+returns-2 : tie.Need-returns-2
+returns-2 c = search needs
+
+pub acts-of-spec : {M : Type 1} → statement M
+acts-of-spec =
+    tie.close
+    (tie.spec tally-of-requires enum-told attr-acts-requires enum-told-2 returns returns-2)

@@ -1,0 +1,2 @@
+pub mod GeneralLaws
+pub mod CarriedLaws

@@ -1,0 +1,68 @@
+use Rattle.opening.proofs.GeneralLaws.{general-ways}
+use native.Mathlib.Omega.{arith}
+use borrow.Author.Needs.{needs}
+use Rattle.opening.proofs.general.check_general.Statement.{statement}
+use Rattle.opening.proofs.general.check_general.Tie as tie
+use Rattle.opening.proofs.general.check_general.Reads as reads
+use Rattle.opening.proofs.general.check_general.Lts as lts
+use Rattle.contents.proofs.formats.has_format.Reads as has-format-reads
+use Rattle.opening.proofs.general.general_format.Reads as general-format-reads
+use Rattle.opening.proofs.general.unread_order.Reads as unread-order-reads
+use Rattle.skeleton.proofs.place.place_at.Reads as place-at-reads
+
+place-at-requires : tie.Need-place-at-requires
+place-at-requires c κs = search needs
+
+enum-known-tag : tie.Need-enum-known-tag
+enum-known-tag c = search needs
+
+returns : tie.Need-returns
+returns c = search general-ways
+
+unread-order-requires : tie.Need-unread-order-requires
+unread-order-requires c κs = search general-ways
+
+returns-2 : tie.Need-returns-2
+returns-2 c = search general-ways
+
+general-format-requires : tie.Need-general-format-requires
+general-format-requires c κs = search needs
+
+sub-has-format : tie.Need-sub-has-format
+sub-has-format c = search general-ways
+
+part-has-format-start : tie.Need-part-has-format-start
+part-has-format-start c = search general-ways
+
+part-has-format-end : tie.Need-part-has-format-end
+part-has-format-end c = search general-ways
+
+has-format-requires : tie.Need-has-format-requires
+has-format-requires c κs = search needs
+
+enum-told : tie.Need-enum-told
+enum-told c = search needs
+
+returns-3 : tie.Need-returns-3
+returns-3 c = search general-ways
+
+returns-4 : tie.Need-returns-4
+returns-4 c = search general-ways
+
+pub check-general-spec : {M : Type 1} → statement M
+check-general-spec =
+    tie.close
+    (tie.spec
+    place-at-requires
+    enum-known-tag
+    returns
+    unread-order-requires
+    returns-2
+    general-format-requires
+    sub-has-format
+    part-has-format-start
+    part-has-format-end
+    has-format-requires
+    enum-told
+    returns-3
+    returns-4)

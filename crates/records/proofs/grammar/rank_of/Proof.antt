@@ -1,0 +1,36 @@
+use Rattle.records.proofs.GrammarLaws.{rank-ways}
+use native.Mathlib.Omega.{arith}
+use borrow.Author.Needs.{needs}
+use Rattle.records.proofs.grammar.rank_of.Statement.{statement}
+use Rattle.records.proofs.grammar.rank_of.Tie as tie
+use Rattle.records.proofs.grammar.rank_of.Reads as reads
+use Rattle.records.proofs.grammar.rank_of.Lts as lts
+
+enum-told : tie.Need-enum-told
+enum-told c = search needs
+
+enum-told-2 : tie.Need-enum-told-2
+enum-told-2 c = search needs
+
+enum-told-3 : tie.Need-enum-told-3
+enum-told-3 c = search needs
+
+enum-told-4 : tie.Need-enum-told-4
+enum-told-4 c = search needs
+
+returns : tie.Need-returns
+returns c = search rank-ways
+
+returns-2 : tie.Need-returns-2
+returns-2 c = search rank-ways
+
+returns-3 : tie.Need-returns-3
+returns-3 c = search rank-ways
+
+returns-4 : tie.Need-returns-4
+returns-4 c = search rank-ways
+
+pub rank-of-spec : {M : Type 1} → statement M
+rank-of-spec =
+    tie.close
+    (tie.spec enum-told enum-told-2 enum-told-3 enum-told-4 returns returns-2 returns-3 returns-4)
