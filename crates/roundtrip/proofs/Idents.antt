@@ -13,7 +13,7 @@ use Rattle.fields.specs.Content.{Content, content}
 use Rattle.fields.specs.Valid.{passAll}
 use Rattle.fields.specs.declared.Format.{Format}
 use Rattle.fields.specs.declared.Format.the-variants.{Foid}
-use Rattle.fields.proofs.WiderLaws.{wider, format-wider}
+use Rattle.fields.proofs.WiderLaws.{format-wider}
 use Rattle.rules.specs.Kind.{rcnm, coded}
 use Rattle.rules.specs.Content.{identFormat}
 use Rattle.rules.specs.Record.{Rec, Ident, identOf, foidOf}
@@ -39,8 +39,8 @@ ident-values r s =
     let k = identFormat true (r .kind) in
     let b = puts (headOf k) (identVals r) in
     let (x, y) = head-back k (identVals r) (s .ident) in
-    let w : content (headOf k) (tupleOf k) b ≡ content (headOf (wider k)) (tupleOf (wider k)) b = format-wider k b x .1 in
-    ap (λ (f : Format). values (headOf f) b) (sym (ident-wider (r .kind))) ∙ sym (ap (λ (c : Content). c .head) w) ∙ y
+    let w = format-wider (ident-wider (r .kind)) b x .1 in
+    sym (ap (λ (c : Content). c .head) w) ∙ y
 
 -- what it says
 pub ident-again : (r : Rec) → SoundRec r → identOf (r .kind) (identBytes r) ≡ record { rcid = r .rcid; code = r .code; rver = r .rver; ruin = 1 }

@@ -11,3 +11,4 @@ pub mod Fields
 pub mod Order
 pub mod Record
 pub mod Dataset
+pub mod Answers

@@ -17,7 +17,7 @@ use Rattle.skeleton.specs.Writable.{TagFits, TagsFit}
 use Rattle.fields.specs.Table.{headOf, tupleOf}
 use Rattle.fields.specs.Valid.{Bytes}
 use Rattle.fields.specs.declared.Format.the-variants.{Dsid, DsidUpdate}
-use Rattle.fields.proofs.WiderLaws.{format-wider}
+use Rattle.fields.proofs.WiderLaws.{dsid, format-wider}
 use Rattle.rules.specs.Tags.{DSID, generalTags}
 use Rattle.rules.specs.ByTag.{withTag}
 use Rattle.rules.specs.Kind.{Row, once, generalRows}
@@ -161,7 +161,7 @@ merged-stands old new e f =
     let single-all : Each (λ t. Single t (newer old new t)) generalTags =
     each-map generalTags (λ t q. newer-by (Single t) old new t (single InDataset old a t (q .0) (q .1)) (single InUpdate new b t (q .0) (q .1))) tags-fine in
     let o = in-rows old new 2 single-all in
-    let d = fill-stands 1 Dsid (b .first .body) (format-wider DsidUpdate (b .first .body) (stands-fill 1 DsidUpdate (b .first .body) (update-format (b .first) (b .format))) .0) in
+    let d = fill-stands 1 Dsid (b .first .body) (format-wider dsid (b .first .body) (stands-fill 1 DsidUpdate (b .first .body) (update-format (b .first) (b .format))) .0) in
     rw (ap (take 1) (b .is)) (rw (eq-eqb (b .first .tag) DSID (b .tag), o) d)
   where
     in-rows : (old new : List Field) (i : ℕ) → Each (λ t. Single t (newer old new t)) generalTags → inOrder (λ t. false) generalRows i (gather (newer old new) generalTags) ≡ pass

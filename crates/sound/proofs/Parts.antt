@@ -21,7 +21,7 @@ use Rattle.fields.specs.Valid.{Bytes, passAll}
 use Rattle.fields.specs.Places.{endingAt}
 use Rattle.fields.specs.declared.Format.the-variants.{Foid, AttrNew, Spas, SpasNew, C2il}
 use Rattle.fields.proofs.TupleLaws.{tuples-end}
-use Rattle.fields.proofs.WiderLaws.{format-wider}
+use Rattle.fields.proofs.WiderLaws.{spas, format-wider}
 use Rattle.forest.specs.Forest.{Forest, nil, tuplesOf, tuplesFrom, p-nil}
 use Rattle.forest.specs.Rule.{treeOf}
 use Rattle.forest.proofs.TreeLaws.{tree-complete}
@@ -99,7 +99,7 @@ list-part k b s = list-read b (s .bytes) (s .formed)
 -- spatial associations
 spatial-part : (k : Kind) (b : List ℕ) → At k SPAS b → Each (λ vs. SoundSpatial (spatialOf vs)) (many (tupleOf Spas) b)
 unfolding formatOf
-spatial-part k b s = spatial-read b (s .bytes) (format-wider SpasNew b (s .formed) .0)
+spatial-part k b s = spatial-read b (s .bytes) (format-wider spas b (s .formed) .0)
 
 -- ---- which parts there are
 

@@ -15,7 +15,7 @@ use Rattle.fields.specs.Valid.{Bytes}
 use Rattle.fields.specs.declared.Format.{Format}
 use Rattle.fields.proofs.ByteLaws.{le1}
 use Rattle.fields.proofs.ValueLaws.{head-number}
-use Rattle.fields.proofs.WiderLaws.{wider, format-wider}
+use Rattle.fields.proofs.WiderLaws.{Wide, irid, prid, mrid, frid, format-wider}
 use Rattle.rules.specs.Tags.{COCC}
 use Rattle.rules.specs.ByTag.{withTag, has}
 use Rattle.rules.specs.Kind.{kindOf, rank, coded, rowsOf}
@@ -83,18 +83,18 @@ either-inv false b e h = absurd-of h
 
 -- ---- the identifier
 
--- the wider format of an identifier
-pub ident-wider : (k : Kind) → wider (identFormat true k) ≡ identFormat false k
+-- the format of an update's identifier is the wider one
+pub ident-wider : (k : Kind) → Wide (identFormat true k) (identFormat false k)
 unfolding identFormat
-ident-wider Info = refl
-ident-wider Point = refl
-ident-wider Multi = refl
-ident-wider Feature = refl
+ident-wider Info = irid
+ident-wider Point = prid
+ident-wider Multi = mrid
+ident-wider Feature = frid
 
 -- an identifier that passed has the wider format
 ident-has : (m : Mode) (k : Kind) (b : List ℕ) → Has (identFormat (insertOnly m) k) b → Has (identFormat false k) b
 unfolding insertOnly
-ident-has InDataset k b e = rw (ident-wider k) at (format-wider (identFormat true k) b e .0)
+ident-has InDataset k b e = format-wider (ident-wider k) b e .0
 ident-has InUpdate k b e = e
 
 -- the byte in RUIN's place is RUIN
