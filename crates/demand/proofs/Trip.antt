@@ -1,8 +1,8 @@
 -- What came from reading and updating is read again from its written form; so demand 3 holds of every publisher. Assumes nothing.
 use mathlib.Core.Path.{_≡_}
-use Rattle.rules.specs.Written.{Dataset, writtenBytes}
+use Rattle.rules.specs.Written.{Dataset}
 use Rattle.rules.specs.Outcome.{done}
-use Rattle.rules.specs.File.{readDataset, writable}
+use Rattle.rules.specs.File.{writable}
 use Rattle.updates.proofs.Kept.{result-writable}
 use Rattle.sound.specs.Sound.{Sound}
 use Rattle.sound.proofs.Read.{read-sound}

@@ -1,11 +1,10 @@
 -- A sound record is read again, part by part, from its written fields. Assumes nothing.
 use Prim.Native.Nat.{ℕ, _≤_}
-use mathlib.Core.Path.{_≡_, refl, sym, ap, ap₂, _∙_}
-use mathlib.Core.Bool.{Bool, true, false}
+use mathlib.Core.Path.{_≡_, refl, ap, ap₂, _∙_}
+use mathlib.Core.Bool.{true}
 use mathlib.Core.List.{List, [], _∷_, _++_, append-nil}
 use native.Mathlib.Omega.{arith}
 use lib.ListN.{length, getD}
-use Rattle.base.specs.Check.{ok, pass}
 use Rattle.base.specs.Lists.{each, gather}
 use Rattle.base.specs.Walk.{Got}
 use Rattle.fields.specs.Table.{headOf, tupleOf}
@@ -16,12 +15,11 @@ use Rattle.fields.specs.declared.Format.the-variants.{Foid, Spas}
 use Rattle.fields.proofs.SizeLaws.{widths}
 use Rattle.fields.proofs.TupleLaws.{tuples-end}
 use Rattle.fields.proofs.DecodeLaws.{length-numbers}
-use Rattle.forest.specs.Forest.{Forest}
 use Rattle.rules.specs.Tags.{FOID, ATTR, INAS, SPAS, C2IT, C2IL}
 use Rattle.rules.specs.ByTag.{bodies, front}
 use Rattle.rules.specs.Trees.{attrTree}
 use Rattle.rules.specs.Coordinates.{coordsIn}
-use Rattle.rules.specs.Record.{Rec, Parts, Assoc, Ident, identOf, foidOf, standing, assocOf, spatialOf, partsOf, recOf}
+use Rattle.rules.specs.Record.{Rec, Assoc, identOf, foidOf, standing, assocOf, spatialOf, partsOf, recOf}
 use Rattle.rules.specs.Written.{nums, treeBytes, assocField, identBytes, writtenFields}
 use Rattle.rules.specs.declared.Kind.{Kind}
 use Rattle.rules.specs.declared.Kind.the-variants.{Info, Point, Multi, Feature}

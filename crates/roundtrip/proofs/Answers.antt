@@ -1,16 +1,13 @@
 -- Written forms at reader, writer and updater: what was written is read as the same dataset and written again as it is. Assumes nothing.
 use Prim.Native.Nat.{ℕ, _-_, _≤_}
-use mathlib.Core.Path.{_≡_, refl, sym, ap, _∙_, subst}
-use mathlib.Core.Bool.{Bool, true, false}
+use mathlib.Core.Path.{_≡_, sym, ap, _∙_, subst}
 use mathlib.Core.List.{List, _++_}
 use borrow.Author.Tests.{le-ltb, ltb-false}
 use lib.ListN.{length, replicate}
 use lib.Dec.{ltb}
-use Rattle.base.specs.Choice.{pick}
-use Rattle.base.specs.Check.{fault}
 use Rattle.fields.specs.Valid.{Bytes}
 use Rattle.rules.specs.Written.{Dataset, writtenBytes, count}
-use Rattle.rules.specs.Outcome.{Outcome, done, refused, andThen}
+use Rattle.rules.specs.Outcome.{done, andThen}
 use Rattle.rules.specs.File.{readDataset, writable, Sent, readUpdate}
 use Rattle.rules.specs.Update.{updated}
 use Rattle.rules.specs.Answers.{success, notTooLong, readOutcome, readAnswer, read, Written, roomFor, outputOf, writeOutcome, write, enoughWork, updateOutcome}
@@ -22,6 +19,7 @@ use Rattle.sound.specs.Sound.{Sound}
 use Rattle.sound.proofs.Read.{read-sound}
 use Rattle.sound.proofs.Updated.{updated-sound}
 use Rattle.roundtrip.proofs.Dataset.{round-trip}
+use Rattle.roundtrip.proofs.Bytes.{written-bytes}
 
 -- its bytes, and the count of its records
 abbrev pub formOf : Dataset → Written
@@ -80,19 +78,35 @@ pub record Form (w : Written) (d : Dataset) : Type 0 where
   pub isForm : w ≡ formOf d
   pub isShort : length (w .bytes) ≤ 16777216
 
--- it is read as that dataset, and written again as it is wherever there is room
+-- what a reader, a writer and an updater make of it
 module _ (w : Written) (d : Dataset) (f : Form w d) where
+  -- the dataset's written form is not too long
   short-form : length (writtenBytes d) ≤ 16777216
   short-form = subst (λ (v : Written). length (v .bytes) ≤ 16777216) (f .isForm) (f .isShort)
 
+  -- it is read as that dataset
   pub form-reads : readOutcome (w .bytes) ≡ done d
   form-reads = ap (λ (v : Written). readOutcome (v .bytes)) (f .isForm) ∙ reads d (f .sound) (f .isWritable) short-form
 
+  -- it is made of bytes
+  pub form-bytes : Bytes (w .bytes)
+  form-bytes = subst (λ (v : Written). Bytes (v .bytes)) (sym (f .isForm)) (written-bytes d (f .sound))
+
+  -- it is written again as it is wherever there is room
   pub form-writes : (room : ℕ) → length (w .bytes) ≤ room → writeOutcome room (w .bytes) ≡ done w
   form-writes room h =
       ap (λ (v : Written). writeOutcome room (v .bytes)) (f .isForm)
       ∙ writes d (f .sound) (f .isWritable) short-form room (subst (λ (v : Written). length (v .bytes) ≤ room) (f .isForm) h)
       ∙ ap done (sym (f .isForm))
+
+  -- as the next dataset it is refused nowhere: what is left of the updater's tests is the workspace, the update, and the result
+  pub form-updates : (room work : ℕ) (g : List ℕ)
+      → updateOutcome room work (w .bytes) g
+      ≡ andThen (enoughWork work) (λ _. andThen (notTooLong 2 g) (λ _. andThen (readUpdate g) (λ u. andThen (updated d u) (λ r. roomFor room r))))
+  unfolding updateOutcome andThen
+  form-updates room work g =
+      ap (λ (v : Written). updateOutcome room work (v .bytes) g) (f .isForm)
+      ∙ rw (short d (f .sound) (f .isWritable) short-form 1, round-trip d (f .sound) (f .isWritable), f .isWritable)
 
 -- what the writer has written of a file of bytes
 pub write-form : (room : ℕ) (f : List ℕ) (w : Written) → Bytes f → writeOutcome room f ≡ done w → (d : Dataset) × (readDataset f ≡ done d) × Form w d

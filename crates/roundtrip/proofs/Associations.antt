@@ -1,15 +1,13 @@
 -- An association of a sound record is read again from its written field. Assumes nothing.
-use Prim.Native.Nat.{ℕ, _≤_}
-use mathlib.Core.Path.{_≡_, refl, sym, ap, _∙_}
-use mathlib.Core.Bool.{true, false}
-use mathlib.Core.List.{List, [], _∷_, _++_}
+use Prim.Native.Nat.{_≤_}
+use mathlib.Core.Path.{_≡_, ap, _∙_}
 use lib.ListN.{length}
 use Rattle.base.specs.Check.{ok}
 use Rattle.base.specs.Lists.{each}
 use Rattle.fields.specs.Table.{headOf, tupleOf}
 use Rattle.fields.specs.Content.{Content, content, encode}
 use Rattle.fields.specs.Valid.{valid}
-use Rattle.fields.specs.declared.Format.the-variants.{InasNew, AttrNew}
+use Rattle.fields.specs.declared.Format.the-variants.{InasNew}
 use Rattle.fields.proofs.DecodeLaws.{encode-fill}
 use Rattle.forest.specs.Forest.{tuplesOf}
 use Rattle.forest.specs.Rule.{treeOf}

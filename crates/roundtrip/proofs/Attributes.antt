@@ -1,13 +1,12 @@
 -- The attributes of a sound record are read again from their written tuples. Assumes nothing.
-use Prim.Native.Nat.{ℕ, suc, _+_, _*_, _≤_, _<_}
-use mathlib.Core.Path.{_≡_, refl, sym, ap, ap₂, _∙_}
-use mathlib.Core.Bool.{true, false}
-use mathlib.Core.List.{List, [], _∷_, _++_}
+use Prim.Native.Nat.{_+_, _*_, _≤_}
+use mathlib.Core.Path.{_≡_, refl, ap, _∙_}
+use mathlib.Core.Bool.{true}
+use mathlib.Core.List.{List, [], _∷_}
 use native.Mathlib.Omega.{arith}
 use borrow.Author.Tests.{lt-ltb, le-leb}
 use lib.ListN.{length, length-append}
-use Rattle.base.specs.Choice.{both}
-use Rattle.base.specs.Check.{ok, pass, passed, bind}
+use Rattle.base.specs.Check.{ok}
 use Rattle.base.specs.Lists.{each, gather}
 use Rattle.base.specs.Walk.{Got}
 use Rattle.fields.specs.Table.{code, count, insert, headOf, tupleOf}
@@ -25,9 +24,8 @@ use Rattle.forest.proofs.TreeLaws.{tree-complete}
 use Rattle.forest.proofs.TuplesLaws.{tuples-length}
 use Rattle.rules.specs.Trees.{tupOf, attrTree}
 use Rattle.rules.specs.Written.{tupVals, treeBytes}
-use Rattle.sequence.specs.Keyed.{Each}
 use Rattle.sound.specs.Sound.{Attributes}
-use Rattle.sound.proofs.Lists.{each-map, each-each}
+use Rattle.sound.proofs.Lists.{each-map}
 use Rattle.sound.proofs.Values.{both-too, pass-each}
 use Rattle.sound.proofs.Trees.{Small, tuples-small}
 use Rattle.sound.proofs.Stand.{Has}
@@ -60,7 +58,7 @@ tuple-pass t s =
     both-too (s .good .0)
     (both-too (both-too (lt-ltb (t .atix) 65536 (omega arith)) (both-too (le-leb 1 (t .atix) (s .some)) (le-leb (t .atix) 65534 l)))
     (both-too (both-too (lt-ltb (t .paix) 65536 (s .parent)) refl)
-    (both-too refl (both-too (s .good .1) refl))))
+    (both-too refl (both-too (s .good .1 .taken) refl))))
 
 -- ---- a tree
 

@@ -1,18 +1,16 @@
 -- The bodies of a written record's fields, tag by tag. Assumes nothing.
 use Prim.Native.Nat.{ℕ}
 use mathlib.Core.Path.{_≡_, refl, sym, ap, ap₂, _∙_}
-use mathlib.Core.Bool.{Bool, true, false}
+use mathlib.Core.Bool.{false}
 use mathlib.Core.List.{List, [], _∷_, _++_, append-nil}
 use lib.Dec.{eqb}
 use borrow.Author.Tests.{eq-eqb}
-use Rattle.base.specs.Choice.{pick}
 use Rattle.base.specs.Lists.{each, gather}
-use Rattle.skeleton.specs.File.{Field}
 use Rattle.rules.specs.Tags.{FOID, ATTR, INAS, SPAS, C2IT, C2IL}
 use Rattle.rules.specs.ByTag.{withTag, bodies}
 use Rattle.rules.specs.Kind.{tagOf}
-use Rattle.rules.specs.Record.{Rec, Parts, Assoc}
-use Rattle.rules.specs.Written.{fieldAs, listField, treeBytes, assocField, coordTag, partFields, writtenFields}
+use Rattle.rules.specs.Record.{Rec, Assoc}
+use Rattle.rules.specs.Written.{listField, treeBytes, assocField, coordTag, partFields, writtenFields}
 use Rattle.rules.specs.declared.Kind.{Kind}
 use Rattle.rules.specs.declared.Kind.the-variants.{Info, Point, Multi, Feature}
 use Rattle.sound.proofs.Bodies.{bodies-join, bodies-skip}
@@ -65,9 +63,11 @@ parts-as : (a a′ b b′ c c′ d d′ e e′ : List (List ℕ)) → a ≡ a′
 parts-as a a′ b b′ c c′ d d′ e e′ p q r s t = rw (p, q, r, s, t)
 
 module _ (r : Rec) where
+  -- the bytes of its coordinates
   abbrev coords : List ℕ
   coords = coordBytes (r .parts .coordinates)
 
+  -- those of its spatial associations
   abbrev spatial : List ℕ
   spatial = spatialBytes (r .parts .spatial)
 
@@ -87,7 +87,7 @@ module _ (r : Rec) where
       ∙ ap (λ (l : List (List ℕ)). bodies t (each assocField (r .parts .associations)) ++ l)
       (bodies-join t (listField (coordTag (r .kind)) coords) (listField SPAS spatial))))
 
--- the tags of identifiers and coordinates among the others
+-- the tag of an identifier is no other field's
 tag-apart : (k : Kind) → (eqb (tagOf k) FOID ≡ false) × (eqb (tagOf k) ATTR ≡ false) × (eqb (tagOf k) INAS ≡ false) × (eqb (tagOf k) SPAS ≡ false) × (eqb (tagOf k) C2IT ≡ false) × (eqb (tagOf k) C2IL ≡ false)
 unfolding tagOf
 tag-apart Info = (refl, refl, refl, refl, refl, refl)
@@ -95,6 +95,7 @@ tag-apart Point = (refl, refl, refl, refl, refl, refl)
 tag-apart Multi = (refl, refl, refl, refl, refl, refl)
 tag-apart Feature = (refl, refl, refl, refl, refl, refl)
 
+-- nor is that of coordinates
 coord-apart : (k : Kind) → (eqb (coordTag k) FOID ≡ false) × (eqb (coordTag k) ATTR ≡ false) × (eqb (coordTag k) INAS ≡ false) × (eqb (coordTag k) SPAS ≡ false)
 unfolding coordTag
 coord-apart Info = (refl, refl, refl, refl)

@@ -1,16 +1,14 @@
 -- Coordinates of a sound record are read again from their written tuples. Assumes nothing.
 use Prim.Native.Nat.{ℕ, _<_}
-use mathlib.Core.Path.{_≡_, refl, sym, ap, _∙_}
-use mathlib.Core.Bool.{true, false}
-use mathlib.Core.List.{List, [], _∷_, _++_, append-nil}
+use mathlib.Core.Path.{_≡_, refl, ap, _∙_}
+use mathlib.Core.List.{List, [], _∷_, append-nil}
 use native.Mathlib.Omega.{arith}
 use lib.ListN.{length}
 use Rattle.base.specs.Lists.{each, gather}
 use Rattle.base.specs.Walk.{Got}
 use Rattle.fields.specs.Table.{headOf, tupleOf}
 use Rattle.fields.specs.Values.{Val, puts, putAll}
-use Rattle.fields.specs.Content.{tuples, many, fill}
-use Rattle.fields.specs.Valid.{passEach}
+use Rattle.fields.specs.Content.{tuples, many}
 use Rattle.fields.specs.Places.{endingAt}
 use Rattle.fields.specs.declared.Format.the-variants.{C2it, C2il}
 use Rattle.fields.proofs.FieldLaws.{list-fill}

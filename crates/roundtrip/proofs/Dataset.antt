@@ -1,31 +1,25 @@
 -- The round trip: a sound dataset each record of which can be written is read again from its written form, the same. Assumes nothing.
-use Prim.Native.Nat.{ℕ, suc, _+_, _/_, _^_, _≤_, _<_}
+use Prim.Native.Nat.{ℕ, _+_, _≤_, _<_}
 use mathlib.Core.Path.{_≡_, refl, sym, ap, _∙_}
-use mathlib.Core.Bool.{Bool, true, false, true≢false}
-use mathlib.Core.Option.{Option, some, none}
-use mathlib.Core.List.{List, [], _∷_, _++_}
+use mathlib.Core.Bool.{true, false, true≢false}
+use mathlib.Core.Option.{some, none}
+use mathlib.Core.List.{List, [], _∷_}
 use native.Mathlib.Omega.{arith}
 use borrow.Author.Tests.{lt-leb}
-use lib.ListN.{length, drop}
-use lib.Dec.{eqb, leb}
-use Rattle.base.specs.Choice.{pick, either}
+use lib.ListN.{length}
 use Rattle.base.specs.Check.{Check, ok, bind, pass}
 use Rattle.base.specs.Lists.{each}
 use Rattle.base.specs.Keys.{same, among}
-use Rattle.base.specs.Walk.{Got}
 use Rattle.base.proofs.KeysLaws.{same-sound, same-refl}
 use Rattle.skeleton.specs.File.{Field, recordsOf}
-use Rattle.skeleton.specs.Emit.{lengthOf}
 use Rattle.skeleton.specs.Writable.{TagFits, TagsFit, Widths, Writable, AllWritable}
 use Rattle.skeleton.proofs.EmitFileLaws.{writable as writable-fields, file-back}
-use Rattle.rules.specs.Tags.{FOID, ATTR, INAS, SPAS, C2IT, C2IL}
-use Rattle.rules.specs.ByTag.{firstTag}
+use Rattle.rules.specs.Tags.{FOID, ATTR, SPAS}
 use Rattle.rules.specs.Kind.{tagOf, rank}
 use Rattle.rules.specs.Associations.{marks, number11}
-use Rattle.rules.specs.Record.{Rec, Assoc, keyOf, datasetRecord}
-use Rattle.rules.specs.General.{generalRecord}
-use Rattle.rules.specs.Written.{Dataset, fieldAs, listField, assocField, coordTag, partFields, writtenFields, number12, written, writtenBytes}
-use Rattle.rules.specs.Outcome.{Outcome, done, andThen, at, everyRecord}
+use Rattle.rules.specs.Record.{Rec, Assoc, keyOf}
+use Rattle.rules.specs.Written.{Dataset, listField, assocField, coordTag, partFields, writtenFields, number12, written, writtenBytes}
+use Rattle.rules.specs.Outcome.{done, andThen, at, everyRecord}
 use Rattle.rules.specs.File.{lastRank, datasetTest, through, ending, taken, datasetOf, references, readDataset, writable}
 use Rattle.rules.specs.declared.Kind.{Kind}
 use Rattle.rules.specs.declared.Kind.the-variants.{Info, Point, Multi, Feature}
@@ -33,12 +27,11 @@ use Rattle.rules.proofs.OutcomeLaws.{andThen-inv}
 use Rattle.sequence.specs.Keyed.{Each, Ordered, Once, find}
 use Rattle.sequence.proofs.Tests.{by-bool, never}
 use Rattle.updates.specs.Acts.{chart}
-use Rattle.updates.specs.Sorted.{Sorted}
 use Rattle.updates.proofs.Steps.{placed}
 use Rattle.updates.proofs.Kept.{every-done, every-inv, each-of, of-each}
-use Rattle.sound.specs.Sound.{SoundRec, Named, Carried, Sound}
-use Rattle.sound.proofs.Lists.{each-map, each-zip, each-join}
-use Rattle.sound.proofs.General.{fits-each, each-fits}
+use Rattle.sound.specs.Sound.{SoundRec, Sound}
+use Rattle.sound.proofs.Lists.{each-zip, each-join}
+use Rattle.sound.proofs.General.{each-fits}
 use Rattle.sound.proofs.Read.{test-later}
 use Rattle.roundtrip.proofs.Room.{short}
 use Rattle.roundtrip.proofs.Record.{eleven-passes, record-reads}
@@ -110,6 +103,7 @@ pub record Fitting (d : Dataset) : Type 0 where
   pub systems : number12 (d .systems) ≡ pass
   pub records : Each (λ r. number12 (writtenFields r) ≡ pass) (d .records)
 
+-- a dataset that can be written
 pub fitting : (d : Dataset) → writable d ≡ done d → Fitting d
 unfolding writable written Each
 fitting d e =

@@ -1,30 +1,27 @@
 -- The written fields of a sound record have their formats and their trees, and none is a COCC. Assumes nothing.
 use Prim.Native.Nat.{ℕ, _+_, _≤_}
-use mathlib.Core.Path.{_≡_, refl, sym, ap, _∙_}
-use mathlib.Core.Bool.{Bool, true, false}
+use mathlib.Core.Path.{_≡_, refl}
+use mathlib.Core.Bool.{true, false}
 use mathlib.Core.List.{List, [], _∷_, _++_}
 use lib.ListN.{length}
 use lib.Dec.{eqb}
-use Rattle.base.specs.Choice.{pick, both}
-use Rattle.base.specs.Check.{Check, ok, bind, Passed, pass, passed}
+use Rattle.base.specs.Check.{Check, ok, bind, pass, passed}
 use Rattle.base.specs.Lists.{each, gather}
 use Rattle.skeleton.specs.File.{Field}
-use Rattle.fields.specs.Table.{headOf, tupleOf}
+use Rattle.fields.specs.Table.{headOf}
 use Rattle.fields.specs.Values.{puts, putAll}
-use Rattle.fields.specs.Valid.{passAll}
-use Rattle.fields.specs.declared.Format.the-variants.{Foid}
-use Rattle.rules.specs.Tags.{FOID, ATTR, INAS, SPAS, COCC, C2IT, C2IL}
-use Rattle.rules.specs.Content.{inasFormat, formatOf, miscounts, counted}
-use Rattle.rules.specs.Coordinates.{Coord, placeIn}
+use Rattle.rules.specs.Tags.{FOID, ATTR, SPAS, COCC, C2IT, C2IL}
+use Rattle.rules.specs.Content.{inasFormat, formatOf, counted}
+use Rattle.rules.specs.Coordinates.{Coord}
 use Rattle.rules.specs.Trees.{attrTree, inasTree, treeStands}
-use Rattle.rules.specs.Record.{Rec, Parts, Assoc}
+use Rattle.rules.specs.Record.{Rec, Assoc}
 use Rattle.rules.specs.Written.{fieldAs, listField, nums, treeBytes, assocField, coordTag, partFields}
 use Rattle.rules.specs.declared.Kind.{Kind}
 use Rattle.rules.specs.declared.Kind.the-variants.{Info, Point, Multi, Feature}
 use Rattle.sequence.specs.Keyed.{Each}
 use Rattle.updates.proofs.Kept.{of-each}
-use Rattle.sound.specs.Sound.{SoundAssoc, SoundCoord, Counted, SoundParts, SoundFoid, SoundRec}
-use Rattle.sound.proofs.Lists.{each-map, each-zip, each-join}
+use Rattle.sound.specs.Sound.{SoundAssoc, SoundCoord, Counted, SoundFoid, SoundRec}
+use Rattle.sound.proofs.Lists.{each-zip, each-join}
 use Rattle.sound.proofs.Stand.{Has, Formed}
 use Rattle.roundtrip.proofs.Attributes.{attr-has, attr-tree}
 use Rattle.roundtrip.proofs.Associations.{inas-has, inas-tree}
@@ -111,6 +108,7 @@ fine-foid Feature foid e = fine-list FOID (foidBytes foid) (unfold formatOf tree
 abbrev pub restOf : Rec → List Field
 restOf r = listField FOID (foidBytes (r .foid)) ++ partFields (r .kind) (r .parts)
 
+-- each of them is fine
 pub fine-rest : (r : Rec) → SoundRec r → Roomy r → Each Fine (restOf r)
 unfolding partFields
 fine-rest r s m =

@@ -1,13 +1,11 @@
 -- A head that is written alone fills its field and is read again. Assumes nothing.
-use Prim.Native.Nat.{ℕ}
-use mathlib.Core.Path.{_≡_, refl, sym, ap, _∙_}
-use mathlib.Core.Bool.{true, false}
-use mathlib.Core.List.{List, [], _∷_, _++_, append-nil}
-use lib.ListN.{length}
+use mathlib.Core.Path.{_≡_, refl, ap}
+use mathlib.Core.Bool.{true}
+use mathlib.Core.List.{List, [], _++_, append-nil}
 use Rattle.base.specs.Lists.{gather}
 use Rattle.fields.specs.Table.{headOf, tupleOf}
 use Rattle.fields.specs.Values.{Val, values, puts, putAll}
-use Rattle.fields.specs.Content.{Content, content, encode, fill}
+use Rattle.fields.specs.Content.{Content, content, encode}
 use Rattle.fields.specs.Valid.{passAll, passEach, valid}
 use Rattle.fields.specs.declared.Format.{Format}
 use Rattle.fields.proofs.DecodeLaws.{encode-fill}

@@ -1,22 +1,19 @@
 -- The identifier and the FOID of a sound record are read again. Assumes nothing.
 use Prim.Native.Nat.{ℕ}
 use mathlib.Core.Path.{_≡_, refl, sym, ap, _∙_}
-use mathlib.Core.Bool.{Bool, true, false}
-use mathlib.Core.List.{List, [], _∷_, _++_}
+use mathlib.Core.Bool.{true, false}
+use mathlib.Core.List.{List, [], _∷_}
 use native.Mathlib.Omega.{arith}
-use lib.ListN.{length}
-use Rattle.base.specs.Choice.{pick}
 use Rattle.base.specs.Lists.{each}
-use Rattle.fields.specs.Table.{headOf, tupleOf}
-use Rattle.fields.specs.Values.{Val, num, values, numAt, puts}
+use Rattle.fields.specs.Table.{headOf}
+use Rattle.fields.specs.Values.{values, numAt, puts}
 use Rattle.fields.specs.Content.{Content, content}
 use Rattle.fields.specs.Valid.{passAll}
-use Rattle.fields.specs.declared.Format.{Format}
 use Rattle.fields.specs.declared.Format.the-variants.{Foid}
 use Rattle.fields.proofs.WiderLaws.{format-wider}
-use Rattle.rules.specs.Kind.{rcnm, coded}
+use Rattle.rules.specs.Kind.{coded}
 use Rattle.rules.specs.Content.{identFormat}
-use Rattle.rules.specs.Record.{Rec, Ident, identOf, foidOf}
+use Rattle.rules.specs.Record.{Rec, identOf, foidOf}
 use Rattle.rules.specs.Written.{nums, identBytes}
 use Rattle.sequence.proofs.Tests.{by-bool}
 use Rattle.sound.specs.Sound.{identVals, SoundRec}

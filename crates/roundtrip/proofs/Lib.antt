@@ -11,4 +11,6 @@ pub mod Fields
 pub mod Order
 pub mod Record
 pub mod Dataset
+pub mod Low
+pub mod Bytes
 pub mod Answers

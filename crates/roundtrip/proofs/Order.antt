@@ -1,30 +1,24 @@
 -- The written fields of a sound record stand in the order of its kind, and none that is needed is missing. Assumes nothing.
 use Prim.Native.Nat.{ℕ, _+_, _<_}
-use mathlib.Core.Path.{_≡_, refl, sym, ap, _∙_}
-use mathlib.Core.Bool.{Bool, true, false, not}
-use mathlib.Core.Option.{Option, some, none}
+use mathlib.Core.Path.{_≡_, refl}
+use mathlib.Core.Bool.{Bool, true, false}
+use mathlib.Core.Option.{some}
 use mathlib.Core.List.{List, [], _∷_, _++_, append-nil}
 use native.Mathlib.Omega.{arith}
 use lib.ListN.{length}
 use lib.Dec.{eqb}
 use borrow.Author.Tests.{eq-eqb}
-use Rattle.base.specs.Choice.{pick, both, either}
-use Rattle.base.specs.Check.{Passed, pass}
-use Rattle.base.specs.Lists.{each, gather, empty}
+use Rattle.base.specs.Check.{pass}
+use Rattle.base.specs.Lists.{each, empty}
 use Rattle.skeleton.specs.File.{Field}
-use Rattle.fields.specs.Table.{headOf, tupleOf}
-use Rattle.fields.specs.Values.{putAll}
-use Rattle.fields.specs.Valid.{passAll}
-use Rattle.fields.specs.declared.Format.the-variants.{Foid}
 use Rattle.rules.specs.Tags.{FOID, ATTR, INAS, SPAS, COCC, C2IT, C2IL}
-use Rattle.rules.specs.ByTag.{withTag, has, bodies}
+use Rattle.rules.specs.ByTag.{withTag, has}
 use Rattle.rules.specs.Kind.{Row, once, needs, any, rowsOf}
 use Rattle.rules.specs.Grammar.{rowsAfter, inOrder, complete}
-use Rattle.rules.specs.Record.{Rec, Parts, Assoc}
-use Rattle.rules.specs.Written.{fieldAs, listField, treeBytes, assocField, coordTag, partFields}
+use Rattle.rules.specs.Record.{Assoc}
+use Rattle.rules.specs.Written.{fieldAs, listField, assocField, coordTag}
 use Rattle.rules.specs.declared.Kind.{Kind}
 use Rattle.rules.specs.declared.Kind.the-variants.{Info, Point, Multi, Feature}
-use Rattle.sound.specs.Sound.{Counted, SoundParts, SoundFoid, SoundRec}
 
 -- what a kind lacks has no bytes
 abbrev pub Empties : Kind → List ℕ → List ℕ → List ℕ → List ℕ → Type 0

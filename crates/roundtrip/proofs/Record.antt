@@ -1,18 +1,16 @@
 -- The written fields of a sound record pass 4 to 7 and are read as that record. Assumes nothing.
-use Prim.Native.Nat.{ℕ, _+_, _≤_, _<_}
-use mathlib.Core.Path.{_≡_, refl, sym, ap, _∙_}
-use mathlib.Core.Bool.{Bool, true, false}
-use mathlib.Core.Option.{Option, some, none}
-use mathlib.Core.List.{List, [], _∷_, _++_}
+use Prim.Native.Nat.{ℕ, _≤_, _<_}
+use mathlib.Core.Path.{_≡_, refl, _∙_}
+use mathlib.Core.Bool.{true, false}
+use mathlib.Core.Option.{some}
+use mathlib.Core.List.{List, []}
 use native.Mathlib.Omega.{arith}
 use borrow.Author.Tests.{le-ltb}
 use lib.ListN.{length}
-use lib.Dec.{eqb, ltb}
-use Rattle.base.specs.Choice.{pick, either}
-use Rattle.base.specs.Check.{Check, ok, bind, pass}
+use lib.Dec.{eqb}
+use Rattle.base.specs.Check.{ok, bind, pass}
 use Rattle.base.specs.Lists.{each, gather}
 use Rattle.base.specs.Keys.{among}
-use Rattle.skeleton.specs.File.{Field}
 use Rattle.fields.specs.Table.{headOf, tupleOf}
 use Rattle.fields.specs.Values.{putAll}
 use Rattle.fields.specs.declared.Format.the-variants.{Foid, C2it}
@@ -23,31 +21,31 @@ use Rattle.forest.specs.Forest.{Forest, nil, tuplesOf, tuplesFrom}
 use Rattle.rules.specs.Tags.{COCC}
 use Rattle.rules.specs.ByTag.{has}
 use Rattle.rules.specs.Kind.{kindOf, tagOf, rank, rowsOf}
-use Rattle.rules.specs.Grammar.{inOrder, complete, ruinByte, couiByte, asStored, forbidden, fieldsStand, number4}
+use Rattle.rules.specs.Grammar.{ruinByte, couiByte, asStored, forbidden, fieldsStand, number4}
 use Rattle.rules.specs.Content.{insertOnly, identFormat, number5}
 use Rattle.rules.specs.Trees.{number6}
 use Rattle.rules.specs.Coordinates.{Coord, sent}
 use Rattle.rules.specs.Associations.{marks, number7, number11}
-use Rattle.rules.specs.Record.{Rec, Parts, Assoc, Spatial, keyOf, recOf, datasetRecord}
+use Rattle.rules.specs.Record.{Rec, Parts, Spatial, keyOf, datasetRecord}
 use Rattle.rules.specs.Modify.{assocKey, spatialKey}
-use Rattle.rules.specs.Written.{fieldAs, nums, treeBytes, identBytes, partFields, writtenFields, number12}
+use Rattle.rules.specs.Written.{nums, treeBytes, identBytes, partFields, writtenFields, number12}
 use Rattle.rules.specs.declared.Kind.{Kind}
 use Rattle.rules.specs.declared.Kind.the-variants.{Info, Point, Multi, Feature}
 use Rattle.rules.specs.declared.Mode.the-variants.{InDataset}
 use Rattle.sequence.specs.Keyed.{Each}
 use Rattle.updates.proofs.Kept.{of-each}
-use Rattle.sound.specs.Sound.{Apart, SoundCoord, rowed, Counted, SoundParts, SoundFoid, SoundRec, Named}
+use Rattle.sound.specs.Sound.{SoundCoord, rowed, Counted, SoundParts, SoundFoid, SoundRec, Named}
 use Rattle.sound.proofs.Lists.{each-map, each-join}
 use Rattle.sound.proofs.Keys.{apart-two}
 use Rattle.sound.proofs.Stand.{fill-stands, formed-all, treed-all}
-use Rattle.sound.proofs.Marks.{markKey, apart-once, Stands, each-eleven, marks-keys}
+use Rattle.sound.proofs.Marks.{apart-once, Stands, each-eleven, marks-keys}
 use Rattle.sound.proofs.WrittenKeys.{assoc-four, spatial-two, written-keys}
 use Rattle.roundtrip.proofs.Coordinates.{coordBytes, c2it-has}
 use Rattle.roundtrip.proofs.Spatial.{spatialBytes}
 use Rattle.roundtrip.proofs.Idents.{foidBytes, ident-has}
 use Rattle.roundtrip.proofs.Room.{Roomy, roomy}
 use Rattle.roundtrip.proofs.Again.{record-again}
-use Rattle.roundtrip.proofs.Fields.{Fine, foid-empty, restOf, fine-rest, none-counted}
+use Rattle.roundtrip.proofs.Fields.{foid-empty, restOf, fine-rest, none-counted}
 use Rattle.roundtrip.proofs.Order.{Empties, ord-kind, complete-kind}
 
 -- ---- what its kind lacks

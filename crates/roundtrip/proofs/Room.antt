@@ -1,7 +1,6 @@
 -- A record that can be written has room for each of its trees. Assumes nothing.
 use Prim.Native.Nat.{ℕ, _+_, _≤_}
-use mathlib.Core.Path.{_≡_, refl, sym, ap, _∙_}
-use mathlib.Core.Bool.{Bool, true, false}
+use mathlib.Core.Path.{_≡_}
 use mathlib.Core.List.{List, [], _∷_, _++_}
 use native.Mathlib.Omega.{arith}
 use borrow.Author.Tests.{ltb-false}
@@ -10,13 +9,13 @@ use lib.Dec.{ltb}
 use Rattle.base.specs.Check.{pass}
 use Rattle.base.specs.Lists.{each}
 use Rattle.skeleton.specs.File.{Field}
-use Rattle.skeleton.specs.Emit.{size, sizes, lengthOf}
+use Rattle.skeleton.specs.Emit.{sizes, lengthOf}
 use Rattle.fields.specs.Table.{headOf}
 use Rattle.fields.specs.Values.{puts}
 use Rattle.fields.specs.declared.Format.the-variants.{InasNew}
 use Rattle.rules.specs.Tags.{FOID, ATTR, SPAS}
 use Rattle.rules.specs.Record.{Rec, Assoc}
-use Rattle.rules.specs.Written.{fieldAs, listField, treeBytes, assocField, nums, coordTag, partFields, writtenFields, writtenLength, number12}
+use Rattle.rules.specs.Written.{listField, treeBytes, assocField, nums, coordTag, partFields, writtenFields, writtenLength, number12}
 use Rattle.sequence.specs.Keyed.{Each}
 use Rattle.sequence.proofs.Tests.{by-bool, refused}
 use Rattle.roundtrip.proofs.Coordinates.{coordBytes}
@@ -57,6 +56,7 @@ pub record Roomy (r : Rec) : Type 0 where
   pub attributes : length (treeBytes (r .parts .attributes)) ≤ 99999
   pub associations : Each (λ a. length (treeBytes (a .attributes)) ≤ 99999) (r .parts .associations)
 
+-- a record that can be written has it
 pub roomy : (r : Rec) → number12 (writtenFields r) ≡ pass → Roomy r
 unfolding writtenFields partFields sizes
 roomy r e =

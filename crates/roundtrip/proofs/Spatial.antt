@@ -1,13 +1,12 @@
 -- Spatial associations of a sound record are read again from their written tuples. Assumes nothing.
 use Prim.Native.Nat.{ℕ}
 use mathlib.Core.Path.{_≡_, refl, sym, ap, ap₂, _∙_}
-use mathlib.Core.Bool.{true, false}
 use mathlib.Core.List.{List, [], _∷_, _++_}
 use Rattle.base.specs.Lists.{each}
 use Rattle.base.specs.Walk.{Got}
 use Rattle.fields.specs.Table.{headOf, tupleOf}
-use Rattle.fields.specs.Values.{Val, num, numAt, putAll}
-use Rattle.fields.specs.Content.{tuples, many}
+use Rattle.fields.specs.Values.{Val, numAt, putAll}
+use Rattle.fields.specs.Content.{many}
 use Rattle.fields.specs.Places.{endingAt}
 use Rattle.fields.specs.declared.Format.the-variants.{Spas, SpasNew}
 use Rattle.fields.proofs.FieldLaws.{list-fill}

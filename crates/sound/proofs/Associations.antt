@@ -2,32 +2,30 @@
 use Prim.Native.Nat.{ℕ}
 use mathlib.Core.Path.{_≡_, refl, sym, ap, _∙_}
 use mathlib.Core.Bool.{true, false}
-use mathlib.Core.List.{List, [], _∷_, _++_}
+use mathlib.Core.List.{List, [], _∷_}
 use lib.ListN.{getD}
-use lib.Dec.{eqb}
 use Rattle.base.specs.Check.{ok}
-use Rattle.base.specs.Choice.{pick}
 use Rattle.base.specs.Lists.{each}
 use Rattle.base.proofs.ChoiceLaws.{both-hold}
-use Rattle.fields.specs.Table.{rcid, code, insert, headOf, tupleOf}
+use Rattle.fields.specs.Table.{code, insert, headOf, tupleOf}
 use Rattle.fields.specs.Values.{Val, num, values, numAt}
-use Rattle.fields.specs.Content.{content, fill}
+use Rattle.fields.specs.Content.{content}
 use Rattle.fields.specs.Valid.{Bytes, passes, passAll, passEach, valid}
-use Rattle.fields.specs.declared.Format.the-variants.{InasNew, InasGone, AttrNew}
-use Rattle.fields.specs.declared.Sub.{Sub}
+use Rattle.fields.specs.declared.Format.the-variants.{InasNew, AttrNew}
 use Rattle.fields.specs.declared.Sub.the-variants.{B11, Raw}
 use Rattle.fields.proofs.ByteLaws.{le1}
 use Rattle.fields.proofs.ValueLaws.{head-number}
 use Rattle.fields.proofs.EncodeLaws.{fill-valid}
 use Rattle.forest.specs.Forest.{Forest}
 use Rattle.rules.specs.Content.{inasFormat}
-use Rattle.rules.specs.Trees.{tupOf, inasTree}
+use Rattle.rules.specs.Trees.{inasTree}
 use Rattle.rules.specs.Associations.{inasKey}
 use Rattle.rules.specs.Record.{standing, assocOf}
 use Rattle.rules.specs.Written.{nums}
-use Rattle.sound.specs.Sound.{Attributes, SoundAssoc}
+use Rattle.sound.specs.Sound.{SoundAssoc}
 use Rattle.sound.proofs.Values.{numsFrom, one-number, all-nums, each-pass}
 use Rattle.sound.proofs.Attributes.{tree-attributes}
+use Rattle.sound.proofs.Texts.{content-bytes}
 use Rattle.sound.proofs.Stand.{Has}
 
 -- the tenth byte is the instruction
@@ -45,17 +43,21 @@ module _ (b : List ℕ) (g : Bytes b) (e : Has InasNew b) where
   head : List Val
   head = values (headOf InasNew) b
 
+  -- its content can be written
   ok-all : valid (headOf InasNew) (tupleOf InasNew) (content (headOf InasNew) (tupleOf InasNew) b) ≡ true
   ok-all = fill-valid (headOf InasNew) (tupleOf InasNew) b g e
 
+  -- its head passes
   passes-head : passAll (headOf InasNew) head ≡ true
   unfolding valid content head
   passes-head = both-hold (passAll (headOf InasNew) (values (headOf InasNew) b)) _ ok-all .0
 
+  -- its tuples pass
   passes-tuples : passEach (tupleOf AttrNew) ((content (headOf InasNew) (tupleOf InasNew) b) .tuples) ≡ true
   unfolding valid tupleOf
   passes-tuples = both-hold (passAll (headOf InasNew) ((content (headOf InasNew) (tupleOf InasNew) b) .head)) _ ok-all .1
 
+  -- its head is numbers
   head-nums : head ≡ numsFrom 0 5 head
   unfolding headOf
   head-nums = all-nums (headOf InasNew) head refl passes-head
@@ -71,6 +73,7 @@ module _ (b : List ℕ) (g : Bytes b) (e : Has InasNew b) where
       let t = both-hold (passes code (num (numAt head 3))) _ (s .1) in
       one-number 1 (numAt head 4) (both-hold (passes insert (num (numAt head 4))) true (t .1) .0)
 
+  -- it is read by the format of an insert
   pub inas-new : inasFormat false b ≡ InasNew
   unfolding head
   inas-new = inas-format b e head-insert
@@ -85,5 +88,5 @@ module _ (b : List ℕ) (g : Bytes b) (e : Has InasNew b) where
       let h′ = rw inas-new at h in
       rw (inas-new, h′) (record {
         key = k;
-        tree = tree-attributes ((content (headOf InasNew) (tupleOf InasNew) b) .tuples) f (each-pass (tupleOf AttrNew) _ passes-tuples) h′;
+        tree = tree-attributes ((content (headOf InasNew) (tupleOf InasNew) b) .tuples) f (each-pass (tupleOf AttrNew) _ passes-tuples) (content-bytes (headOf InasNew) (tupleOf InasNew) b g e) h′;
       })

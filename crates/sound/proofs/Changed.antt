@@ -1,13 +1,13 @@
 -- What an accepted update record, read from bytes, leaves of a sound record is sound. Assumes nothing.
 use Prim.Native.Nat.{ℕ, _+_}
 use mathlib.Core.Path.{_≡_, refl, sym, ap, _∙_, subst}
-use mathlib.Core.Bool.{Bool, true, false, true≢false}
+use mathlib.Core.Bool.{true, false, true≢false}
 use mathlib.Core.Option.{Option, some, none}
 use mathlib.Core.List.{List, [], _∷_}
 use lib.Dec.{eqb}
 use borrow.Author.Tests.{eqb-true, eq-eqb}
-use Rattle.base.specs.Choice.{pick, both}
-use Rattle.base.specs.Check.{Check, ok, bind, inField, pass}
+use Rattle.base.specs.Choice.{pick}
+use Rattle.base.specs.Check.{ok, inField, pass}
 use Rattle.base.proofs.ChoiceLaws.{both-hold}
 use Rattle.base.proofs.CheckLaws.{bind-inv, ok-inj, pass-inv}
 use Rattle.skeleton.specs.File.{Field}
@@ -15,7 +15,7 @@ use Rattle.fields.specs.Table.{headOf}
 use Rattle.fields.specs.Valid.{Bytes, passAll}
 use Rattle.rules.specs.Tags.{ATTR, INAS, SPAS, COCC, C2IT, C2IL}
 use Rattle.rules.specs.ByTag.{firstTag, front, bodies}
-use Rattle.rules.specs.Kind.{kindOf, rcnm, coded}
+use Rattle.rules.specs.Kind.{kindOf, rcnm}
 use Rattle.rules.specs.Grammar.{ruinByte, asStored, number4}
 use Rattle.rules.specs.Content.{identFormat, number5}
 use Rattle.rules.specs.Trees.{number6}

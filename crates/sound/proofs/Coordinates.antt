@@ -1,8 +1,8 @@
 -- Coordinates of fields that are made of bytes, and edits of them by place. Assumes nothing.
-use Prim.Native.Nat.{ℕ, zero, suc, _+_, _-_, _<_}
+use Prim.Native.Nat.{ℕ, zero, suc, _+_, _-_}
 use mathlib.Core.Path.{_≡_, refl, sym, ap, _∙_}
-use mathlib.Core.Bool.{true, false}
-use mathlib.Core.List.{List, [], _∷_, _++_}
+use mathlib.Core.Bool.{true}
+use mathlib.Core.List.{List, [], _∷_}
 use native.Mathlib.Omega.{arith}
 use lib.ListN.{length, take, drop}
 use lib.Dec.{eqb, leb}
@@ -13,7 +13,7 @@ use Rattle.base.specs.Walk.{Got}
 use Rattle.base.proofs.ChoiceLaws.{by-test}
 use Rattle.base.proofs.CheckLaws.{ok-inj}
 use Rattle.fields.specs.Table.{headOf, tupleOf}
-use Rattle.fields.specs.Values.{Val, values, numAt}
+use Rattle.fields.specs.Values.{Val, values}
 use Rattle.fields.specs.Content.{tuples, many}
 use Rattle.fields.specs.Valid.{Bytes, passAll}
 use Rattle.fields.specs.Places.{endingAt}
@@ -21,13 +21,13 @@ use Rattle.fields.specs.declared.Format.the-variants.{C2it, C2il}
 use Rattle.fields.proofs.FieldLaws.{fill-list, head-tuple, head-length}
 use Rattle.fields.proofs.EncodeLaws.{pass-many}
 use Rattle.rules.specs.Place.{Place, placed}
-use Rattle.rules.specs.Coordinates.{Coord, coordOf, coordsIn}
+use Rattle.rules.specs.Coordinates.{coordOf, coordsIn}
 use Rattle.rules.specs.Written.{coordVals}
 use Rattle.sequence.specs.Keyed.{Each}
 use Rattle.sequence.proofs.Tests.{by-bool, refused}
 use Rattle.updates.proofs.Kept.{of-each}
 use Rattle.sound.specs.Sound.{SoundCoord}
-use Rattle.sound.proofs.Lists.{each-map, each-join}
+use Rattle.sound.proofs.Lists.{each-nil, each-map, each-join}
 use Rattle.sound.proofs.Values.{numsFrom, all-nums, each-pass}
 use Rattle.sound.proofs.Stand.{Has}
 
@@ -73,11 +73,6 @@ unfolding Each
 each-drop P zero l e = e
 each-drop P (suc n) [] e = tt
 each-drop P (suc n) (x ∷ l) e = each-drop P n l (e .1)
-
--- none
-each-nil : {A : Type 0} (P : A → Type 0) → Each P []
-unfolding Each
-each-nil P = tt
 
 -- what is placed among things that have P
 pub placed-each : {A : Type 0} (P : A → Type 0) (p : Place) (new xs ys : List A) → Each P new → Each P xs → placed p new xs ≡ ok ys → Each P ys

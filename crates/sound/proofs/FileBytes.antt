@@ -1,7 +1,6 @@
 -- The fields of a file that is made of bytes are made of bytes, and can be carried. Assumes nothing.
 use Prim.Native.Nat.{ℕ, _+_, _-_, _<_}
 use mathlib.Core.Path.{_≡_, refl}
-use mathlib.Core.Bool.{Bool, true, false}
 use mathlib.Core.List.{List, [], _∷_}
 use native.Mathlib.Omega.{arith}
 use borrow.Author.Tests.{ltb-true, ltb-false}
@@ -27,6 +26,7 @@ use Rattle.fields.specs.Valid.{Bytes}
 use Rattle.sequence.specs.Keyed.{Each}
 use Rattle.sequence.proofs.Tests.{by-bool}
 use Rattle.sound.specs.Sound.{Carried}
+use Rattle.sound.proofs.Lists.{each-nil}
 
 -- a record whose bodies are bytes
 abbrev pub Bodies : List Field → Type 0
@@ -62,18 +62,12 @@ records-bytes f bytes at =
     by-measure (λ q. length f - q) (λ q. Each Bodies ((recordsFrom f q) .items))
     (λ q later. by-bool (ltb q (length f))
     (λ h. records-at f bytes q (ltb-true q (length f) h) (recordAt f q) refl later)
-    (λ h. rw (records-over f q (ltb-false q (length f) h)) (nothing))) at
-  where
-    nothing : Each Bodies []
-    nothing = unfold Each in tt
+    (λ h. rw (records-over f q (ltb-false q (length f) h)) (each-nil Bodies))) at
 
 -- all records of a file
 pub file-bytes : (f : List ℕ) → Bytes f → Each Bodies ((recordsOf f) .items)
 unfolding recordsOf
-file-bytes f bytes = by-test (λ (g : Got (List Field)). Each Bodies (g .items)) (eqb (length f) 0) _ _ (λ _. nothing) (λ _. records-bytes f bytes 0)
-  where
-    nothing : Each Bodies []
-    nothing = unfold Each in tt
+file-bytes f bytes = by-test (λ (g : Got (List Field)). Each Bodies (g .items)) (eqb (length f) 0) _ _ (λ _. each-nil Bodies) (λ _. records-bytes f bytes 0)
 
 -- records with fields, tags that can be written and bodies of bytes
 carried-all : (rs : List (List Field)) → AllTagged rs → Each Bodies rs → Each Carried rs

@@ -1,20 +1,19 @@
 -- The general record of a result: a dataset's and an update's that were read make one that stands in a dataset. Assumes nothing.
-use Prim.Native.Nat.{ℕ, suc, _+_, _≤_, _<_}
+use Prim.Native.Nat.{ℕ, _+_, _≤_, _<_}
 use mathlib.Core.Path.{_≡_, refl, sym, ap, _∙_}
 use mathlib.Core.Bool.{Bool, true, false, not, true≢false}
 use mathlib.Core.List.{List, [], _∷_, _++_}
 use native.Mathlib.Omega.{arith}
 use lib.ListN.{length, take}
 use lib.Dec.{eqb}
-use borrow.Author.Tests.{eqb-true, eq-eqb}
-use Rattle.base.specs.Choice.{pick, both}
-use Rattle.base.specs.Check.{ok, bind, pass}
+use borrow.Author.Tests.{eqb-true, eq-eqb, not-true}
+use Rattle.base.specs.Choice.{both}
+use Rattle.base.specs.Check.{bind, pass}
 use Rattle.base.specs.Lists.{each, gather, empty}
 use Rattle.base.proofs.ChoiceLaws.{by-test, both-hold}
 use Rattle.base.proofs.CheckLaws.{bind-inv}
 use Rattle.skeleton.specs.File.{Field}
 use Rattle.skeleton.specs.Writable.{TagFits, TagsFit}
-use Rattle.fields.specs.Table.{headOf, tupleOf}
 use Rattle.fields.specs.Valid.{Bytes}
 use Rattle.fields.specs.declared.Format.the-variants.{Dsid, DsidUpdate}
 use Rattle.fields.proofs.WiderLaws.{dsid, format-wider}
@@ -29,7 +28,7 @@ use Rattle.rules.specs.declared.Mode.the-variants.{InDataset, InUpdate}
 use Rattle.sequence.specs.Keyed.{Each}
 use Rattle.sequence.proofs.Tests.{by-bool, refused}
 use Rattle.sound.specs.Sound.{rowed, Carried}
-use Rattle.sound.proofs.Lists.{each-map, each-zip, each-join, each-gathered}
+use Rattle.sound.proofs.Lists.{each-map, each-join, each-gathered}
 use Rattle.sound.proofs.Order.{most, order-once}
 use Rattle.sound.proofs.Stand.{stands-fill, fill-stands}
 
@@ -48,10 +47,6 @@ distinct (t ∷ ts) = both (not (rowed t (rowsFor ts))) (distinct ts)
 record Single (t : ℕ) (fs : List Field) : Type 0 where
   few : length fs ≤ 1
   tagged : Each (λ f. f .tag ≡ t) fs
-
-not-true : (b : Bool) → not b ≡ true → b ≡ false
-not-true true e = absurd (true≢false (sym e))
-not-true false e = refl
 
 -- a field has one of the tags
 rowed-later : (u t : ℕ) (ts : List ℕ) → rowed u (rowsFor ts) ≡ true → rowed u (rowsFor (t ∷ ts)) ≡ true
@@ -125,6 +120,7 @@ record Standing (m : Mode) (fs : List Field) : Type 0 where
   order : inOrder (λ t. false) generalRows 2 rest ≡ pass
   format : stands 1 (generalFormat m) (first .body) ≡ pass
 
+-- so taken
 standing : (m : Mode) (fs : List Field) → generalRecord m fs ≡ pass → Standing m fs
 unfolding generalRecord
 standing m [] e = refused e

@@ -2,7 +2,7 @@
 use Prim.Native.Nat.{ℕ}
 use mathlib.Core.Path.{_≡_, refl, sym, ap, _∙_}
 use mathlib.Core.Bool.{true, false}
-use mathlib.Core.List.{List, [], _∷_, _++_}
+use mathlib.Core.List.{List, [], _∷_}
 use Rattle.base.specs.Choice.{pick}
 use Rattle.base.specs.Lists.{each}
 use Rattle.base.proofs.ChoiceLaws.{both-hold}
@@ -11,7 +11,6 @@ use Rattle.fields.specs.Values.{Val, num, values, numAt}
 use Rattle.fields.specs.Valid.{Bytes, passes, passAll}
 use Rattle.fields.specs.declared.Format.{Format}
 use Rattle.fields.specs.declared.Format.the-variants.{Foid}
-use Rattle.fields.specs.declared.Sub.{Sub}
 use Rattle.fields.specs.declared.Sub.the-variants.{B11}
 use Rattle.fields.proofs.FieldLaws.{filled}
 use Rattle.fields.proofs.EncodeLaws.{pass-values}

@@ -5,8 +5,8 @@ use mathlib.Core.Bool.{Bool, true, false}
 use mathlib.Core.List.{List, [], _∷_, _++_}
 use native.Mathlib.Omega.{arith}
 use lib.ListN.{length}
-use Rattle.base.specs.Choice.{pick, either}
-use Rattle.base.specs.Check.{Check, ok, bind, refuse}
+use Rattle.base.specs.Choice.{either}
+use Rattle.base.specs.Check.{ok}
 use Rattle.base.specs.Lists.{each}
 use Rattle.base.specs.Keys.{same, among, join, leave}
 use Rattle.base.proofs.CheckLaws.{bind-inv, ok-inj}
@@ -14,7 +14,7 @@ use Rattle.base.proofs.KeysLaws.{same-sound}
 use Rattle.sequence.specs.Keyed.{Each}
 use Rattle.sequence.proofs.Tests.{by-bool, refused}
 use Rattle.sound.specs.Sound.{Apart}
-use Rattle.sound.proofs.Lists.{each-join}
+use Rattle.sound.proofs.Lists.{each-join, each-append}
 
 -- ---- parts of a list
 
@@ -74,12 +74,6 @@ unfolding Apart among
 apart-end k seen [] p e f = (e, tt)
 apart-end k seen (x ∷ ks) p e f = let (a, b) = either-no (same k x) (among k ks) f in (p .0, apart-end k (x ∷ seen) ks (p .1) (rw (a, e)) b)
 
--- the keys of lists joined
-each-keys : {A : Type 0} (key : A → List ℕ) (a b : List A) → each key (a ++ b) ≡ each key a ++ each key b
-unfolding each
-each-keys key [] b = refl
-each-keys key (x ∷ a) b = ap (λ (l : List (List ℕ)). key x ∷ l) (each-keys key a b)
-
 module _ {A : Type 0} (P : A → Type 0) (key : A → List ℕ) where
   -- a thing joined
   pub joined : (j : ℕ) (x : A) (xs ys : List A) → P x → Each P xs → Apart [] (each key xs) → join key j x xs ≡ ok ys → Each P ys × Apart [] (each key ys)
@@ -89,7 +83,7 @@ module _ {A : Type 0} (P : A → Type 0) (key : A → List ℕ) where
       (λ t. refused (rw t at h))
       (λ t.
       let z : xs ++ (x ∷ []) ≡ ys = ok-inj _ ys (rw t at h) in
-      rw (← z) (each-join P xs (x ∷ []) e (q, tt), rw (each-keys key xs (x ∷ [])) (ends t)))
+      rw (← z) (each-join P xs (x ∷ []) e (q, tt), rw (each-append key xs (x ∷ [])) (ends t)))
     where
       ends : among (key x) (each key xs) ≡ false → Apart [] (each key xs ++ each key (x ∷ []))
       ends t = unfold each in apart-end (key x) [] (each key xs) p (unfold among in refl) t

@@ -1,5 +1,6 @@
 pub mod Lists
 pub mod Values
+pub mod Texts
 pub mod Trees
 pub mod Keys
 pub mod Order

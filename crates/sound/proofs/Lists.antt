@@ -4,6 +4,11 @@ use mathlib.Core.List.{List, [], _∷_, _++_}
 use Rattle.base.specs.Lists.{each, gather}
 use Rattle.sequence.specs.Keyed.{Each}
 
+-- none
+pub each-nil : {A : Type 0} (P : A → Type 0) → Each P []
+unfolding Each
+each-nil P = tt
+
 -- what each has, and what follows from it
 pub each-map : {A : Type 0} {P Q : A → Type 0} (l : List A) → ((a : A) → P a → Q a) → Each P l → Each Q l
 unfolding Each
@@ -39,3 +44,9 @@ pub each-parts : {A : Type 0} (P : A → Type 0) (a b : List A) → Each P (a ++
 unfolding Each
 each-parts P [] b e = (tt, e)
 each-parts P (x ∷ a) b e = let (p, q) = each-parts P a b (e .1) in ((e .0, p), q)
+
+-- what is made of lists joined
+pub each-append : {A B : Type 0} (f : A → B) (a b : List A) → each f (a ++ b) ≡ each f a ++ each f b
+unfolding each
+each-append f [] b = refl
+each-append f (x ∷ a) b = rw (each-append f a b)

@@ -1,13 +1,13 @@
 -- The keys of a record's associations: numbers 7 and 11 as sentences about them. Assumes nothing.
 use Prim.Native.Nat.{ℕ, _+_}
-use mathlib.Core.Path.{_≡_, refl, sym, ap, ap₂, _∙_}
-use mathlib.Core.Bool.{Bool, true, false}
+use mathlib.Core.Path.{_≡_, refl, ap, ap₂, _∙_}
+use mathlib.Core.Bool.{true, false}
 use mathlib.Core.List.{List, [], _∷_, _++_}
 use lib.ListN.{take}
 use lib.Dec.{eqb}
 use borrow.Author.Tests.{eqb-true}
 use Rattle.base.specs.Choice.{pick}
-use Rattle.base.specs.Check.{Check, pass}
+use Rattle.base.specs.Check.{pass}
 use Rattle.base.specs.Lists.{each, gather}
 use Rattle.base.specs.Keys.{among}
 use Rattle.skeleton.specs.File.{Field}
@@ -21,6 +21,7 @@ use Rattle.rules.specs.Associations.{Mark, inasKey, spasKey, spasMarks, fieldMa
 use Rattle.sequence.specs.Keyed.{Each}
 use Rattle.sequence.proofs.Tests.{by-bool, refused}
 use Rattle.sound.specs.Sound.{Apart}
+use Rattle.sound.proofs.Lists.{each-append}
 use Rattle.sound.proofs.Keys.{Within, w-none, w-keep, w-skip, within-all, within-none, within-join}
 
 -- ---- 7 and 11
@@ -62,12 +63,6 @@ each-eleven keys (m ∷ ms) e = rw (e .0) (each-eleven keys ms (e .1))
 -- the keys of a field's associations
 unfoldable pub fieldKeys : Field → List (List ℕ)
 fieldKeys f = pick (eqb (f .tag) INAS) (inasKey (f .body) ∷ []) (pick (eqb (f .tag) SPAS) (each spasKey (many (tupleOf Spas) (f .body))) [])
-
--- what is made of lists joined
-pub each-append : {A B : Type 0} (f : A → B) (a b : List A) → each f (a ++ b) ≡ each f a ++ each f b
-unfolding each
-each-append f [] b = refl
-each-append f (x ∷ a) b = rw (each-append f a b)
 
 -- what is made of lists gathered
 pub each-gather : {A B C : Type 0} (f : B → C) (g : A → List B) (l : List A) → each f (gather g l) ≡ gather (λ a. each f (g a)) l

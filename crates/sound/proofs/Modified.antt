@@ -1,15 +1,13 @@
 -- The fields of a modify leave parts that can be written. Assumes nothing.
 use Prim.Native.Nat.{ℕ, _+_}
-use mathlib.Core.Path.{_≡_, refl, sym, ap, _∙_, subst}
+use mathlib.Core.Path.{_≡_, sym, _∙_, subst}
 use mathlib.Core.Bool.{Bool, true, false, true≢false}
-use mathlib.Core.List.{List, [], _∷_, _++_}
+use mathlib.Core.List.{List, [], _∷_}
 use lib.ListN.{length, getD}
 use lib.Dec.{eqb}
 use borrow.Author.Tests.{eqb-true}
-use Rattle.base.specs.Choice.{pick}
-use Rattle.base.specs.Check.{Check, ok, bind, inField, pass}
-use Rattle.base.specs.Lists.{each, gather}
-use Rattle.base.specs.Keys.{join, leave}
+use Rattle.base.specs.Check.{ok, inField}
+use Rattle.base.specs.Lists.{each}
 use Rattle.base.proofs.CheckLaws.{bind-inv, ok-inj}
 use Rattle.skeleton.specs.File.{Field}
 use Rattle.fields.specs.Table.{tupleOf}
@@ -34,7 +32,6 @@ use Rattle.sequence.proofs.Tests.{by-bool}
 use Rattle.sound.specs.Sound.{Apart, SoundAssoc, SoundCoord, rowed, Counted, SoundParts}
 use Rattle.sound.proofs.Lists.{each-map, each-gathered}
 use Rattle.sound.proofs.Keys.{joined, left}
-use Rattle.sound.proofs.Bodies.{each-body}
 use Rattle.sound.proofs.Stand.{Has, passed-inv, field-inv}
 use Rattle.sound.proofs.Attributes.{attributes-edited}
 use Rattle.sound.proofs.Associations.{assoc-read}

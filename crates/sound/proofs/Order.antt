@@ -1,5 +1,5 @@
 -- Fields that stand in the order of rows: their tags have rows, and a tag that may stand once stands once. Assumes nothing.
-use Prim.Native.Nat.{ℕ, suc, _+_, _≤_}
+use Prim.Native.Nat.{ℕ, _+_, _≤_}
 use mathlib.Core.Path.{_≡_, refl, sym, ap, _∙_}
 use mathlib.Core.Bool.{Bool, true, false, not, true≢false}
 use mathlib.Core.Option.{Option, some, none}
@@ -7,9 +7,9 @@ use mathlib.Core.List.{List, [], _∷_}
 use native.Mathlib.Omega.{arith}
 use lib.ListN.{length}
 use lib.Dec.{eqb}
-use borrow.Author.Tests.{eqb-true, eq-eqb}
+use borrow.Author.Tests.{eqb-true, eq-eqb, not-true}
 use Rattle.base.specs.Choice.{pick, both}
-use Rattle.base.specs.Check.{Passed, pass, no, fault}
+use Rattle.base.specs.Check.{Passed, pass}
 use Rattle.base.proofs.ChoiceLaws.{both-hold}
 use Rattle.skeleton.specs.File.{Field}
 use Rattle.rules.specs.ByTag.{withTag}
@@ -79,10 +79,6 @@ unfoldable pub most : ℕ → List Row → Bool
 most t [] = true
 most t (r ∷ rs) = pick (eqb (r .tag) t) (both (not (r .often)) (not (rowed t rs))) (most t rs)
 
-not-no : (b : Bool) → not b ≡ true → b ≡ false
-not-no true e = absurd (true≢false (sym e))
-not-no false e = refl
-
 -- a tag without a row stands at most once
 none-most : (t : ℕ) (rows : List Row) → rowed t rows ≡ false → most t rows ≡ true
 unfolding rowed most
@@ -99,10 +95,10 @@ after-most t u (r ∷ rs) left e m =
     (λ h. after-most t u rs left (rw h at e) tail)
   where
     no-more : eqb (r .tag) t ≡ true → rowed t rs ≡ false
-    no-more h = not-no (rowed t rs) (both-hold (not (r .often)) _ (rw h at m) .1)
+    no-more h = not-true (rowed t rs) (both-hold (not (r .often)) _ (rw h at m) .1)
 
     often-no : r .often ≡ true → eqb (r .tag) t ≡ true → ⊥
-    often-no o h = true≢false (sym o ∙ not-no (r .often) (both-hold (not (r .often)) _ (rw h at m) .0))
+    often-no o h = true≢false (sym o ∙ not-true (r .often) (both-hold (not (r .often)) _ (rw h at m) .0))
 
     tail : most t rs ≡ true
     tail = by-bool (eqb (r .tag) t) (λ h. none-most t rs (no-more h)) (λ h. rw h at m)

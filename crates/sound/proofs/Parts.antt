@@ -1,14 +1,13 @@
 -- The parts of a record as in a dataset that was read: each can be written. Assumes nothing.
 use Prim.Native.Nat.{ℕ, _≤_}
 use mathlib.Core.Path.{_≡_, refl, sym, ap, _∙_}
-use mathlib.Core.Bool.{Bool, true, false, not, true≢false}
-use mathlib.Core.Option.{some, none}
+use mathlib.Core.Bool.{true, false, not, true≢false}
+use mathlib.Core.Option.{none}
 use mathlib.Core.List.{List, [], _∷_, _++_, append-nil}
 use native.Mathlib.Omega.{arith}
 use lib.ListN.{length, getD}
 use lib.Dec.{eqb}
 use borrow.Author.Tests.{eqb-true}
-use Rattle.base.specs.Choice.{pick, both, either}
 use Rattle.base.specs.Check.{ok, pass}
 use Rattle.base.specs.Lists.{each, gather, empty}
 use Rattle.base.specs.Walk.{Got}
@@ -17,9 +16,8 @@ use Rattle.skeleton.specs.File.{Field}
 use Rattle.fields.specs.Table.{headOf, tupleOf}
 use Rattle.fields.specs.Values.{Val}
 use Rattle.fields.specs.Content.{many}
-use Rattle.fields.specs.Valid.{Bytes, passAll}
-use Rattle.fields.specs.Places.{endingAt}
-use Rattle.fields.specs.declared.Format.the-variants.{Foid, AttrNew, Spas, SpasNew, C2il}
+use Rattle.fields.specs.Valid.{passAll}
+use Rattle.fields.specs.declared.Format.the-variants.{Foid, AttrNew, Spas}
 use Rattle.fields.proofs.TupleLaws.{tuples-end}
 use Rattle.fields.proofs.WiderLaws.{spas, format-wider}
 use Rattle.forest.specs.Forest.{Forest, nil, tuplesOf, tuplesFrom, p-nil}
@@ -27,27 +25,27 @@ use Rattle.forest.specs.Rule.{treeOf}
 use Rattle.forest.proofs.TreeLaws.{tree-complete}
 use Rattle.rules.specs.Tags.{FOID, ATTR, INAS, SPAS, C2IT, C2IL}
 use Rattle.rules.specs.ByTag.{withTag, has, bodies, front}
-use Rattle.rules.specs.Kind.{Row, kindOf, rcnm, coded, rowsOf}
+use Rattle.rules.specs.Kind.{kindOf, rowsOf}
 use Rattle.rules.specs.Grammar.{complete}
-use Rattle.rules.specs.Content.{identFormat, inasFormat, formatOf}
+use Rattle.rules.specs.Content.{inasFormat, formatOf}
 use Rattle.rules.specs.Trees.{tupOf, attrTree, inasTree, treeStands}
 use Rattle.rules.specs.Coordinates.{coordsIn}
 use Rattle.rules.specs.Associations.{inasKey, spasKey, number7, marks}
-use Rattle.rules.specs.Record.{Rec, Parts, identOf, foidOf, standing, assocOf, spatialOf, partsOf, recOf}
+use Rattle.rules.specs.Record.{identOf, foidOf, standing, assocOf, spatialOf, partsOf, recOf}
 use Rattle.rules.specs.Modify.{assocKey, spatialKey}
 use Rattle.rules.specs.Written.{fieldAs, nums}
 use Rattle.rules.specs.declared.Kind.{Kind}
 use Rattle.rules.specs.declared.Kind.the-variants.{Info, Point, Multi, Feature}
 use Rattle.rules.specs.declared.Mode.{Mode}
 use Rattle.sequence.specs.Keyed.{Each}
-use Rattle.sequence.proofs.Tests.{by-bool, refused, never}
+use Rattle.sequence.proofs.Tests.{by-bool, never}
 use Rattle.updates.proofs.Kept.{of-each, each-of}
 use Rattle.sound.specs.Sound.{Attributes, r-nil, Apart, SoundAssoc, SoundCoord, SoundSpatial, rowed, Counted, SoundParts, SoundFoid, SoundRec, identVals, Named}
 use Rattle.sound.proofs.Lists.{each-map, each-join, each-gathered, each-each}
-use Rattle.sound.proofs.Keys.{Within, apart-part}
+use Rattle.sound.proofs.Keys.{apart-part}
 use Rattle.sound.proofs.Order.{most, tag-none}
-use Rattle.sound.proofs.Bodies.{each-body, bodies-skip, bodies-none, bodies-length}
-use Rattle.sound.proofs.Stand.{Has, Formed, passed-inv}
+use Rattle.sound.proofs.Bodies.{each-body, bodies-skip, bodies-none}
+use Rattle.sound.proofs.Stand.{passed-inv}
 use Rattle.sound.proofs.Attributes.{attributes-read}
 use Rattle.sound.proofs.Associations.{assoc-read}
 use Rattle.sound.proofs.Coordinates.{list-read, point-read}

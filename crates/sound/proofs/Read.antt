@@ -1,11 +1,10 @@
 -- A dataset that is read from bytes is sound. Assumes nothing.
 use Prim.Native.Nat.{ℕ, _+_, _<_}
 use mathlib.Core.Path.{_≡_, refl, sym, ap, _∙_, subst}
-use mathlib.Core.Bool.{Bool, true, false}
 use mathlib.Core.List.{List, [], _∷_, _++_}
 use native.Mathlib.Omega.{arith}
 use borrow.Author.Tests.{ne-eqb}
-use lib.ListN.{length, getD, drop}
+use lib.ListN.{length, drop}
 use lib.Dec.{eqb}
 use Rattle.base.specs.Choice.{pick}
 use Rattle.base.specs.Check.{ok, no, bind, fault, pass}
@@ -13,7 +12,7 @@ use Rattle.base.specs.Lists.{each}
 use Rattle.base.specs.Keys.{among}
 use Rattle.base.specs.Walk.{Got}
 use Rattle.base.proofs.CheckLaws.{bind-inv, ok-inj, pass-inv}
-use Rattle.skeleton.specs.File.{Field, recordsOf}
+use Rattle.skeleton.specs.File.{Field}
 use Rattle.fields.specs.Valid.{Bytes}
 use Rattle.rules.specs.Tags.{CSID}
 use Rattle.rules.specs.ByTag.{firstTag}
@@ -24,9 +23,8 @@ use Rattle.rules.specs.Associations.{marks, number7, number11}
 use Rattle.rules.specs.Record.{Rec, keyOf, recOf, datasetRecord}
 use Rattle.rules.specs.General.{generalRecord}
 use Rattle.rules.specs.Written.{Dataset}
-use Rattle.rules.specs.Outcome.{done, at, everyRecord}
+use Rattle.rules.specs.Outcome.{done, at}
 use Rattle.rules.specs.File.{lastRank, datasetTest, through, storedAs, references, readDataset}
-use Rattle.rules.specs.declared.Kind.{Kind}
 use Rattle.rules.specs.declared.Mode.the-variants.{InDataset}
 use Rattle.rules.proofs.OutcomeLaws.{andThen-inv, at-inv, done-inj}
 use Rattle.sequence.specs.Keyed.{Each}
@@ -37,7 +35,7 @@ use Rattle.updates.proofs.Results.{read-sorted}
 use Rattle.updates.proofs.Kept.{every-inv}
 use Rattle.sound.specs.Sound.{SoundRec, Named, Carried, Sound}
 use Rattle.sound.proofs.Lists.{each-map}
-use Rattle.sound.proofs.Marks.{markKey, Stands, eleven-each}
+use Rattle.sound.proofs.Marks.{eleven-each}
 use Rattle.sound.proofs.Records.{through as through-fields}
 use Rattle.sound.proofs.Parts.{record-sound, record-named}
 use Rattle.sound.proofs.FileBytes.{Bodies, file-carried}
@@ -49,6 +47,7 @@ record Good (fs : List Field) (r : Rec) : Type 0 where
   sound : SoundRec r
   named : (keys : List (List ℕ)) → number11 keys (marks 1 fs) ≡ pass → Named keys r
 
+-- so is one that is read
 record-good : (least : ℕ) (earlier : List (List ℕ)) (fs : List Field) (r : Rec) → Bodies fs → datasetRecord least earlier fs ≡ ok r → Good fs r
 unfolding datasetRecord number4 asStored
 record-good least earlier [] r g e = let (k, a, b) = bind-inv (number4 InDataset least []) _ r e in refused a

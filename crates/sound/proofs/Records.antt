@@ -4,15 +4,14 @@ use mathlib.Core.Path.{_≡_, refl, sym, ap, _∙_}
 use mathlib.Core.Bool.{Bool, true, false, not}
 use mathlib.Core.Option.{Option, some, none}
 use mathlib.Core.List.{List, [], _∷_}
-use lib.ListN.{length, getD}
-use lib.Dec.{eqb, ltb}
+use lib.ListN.{length}
+use lib.Dec.{ltb}
 use Rattle.base.specs.Choice.{pick, either}
-use Rattle.base.specs.Check.{Check, ok, no, bind, fault, Passed, pass}
+use Rattle.base.specs.Check.{ok, no, bind, fault, pass}
 use Rattle.base.proofs.CheckLaws.{bind-inv, ok-inj, pass-inv}
 use Rattle.skeleton.specs.File.{Field}
 use Rattle.fields.specs.Table.{headOf, tupleOf}
 use Rattle.fields.specs.Valid.{Bytes}
-use Rattle.fields.specs.declared.Format.{Format}
 use Rattle.fields.proofs.ByteLaws.{le1}
 use Rattle.fields.proofs.ValueLaws.{head-number}
 use Rattle.fields.proofs.WiderLaws.{Wide, irid, prid, mrid, frid, format-wider}
@@ -30,7 +29,7 @@ use Rattle.rules.specs.declared.Mode.the-variants.{InDataset, InUpdate}
 use Rattle.sequence.specs.Keyed.{Each}
 use Rattle.sequence.proofs.Tests.{by-bool, refused}
 use Rattle.sound.specs.Sound.{rowed}
-use Rattle.sound.proofs.Lists.{each-map, each-zip}
+use Rattle.sound.proofs.Lists.{each-map}
 use Rattle.sound.proofs.Order.{most, order-rowed, order-once}
 use Rattle.sound.proofs.Stand.{Has, Formed, stands-fill, all-formed, all-treed}
 

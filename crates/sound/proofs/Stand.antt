@@ -1,14 +1,14 @@
 -- Fields that passed numbers 5 and 6, one by one. Assumes nothing.
 use Prim.Native.Nat.{ℕ, _+_}
-use mathlib.Core.Path.{_≡_, refl, ap}
-use mathlib.Core.Bool.{Bool, true, false, not}
+use mathlib.Core.Path.{_≡_, refl}
+use mathlib.Core.Bool.{Bool, true, not}
 use mathlib.Core.List.{List, [], _∷_}
-use Rattle.base.specs.Check.{Check, ok, no, bind, inField, Passed, pass, passed}
+use Rattle.base.specs.Check.{Check, ok, no, bind, inField, pass, passed}
 use Rattle.base.specs.Lists.{empty}
 use Rattle.base.proofs.CheckLaws.{bind-inv}
 use Rattle.skeleton.specs.File.{Field}
 use Rattle.fields.specs.Table.{headOf, tupleOf}
-use Rattle.fields.specs.Content.{tallyField, fill, content}
+use Rattle.fields.specs.Content.{tallyField, fill}
 use Rattle.fields.specs.declared.Format.{Format}
 use Rattle.fields.specs.declared.Tally.{Tally}
 use Rattle.fields.specs.declared.Tally.the-variants.{Whole, Short}

@@ -1,33 +1,31 @@
 -- Trees whose codes and values can be written: as they are read, as an edit leaves them, and as they are written. Assumes nothing.
-use Prim.Native.Nat.{ℕ, zero, suc, _+_, _-_, _*_, _≤_, _<_}
-use mathlib.Core.Path.{_≡_, refl, sym, ap, _∙_}
+use Prim.Native.Nat.{ℕ, zero, suc, _+_, _-_, _≤_, _<_}
+use mathlib.Core.Path.{_≡_}
 use mathlib.Core.Bool.{Bool, true, false}
-use mathlib.Core.List.{List, [], _∷_, _++_}
+use mathlib.Core.List.{List, [], _∷_}
 use native.Mathlib.Omega.{arith}
 use lib.ListN.{length}
 use lib.Dec.{eqb, ltb}
-use Rattle.base.specs.Choice.{pick}
-use Rattle.base.specs.Check.{Check, ok, bind, refuse}
+use Rattle.base.specs.Check.{Check, ok}
 use Rattle.base.proofs.ChoiceLaws.{by-test}
 use Rattle.base.proofs.CheckLaws.{bind-inv, ok-inj}
 use Rattle.fields.specs.Table.{code}
-use Rattle.fields.specs.Values.{num, txt}
+use Rattle.fields.specs.Values.{num}
 use Rattle.fields.specs.Valid.{passes}
-use Rattle.fields.specs.declared.Sub.the-variants.{Text}
 use Rattle.forest.specs.Forest.{Forest, nil, tree, Tup, occurs, tuplesFrom, valued, beside, size}
 use Rattle.forest.specs.Rule.{allTaken}
 use Rattle.forest.specs.Acts.{Act, insert, delete, modify, UTup, Acts, done, act, ActRun, actOf, actsUpTo, actsOf, deletes}
 use Rattle.forest.specs.Edit.{count, put, behind, cut, alter, edit}
 use Rattle.sequence.specs.Keyed.{Each}
 use Rattle.sequence.proofs.Tests.{by-bool, refused}
-use Rattle.sound.specs.Sound.{Ranged, r-nil, r-tree}
+use Rattle.sound.specs.Sound.{SoundText, Ranged, r-nil, r-tree}
 use Rattle.sound.proofs.Lists.{each-join, each-parts}
 
 -- ---- acts
 
 -- a code and a value that can be written
 abbrev pub Good : ℕ → List ℕ → Type 0
-Good c v = (passes code (num c) ≡ true) × (passes Text (txt v) ≡ true)
+Good c v = (passes code (num c) ≡ true) × SoundText v
 
 -- acts whose codes and values can be written
 pub data RangedActs : Acts → Type 0 where
@@ -102,7 +100,7 @@ cut-ranged n c k (tree d w ks rest) (r-tree a b kr rr) =
     (λ _. behind-ranged d w ks _ (a, b) kr (cut-ranged n c k rest rr))
 
 -- a run with another value and other children of one of its entries
-alter-ranged : (n c k : ℕ) (v : List ℕ) (h : Forest → Check Forest) → passes Text (txt v) ≡ true → ((ks : Forest) → Ranged ks → Gives (h ks))
+alter-ranged : (n c k : ℕ) (v : List ℕ) (h : Forest → Check Forest) → SoundText v → ((ks : Forest) → Ranged ks → Gives (h ks))
     → (f : Forest) → Ranged f → Gives (alter n c k v h f)
 unfolding alter
 alter-ranged n c k v h y below nil fr = λ g e. refused e
@@ -169,3 +167,10 @@ tuples-small seen p k (tree c v kids rest) (r-tree a b kr rr) h i j =
       each-join Small (tuplesFrom [] k (suc k) kids) _ (tuples-small [] k (suc k) kids kr (omega arith) (omega arith) (omega arith))
           (tuples-small (c ∷ seen) p (suc (k + size kids)) rest rr (omega arith) i (omega arith)),
     )
+
+-- the tuples of a tree of any size
+pub tuples-good : (seen : List ℕ) (p k : ℕ) (f : Forest) → Ranged f → Each GoodTuple (tuplesFrom seen p k f)
+unfolding tuplesFrom Each
+tuples-good seen p k nil r = tt
+tuples-good seen p k (tree c v kids rest) (r-tree a b kr rr) =
+    ((a, b), each-join GoodTuple (tuplesFrom [] k (suc k) kids) _ (tuples-good [] k (suc k) kids kr) (tuples-good (c ∷ seen) p (suc (k + size kids)) rest rr))

@@ -1,17 +1,15 @@
 -- An accepted update, read from bytes, of a sound dataset gives a sound dataset. Assumes nothing.
 use Prim.Native.Nat.{ℕ, _+_, _<_}
-use mathlib.Core.Path.{_≡_, refl, sym, ap, _∙_, subst}
-use mathlib.Core.Bool.{Bool, true, false}
+use mathlib.Core.Path.{_≡_, sym, _∙_, subst}
 use mathlib.Core.List.{List, [], _∷_, _++_}
 use native.Mathlib.Omega.{arith}
 use borrow.Author.Tests.{ne-eqb}
-use lib.ListN.{length, getD, drop, take}
-use lib.Dec.{eqb}
+use lib.ListN.{length}
 use Rattle.base.specs.Check.{ok, bind, pass, passed}
-use Rattle.base.specs.Lists.{each, gather}
+use Rattle.base.specs.Lists.{each}
 use Rattle.base.specs.Walk.{Got}
 use Rattle.base.proofs.CheckLaws.{bind-inv}
-use Rattle.skeleton.specs.File.{Field, recordsOf}
+use Rattle.skeleton.specs.File.{Field}
 use Rattle.fields.specs.Valid.{Bytes}
 use Rattle.rules.specs.Associations.{marks, number11}
 use Rattle.rules.specs.Record.{Rec, keyOf, updateRecord}
@@ -29,9 +27,9 @@ use Rattle.updates.proofs.Results.{steps-sorted}
 use Rattle.updates.proofs.Accepted.{parted}
 use Rattle.updates.proofs.Kept.{steps-each, every-inv, each-of}
 use Rattle.sound.specs.Sound.{SoundRec, Named, Carried, Sound}
-use Rattle.sound.proofs.Lists.{each-map, each-zip, each-join, each-parts}
+use Rattle.sound.proofs.Lists.{each-map, each-zip, each-parts}
 use Rattle.sound.proofs.Stand.{passed-inv}
-use Rattle.sound.proofs.Marks.{markKey, Stands, eleven-each, each-eleven, marks-keys}
+use Rattle.sound.proofs.Marks.{markKey, Stands, eleven-each, marks-keys}
 use Rattle.sound.proofs.Changed.{Sendable, changed-sound}
 use Rattle.sound.proofs.FileBytes.{Bodies, file-carried}
 use Rattle.sound.proofs.General.{merged-stands, merged-carried}

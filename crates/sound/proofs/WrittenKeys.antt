@@ -1,22 +1,20 @@
 -- The keys in the written fields of a sound record are those of its associations. Assumes nothing.
-use Prim.Native.Nat.{ℕ, _%_, _<_}
+use Prim.Native.Nat.{ℕ, _≤_, _<_}
 use mathlib.Core.Path.{_≡_, refl, sym, ap, ap₂, _∙_}
-use mathlib.Core.Bool.{Bool, true, false}
+use mathlib.Core.Bool.{true, false}
 use mathlib.Core.List.{List, [], _∷_, _++_, append-assoc, append-nil}
 use native.Mathlib.Omega.{arith}
 use lib.ListN.{length, getD, drop}
 use lib.Dec.{eqb}
-use Rattle.base.specs.Choice.{pick}
 use Rattle.base.specs.Lists.{each, gather}
 use Rattle.base.specs.Walk.{Got}
 use Rattle.skeleton.specs.File.{Field}
 use Rattle.fields.specs.Table.{headOf, tupleOf}
-use Rattle.fields.specs.Values.{Val, num, values, numAt, puts, putAll}
-use Rattle.fields.specs.Content.{tuples, many, fill}
+use Rattle.fields.specs.Values.{Val, values, numAt, puts, putAll}
+use Rattle.fields.specs.Content.{tuples, many}
 use Rattle.fields.specs.Valid.{passAll, passEach}
 use Rattle.fields.specs.Places.{endingAt, allRaw}
 use Rattle.fields.specs.declared.Format.the-variants.{InasNew, Spas, SpasNew}
-use Rattle.fields.specs.declared.Sub.{Sub}
 use Rattle.fields.specs.declared.Sub.the-variants.{Raw}
 use Rattle.fields.proofs.ByteLaws.{le1}
 use Rattle.fields.proofs.TupleLaws.{tuples-end}
@@ -25,7 +23,7 @@ use Rattle.fields.proofs.EvenLaws.{raw-fill}
 use Rattle.fields.proofs.ValueLaws.{head-number}
 use Rattle.fields.proofs.WiderLaws.{same, b11, end, row, tuples-wider}
 use Rattle.fields.proofs.DecodeLaws.{puts-back, all-back, length-numbers}
-use Rattle.rules.specs.Tags.{FOID, ATTR, INAS, SPAS, C2IT, C2IL}
+use Rattle.rules.specs.Tags.{FOID, ATTR, INAS, SPAS}
 use Rattle.rules.specs.Kind.{tagOf}
 use Rattle.rules.specs.Content.{inasFormat}
 use Rattle.rules.specs.Associations.{inasKey, spasKey}
@@ -35,8 +33,7 @@ use Rattle.rules.specs.Written.{fieldAs, listField, nums, treeBytes, assocField
 use Rattle.rules.specs.declared.Kind.{Kind}
 use Rattle.rules.specs.declared.Kind.the-variants.{Info, Point, Multi, Feature}
 use Rattle.sequence.specs.Keyed.{Each}
-use Rattle.sound.specs.Sound.{SoundAssoc, SoundSpatial, SoundParts, SoundRec}
-use Rattle.sound.proofs.Lists.{each-each}
+use Rattle.sound.specs.Sound.{SoundAssoc, SoundSpatial, SoundRec}
 use Rattle.sound.proofs.Values.{all-length, pass-each}
 use Rattle.sound.proofs.Marks.{fieldKeys}
 
@@ -65,6 +62,13 @@ assoc-byte a s =
     let (l, v) = head-number (headOf InasNew) (Raw 1 ∷ []) b (fills (headOf InasNew) (Raw 1 ∷ []) b n (p .0) (raw-behind (drop n b))) 4 9 1 refl refl in
     sym (le1 b 9 l) ∙ sym v ∙ ap (λ (w : List Val). numAt w 4) (p .1)
 
+-- numbers before others are not fewer than those
+nums-length : (l m : List ℕ) → length m ≤ length (nums (l ++ m))
+unfolding nums each
+nums-length [] [] = omega arith
+nums-length [] (x ∷ m) = let h = nums-length [] m in omega arith
+nums-length (x ∷ l) m = let h = nums-length l m in omega arith
+
 -- a key of four numbers, and insert behind it
 four-numbers : (ks : List ℕ) → passAll (headOf InasNew) (nums (ks ++ (1 ∷ []))) ≡ true
     → let v = nums (ks ++ (1 ∷ [])) in (numAt v 0 ∷ numAt v 1 ∷ numAt v 2 ∷ numAt v 3 ∷ [] ≡ ks) × (numAt v 4 ≡ 1)
@@ -74,11 +78,7 @@ four-numbers (a ∷ []) p = absurd (omega (arith, all-length (headOf InasNew) _ 
 four-numbers (a ∷ b ∷ []) p = absurd (omega (arith, all-length (headOf InasNew) _ p))
 four-numbers (a ∷ b ∷ c ∷ []) p = absurd (omega (arith, all-length (headOf InasNew) _ p))
 four-numbers (a ∷ b ∷ c ∷ d ∷ []) p = (refl, refl)
-four-numbers (a ∷ b ∷ c ∷ d ∷ e ∷ ks) p = absurd (omega (arith, too-long ks, all-length (headOf InasNew) _ p))
-  where
-    too-long : (l : List ℕ) → 0 < length (each (λ n. num n) (l ++ (1 ∷ [])))
-    too-long [] = unfold each in omega arith
-    too-long (x ∷ l) = unfold each in omega arith
+four-numbers (a ∷ b ∷ c ∷ d ∷ e ∷ ks) p = absurd (omega (arith, nums-length ks (1 ∷ []), all-length (headOf InasNew) _ p))
 
 -- it is read by the format of an insert
 pub assoc-format : (a : Assoc) → SoundAssoc a → inasFormat false ((assocField a) .body) ≡ InasNew
@@ -124,17 +124,7 @@ unfolding nums each tupleOf
 two-numbers [] a b c p = absurd (omega (arith, all-length (tupleOf SpasNew) _ p))
 two-numbers (x ∷ []) a b c p = absurd (omega (arith, all-length (tupleOf SpasNew) _ p))
 two-numbers (x ∷ y ∷ []) a b c p = refl
-two-numbers (x ∷ y ∷ z ∷ ks) a b c p = absurd (omega (arith, too-long ks, all-length (tupleOf SpasNew) _ p))
-  where
-    too-long : (l : List ℕ) → 3 < length (each (λ n. num n) (l ++ (a ∷ b ∷ c ∷ 1 ∷ [])))
-    too-long [] = unfold each in omega arith
-    too-long (x ∷ l) = let h = longer l in unfold each in omega arith
-      where
-        longer : (l : List ℕ) → 2 < length (each (λ n. num n) (l ++ (a ∷ b ∷ c ∷ 1 ∷ [])))
-        longer [] = unfold each in omega arith
-        longer (x ∷ []) = unfold each in omega arith
-        longer (x ∷ y ∷ []) = unfold each in omega arith
-        longer (x ∷ y ∷ z ∷ l) = unfold each in omega arith
+two-numbers (x ∷ y ∷ z ∷ ks) a b c p = absurd (omega (arith, nums-length ks (a ∷ b ∷ c ∷ 1 ∷ []), all-length (tupleOf SpasNew) _ p))
 
 -- a key is read again
 pub spatial-key : (s : Spatial) → SoundSpatial s → spasKey (spatialVals s) ≡ s .key

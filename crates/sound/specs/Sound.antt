@@ -35,10 +35,15 @@ use Rattle.updates.specs.Sorted.{Sorted}
 
 -- ---- attributes
 
+-- a value that can be written: bytes without separators
+pub record SoundText (v : List ℕ) : Type 0 where
+  pub taken : passes Text (txt v) ≡ true
+  pub bytes : Bytes v
+
 -- every code and every value can be written
 pub data Ranged : Forest → Type 0 where
   r-nil : Ranged nil
-  r-tree : {c : ℕ} {v : List ℕ} {kids rest : Forest} → passes code (num c) ≡ true → passes Text (txt v) ≡ true → Ranged kids → Ranged rest → Ranged (tree c v kids rest)
+  r-tree : {c : ℕ} {v : List ℕ} {kids rest : Forest} → passes code (num c) ≡ true → SoundText v → Ranged kids → Ranged rest → Ranged (tree c v kids rest)
 
 -- a tree of such entries, none of which has a value beside a child
 pub record Attributes (f : Forest) : Type 0 where
