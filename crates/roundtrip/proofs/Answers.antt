@@ -18,12 +18,9 @@ use Rattle.updates.proofs.Kept.{result-writable}
 use Rattle.sound.specs.Sound.{Sound}
 use Rattle.sound.proofs.Read.{read-sound}
 use Rattle.sound.proofs.Updated.{updated-sound}
+use Rattle.roundtrip.specs.Form.{formOf, Form}
 use Rattle.roundtrip.proofs.Dataset.{round-trip}
 use Rattle.roundtrip.proofs.Bytes.{written-bytes}
-
--- its bytes, and the count of its records
-abbrev pub formOf : Dataset → Written
-formOf d = record { bytes = writtenBytes d; records = count d }
 
 -- ---- the written form of a sound dataset
 
@@ -70,13 +67,6 @@ room-inv room d w e =
 outcome-inv : (f : List ℕ) (d : Dataset) → readOutcome f ≡ done d → readDataset f ≡ done d
 unfolding readOutcome
 outcome-inv f d e = let (t, a, b) = andThen-inv (notTooLong 1 f) _ d e in b
-
--- what was written out: the written form of a sound dataset that can be written
-pub record Form (w : Written) (d : Dataset) : Type 0 where
-  pub sound : Sound d
-  pub isWritable : writable d ≡ done d
-  pub isForm : w ≡ formOf d
-  pub isShort : length (w .bytes) ≤ 16777216
 
 -- what a reader, a writer and an updater make of it
 module _ (w : Written) (d : Dataset) (f : Form w d) where
