@@ -1,12 +1,12 @@
 -- What a refusal of the tree rule says: 6, at the place of one of the tuples. Assumes nothing.
-use mathlib.Core.Path.{_≡_, refl, sym, ap, _∙_}
+use mathlib.Core.Path.{_≡_, refl, sym, _∙_}
 use mathlib.Core.List.{List, [], _∷_}
 use mathlib.Core.Logic.{⊎-elim}
-use mathlib.Core.Bool.{Bool, true, false, true≢false}
+use mathlib.Core.Bool.{true, false, true≢false}
 use Prim.Native.Nat.{ℕ, suc, _+_, _≤_, _<_}
 use native.Mathlib.Omega.{arith}
 use lib.ListN.{length}
-use Rattle.base.specs.Check.{Check, ok, no, bind, fault}
+use Rattle.base.specs.Check.{Check, no, bind}
 use Rattle.base.specs.declared.Fault.{Fault}
 use Rattle.forest.specs.Rule.{allTaken, treeOf}
 use Rattle.forest.specs.Forest.{Tup}
@@ -14,7 +14,7 @@ use Rattle.forest.specs.Acts.{UTup, actsOf}
 use Rattle.forest.specs.Reader.{Read, readUpTo}
 use Rattle.forest.proofs.CheckLaws.{ok-no, no-same, bind-no, bind-then}
 use Rattle.forest.proofs.ReaderLaws.{Refusal, between-end, read-refused}
-use Rattle.forest.proofs.TupleReader.{Passing, passing, onFirst, TupleRule, source, told, list-falls, rule-reads}
+use Rattle.forest.proofs.TupleReader.{Passing, passing, onFirst, TupleRule, source, list-falls, rule-reads}
 use Rattle.forest.proofs.RunLaws.{wholeRule, actsRule}
 
 -- a tuple that is left over

@@ -6,6 +6,7 @@ pub mod RunLaws
 pub mod FaultLaws
 pub mod TuplesLaws
 pub mod TreeLaws
+pub mod PaperLaws
 pub mod EditLaws
 pub mod FlatLaws
 pub mod Splice

@@ -1,13 +1,13 @@
 -- The laws of reading entries: how a run goes on, what is kept through it, that any bound that is enough gives the same, and that two
 -- sources that look alike are read alike. Assumes nothing.
 use mathlib.Core.Path.{_≡_, refl, sym, ap, _∙_}
-use mathlib.Core.Bool.{Bool, true, false, not, true≢false}
+use mathlib.Core.Bool.{Bool, true, false, not}
 use mathlib.Core.Logic.{⊎-elim}
 use Prim.Native.Nat.{ℕ, zero, suc, _+_, _≤_, _<_}
 use native.Mathlib.Omega.{arith}
 use lib.Dec.{eqb}
-use borrow.Author.Tests.{eq-eqb, ne-eqb, eqb-true}
-use Rattle.base.specs.Choice.{pick, both, either}
+use borrow.Author.Tests.{eqb-true}
+use Rattle.base.specs.Choice.{either}
 use Rattle.base.specs.Check.{Check, ok, no, bind, fault, refuse}
 use Rattle.base.specs.declared.Fault.{Fault}
 use Rattle.base.proofs.ChoiceLaws.{both-hold}
@@ -49,7 +49,7 @@ module _ {S F : Type 0} (d : Reader S F) where
 
   -- how the reading of a run can go well: it is empty, or an entry, its children and the rest were read
   pub data Turn (n p : ℕ) (shut : Bool) (s : S) (r : Read S F) : Type 0 where
-    stopped : r ≡ record { found = d .none; end = s } → Turn n p shut s r
+    stopped : belongs d p s ≡ false → r ≡ record { found = d .none; end = s } → Turn n p shut s r
     went : (kids rest : Read S F) → d .here s ≡ true → d .parent s ≡ p → faulty d shut s ≡ false
         → readUpTo d n (d .place s) (d .shuts s) (d .next s) ≡ ok kids → readUpTo d n p shut (kids .end) ≡ ok rest
         → r ≡ record { found = d .one s (kids .found) (rest .found); end = rest .end } → Turn n p shut s r
@@ -60,7 +60,7 @@ module _ {S F : Type 0} (d : Reader S F) where
   read-turn n p shut s r e = go (belongs d p s) refl (faulty d shut s) refl
     where
       go : (x : Bool) → belongs d p s ≡ x → (y : Bool) → faulty d shut s ≡ y → Turn n p shut s r
-      go false b y f = stopped (ok-same (sym e ∙ read-past (suc n) p shut s b))
+      go false b y f = stopped b (ok-same (sym e ∙ read-past (suc n) p shut s b))
       go true b true f = never (sym (read-faulty n p shut s b f) ∙ e)
       go true b false f =
           let (here, parent) = both-hold (d .here s) (eqb (d .parent s) p) b in
@@ -75,7 +75,7 @@ module _ {S F : Type 0} (d : Reader S F) where
     -- through one turn
     turn-keeps : (n p : ℕ) (shut : Bool) (s : S) (r : Read S F)
         → ((q : ℕ) (c : Bool) (t : S) (k : Read S F) → readUpTo d n q c t ≡ ok k → I q t → I q (k .end)) → Turn n p shut s r → I p s → I p (r .end)
-    turn-keeps n p shut s r ih (stopped x) i = rw x i
+    turn-keeps n p shut s r ih (stopped b x) i = rw x i
     turn-keeps n p shut s r ih (went kids rest h q f k l x) i =
         rw x (ih p shut (kids .end) rest l (back p s (kids .end) h q i (ih (d .place s) (d .shuts s) (d .next s) kids k (into p s h q i))))
 
@@ -150,6 +150,60 @@ module _ {S F : Type 0} (d : Reader S F) where
         ∙ ap (λ (c : Check (Read S F)). entryThen d s c (readUpTo d n p shut)) (run-is n (d .place s) (d .shuts s) (d .next s) (omega arith))
         ∙ entry-same s (readRun d (d .place s) (d .shuts s) (d .next s)) _ _
         (λ k e. run-is n p shut (k .end) (omega (arith, below, read-falls (d .rest (d .next s)) (d .place s) (d .shuts s) (d .next s) k e)))
+
+  -- ---- what holds at every entry
+
+  -- the reading of a run stops where no entry of it stands, and what passes from an entry to its children, and from where they stop back to
+  -- the run, holds there
+  module _ (falls : Falls d) (I : ℕ → Bool → S → Type 0)
+      (into : (p : ℕ) (shut : Bool) (s : S) → d .here s ≡ true → d .parent s ≡ p → faulty d shut s ≡ false → I p shut s → I (d .place s) (d .shuts s) (d .next s))
+      (back : (p : ℕ) (shut : Bool) (s t : S) → d .here s ≡ true → d .parent s ≡ p → I p shut s → belongs d (d .place s) t ≡ false → I (d .place s) (d .shuts s) t → I p shut t) where
+    -- one turn
+    turn-holds : (n p : ℕ) (shut : Bool) (s : S) (r : Read S F) → d .rest s ≤ suc n
+        → ((q : ℕ) (c : Bool) (t : S) (k : Read S F) → d .rest t ≤ n → readUpTo d n q c t ≡ ok k → I q c t → I q c (k .end) × (belongs d q (k .end) ≡ false))
+        → Turn n p shut s r → I p shut s → I p shut (r .end) × (belongs d p (r .end) ≡ false)
+    turn-holds n p shut s r l ih (stopped b x) i = rw x (i, b)
+    turn-holds n p shut s r l ih (went kids rest h q f k m x) i =
+        let below = ih (d .place s) (d .shuts s) (d .next s) kids (omega (arith, falls s h)) k (into p shut s h q f i) in
+        let less = read-falls falls n (d .place s) (d .shuts s) (d .next s) kids k in
+        rw x (ih p shut (kids .end) rest (omega (arith, falls s h, less)) m (back p shut s (kids .end) h q i (below .1) (below .0)))
+
+    -- what holds where the run stops
+    pub read-holds : (n p : ℕ) (shut : Bool) (s : S) (r : Read S F) → d .rest s ≤ n → readUpTo d n p shut s ≡ ok r → I p shut s
+        → I p shut (r .end) × (belongs d p (r .end) ≡ false)
+    unfolding readUpTo
+    read-holds zero p shut s r l e i = rw (← ok-same e) (i, nothing-left falls p s l)
+    read-holds (suc n) p shut s r l e i = turn-holds n p shut s r l (read-holds n) (read-turn n p shut s r e) i
+
+    -- a run with no entry that is faulty is not refused
+    module _ (fine : (p : ℕ) (shut : Bool) (s : S) → belongs d p s ≡ true → I p shut s → faulty d shut s ≡ false) where
+      -- nor is an entry, its children and the rest
+      entry-accepted : (n p : ℕ) (shut : Bool) (s : S) (f : Fault) → d .rest s ≤ suc n → d .here s ≡ true → d .parent s ≡ p → faulty d shut s ≡ false
+          → ((q : ℕ) (c : Bool) (t : S) → d .rest t ≤ n → readUpTo d n q c t ≡ no f → I q c t → ⊥) → I p shut s
+          → entryThen d s (readUpTo d n (d .place s) (d .shuts s) (d .next s)) (readUpTo d n p shut) ≡ no f → ⊥
+      unfolding entryThen
+      entry-accepted n p shut s f l h q g ih i e =
+          ⊎-elim
+          (λ x. ih (d .place s) (d .shuts s) (d .next s) (omega (arith, falls s h)) x (into p shut s h q g i))
+          (λ x. let (r, kids, rest) = x in
+          let below = read-holds n (d .place s) (d .shuts s) (d .next s) r (omega (arith, falls s h)) kids (into p shut s h q g i) in
+          let less = read-falls falls n (d .place s) (d .shuts s) (d .next s) r kids in
+          ⊎-elim (λ y. ih p shut (r .end) (omega (arith, falls s h, less)) y (back p shut s (r .end) h q i (below .1) (below .0))) (λ y. ok-no (y .2))
+          (bind-no (readUpTo d n p shut (r .end)) _ f rest))
+          (bind-no (readUpTo d n (d .place s) (d .shuts s) (d .next s)) _ f e)
+
+      -- nor is a run
+      pub read-accepted : (n p : ℕ) (shut : Bool) (s : S) (f : Fault) → d .rest s ≤ n → readUpTo d n p shut s ≡ no f → I p shut s → ⊥
+      unfolding readUpTo
+      read-accepted zero p shut s f l e i = ok-no e
+      read-accepted (suc n) p shut s f l e i = go (read-accepted n) (belongs d p s) refl
+        where
+          go : ((q : ℕ) (c : Bool) (t : S) (g : Fault) → d .rest t ≤ n → readUpTo d n q c t ≡ no g → I q c t → ⊥) → (x : Bool) → belongs d p s ≡ x → ⊥
+          go ih false x = ok-no (sym (read-past (suc n) p shut s x) ∙ e)
+          go ih true x =
+              let g = fine p shut s x i in
+              let (h, q) = both-hold (d .here s) (eqb (d .parent s) p) x in
+              entry-accepted n p shut s f l h (eqb-true _ _ q) g (λ a c t. ih a c t f) i (sym (read-entry n p shut s x g) ∙ e)
 
   -- ---- what a refusal says
 

@@ -7,7 +7,7 @@ use Prim.Native.Nat.{ℕ, suc}
 use lib.ListN.{length}
 use Rattle.forest.specs.Forest.{Forest, nil, tree, Tup, valued}
 use Rattle.forest.specs.Rule.{indexed, Run, entryOf, runUpTo}
-use Rattle.forest.specs.Acts.{Act, UTup, Acts, done, act, deletes, ActRun, actOf, actsUpTo}
+use Rattle.forest.specs.Acts.{UTup, Acts, done, act, deletes, ActRun, actOf, actsUpTo}
 use Rattle.forest.proofs.TupleReader.{TupleRule}
 
 -- the whole tree rule

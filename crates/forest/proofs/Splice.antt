@@ -12,7 +12,7 @@ use Rattle.base.specs.Check.{Check, ok, no, bind, refuse}
 use Rattle.forest.specs.Forest.{Forest, nil, tree, valued, beside}
 use Rattle.forest.specs.Acts.{Acts, done, act, insert, delete, modify}
 use Rattle.forest.specs.Edit.{count, put, behind, cut, alter, edit}
-use Rattle.forest.specs.Flat.{Item, item, flat, split, push, named, over, countFlat, spot, pushed, locate, deeper, after, editFlat}
+use Rattle.forest.specs.Flat.{Item, item, flat, split, push, over, countFlat, spot, pushed, locate, deeper, after, editFlat}
 use Rattle.forest.proofs.CheckLaws.{bind-then}
 use Rattle.forest.proofs.Numbers.{eq-or-ne}
 use Rattle.forest.proofs.FlatLaws.{Stop, s-end, s-out, stop-suc, stop-flat, lead, at-here, at-other, over-stop, over-flat, count-deep, count-flat, spot-stop, spot-deep, leads, locate-stop, locate-deep}

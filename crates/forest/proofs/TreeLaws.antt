@@ -5,21 +5,20 @@ use mathlib.Core.Bool.{Bool, true, false, not, true≢false}
 use Prim.Native.Nat.{ℕ, zero, suc, _+_, _≤_, _<_}
 use native.Mathlib.Omega.{arith}
 use lib.ListN.{length}
-use lib.Dec.{eqb}
 use borrow.Author.Tests.{eq-eqb, ne-eqb, eqb-true}
-use Rattle.base.specs.Choice.{pick, either}
-use Rattle.base.specs.Check.{Check, ok, no, bind, refuse}
+use Rattle.base.specs.Choice.{either}
+use Rattle.base.specs.Check.{Check, ok, bind}
 use Rattle.forest.specs.Forest.{Forest, nil, tree, Tup, occurs, size, tuplesFrom, tuplesOf, valued, beside, Plain, p-nil, p-tree}
 use Rattle.forest.specs.Rule.{codesOf, indexed, Run, allTaken, runUpTo, treeOf, entryOf}
 use Rattle.forest.specs.Reader.{Reader, Read, readUpTo}
 use Rattle.forest.proofs.CheckLaws.{never, ok-same, bind-inv, bind-then}
 use Rattle.forest.proofs.ReaderLaws.{Turn, stopped, went, read-turn}
-use Rattle.forest.proofs.TupleReader.{Passing, passing, TupleRule, source, rule-reads}
+use Rattle.forest.proofs.TupleReader.{Passing, passing, source, rule-reads}
 use Rattle.forest.proofs.RunLaws.{wholeRule}
-use Rattle.forest.proofs.TuplesLaws.{onto, onto-append, onto-length, from-length, tuples-length, other-code, own-code, codes-below, Low, low-none, low-next, low-onto}
+use Rattle.forest.proofs.TuplesLaws.{onto, onto-append, onto-length, from-length, other-code, own-code, codes-below, Low, low-none, low-next, low-onto}
 
 -- the tuples of the rule as a source of entries
-abbrev tuples : Reader (Passing (List Tup) Tup) Forest
+abbrev pub tuples : Reader (Passing (List Tup) Tup) Forest
 tuples = source wholeRule
 
 -- ---- an entry, between its children and the rest of its run
@@ -102,7 +101,7 @@ childless zero p s r e = ap (λ (q : Read (Passing (List Tup) Tup) Forest). q .f
 childless (suc n) p s r e = go (read-turn tuples n p true s r e)
   where
     go : Turn tuples n p true s r → r .found ≡ nil
-    go (stopped x) = ap (λ (q : Read (Passing (List Tup) Tup) Forest). q .found) x
+    go (stopped b x) = ap (λ (q : Read (Passing (List Tup) Tup) Forest). q .found) x
     go (went kids rest h q f k l x) = absurd (true≢false f)
 
 -- so no value stands beside a child
@@ -112,13 +111,13 @@ bare-kids [] n p s r e = refl
 bare-kids (x ∷ v) n p s r e = rw (childless n p s r e)
 
 -- an entry that is not faulty is rightly made
-unfaulty : (shut right : Bool) → either shut (not right) ≡ false → right ≡ true
+pub unfaulty : (shut right : Bool) → either shut (not right) ≡ false → right ≡ true
 unfaulty true right e = absurd (true≢false e)
 unfaulty false true e = refl
 unfaulty false false e = absurd (true≢false e)
 
 -- the index of a tuple that is right
-index-right : (earlier : List Tup) (p : ℕ) (t : Tup) → t .paix ≡ p → indexed earlier t ≡ true → t .atix ≡ suc (occurs (t .natc) (codesOf p earlier))
+pub index-right : (earlier : List Tup) (p : ℕ) (t : Tup) → t .paix ≡ p → indexed earlier t ≡ true → t .atix ≡ suc (occurs (t .natc) (codesOf p earlier))
 unfolding indexed
 index-right earlier p t e h = rw e at (eqb-true (t .atix) (suc (occurs (t .natc) (codesOf (t .paix) earlier))) h)
 
@@ -128,7 +127,7 @@ turn-sound : (n : ℕ) (earlier : List Tup) (p : ℕ) (barren : Bool) (ts : List
     → readUpTo tuples n q b (passing e us) ≡ ok k → Sound e q us (k .found) (k .end .past) (k .end .left))
     → Turn tuples n p barren (passing earlier ts) r → Sound earlier p ts (r .found) (r .end .past) (r .end .left)
 unfolding wholeRule
-turn-sound n earlier p barren ts r fits low ih (stopped x) = rw x (sound-none earlier p ts)
+turn-sound n earlier p barren ts r fits low ih (stopped b x) = rw x (sound-none earlier p ts)
 turn-sound n earlier p barren [] r fits low ih (went kids rest h q f k l x) = absurd (true≢false (sym h))
 turn-sound n earlier p barren (t ∷ ts) r fits low ih (went kids rest h q f k l x) =
     let i = index-right earlier p t q (unfaulty barren (indexed earlier t) f) in
@@ -146,7 +145,7 @@ sound zero earlier p barren ts r fits low e = rw (← ok-same e) (sound-none ear
 sound (suc n) earlier p barren ts r fits low e = turn-sound n earlier p barren ts r fits low (sound n) (read-turn tuples n p barren (passing earlier ts) r e)
 
 -- what the rule takes whole
-taken-whole : (f g : Forest) (k : ℕ) (ts : List Tup) → allTaken f k ts ≡ ok g → (f ≡ g) × (ts ≡ [])
+pub taken-whole : (f g : Forest) (k : ℕ) (ts : List Tup) → allTaken f k ts ≡ ok g → (f ≡ g) × (ts ≡ [])
 unfolding allTaken
 taken-whole f g k [] e = (ok-same e, refl)
 taken-whole f g k (t ∷ ts) e = never e

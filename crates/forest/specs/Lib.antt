@@ -4,4 +4,5 @@ pub mod Acts
 pub mod Edit
 pub mod Flat
 pub mod Reader
+pub mod Paper
 pub mod Opened

@@ -1,23 +1,23 @@
 -- The whole tree rule, and the test of an update's acts, are what the walk over a field's bytes finds. Assumes nothing.
 use mathlib.Core.Path.{_≡_, refl, sym, ap, _∙_}
 use mathlib.Core.List.{List, [], _∷_}
-use mathlib.Core.Bool.{Bool, true, false, not, true≢false}
-use Prim.Native.Nat.{ℕ, suc, _+_, _≤_, _<_}
+use mathlib.Core.Bool.{Bool, true, false, not}
+use Prim.Native.Nat.{ℕ, suc, _+_, _<_}
 use native.Mathlib.Omega.{arith}
 use native.Mathlib.Nat.{add-zero}
 use lib.ListN.{length, getD, take, drop, length-drop}
 use lib.Seq.{getD-drop}
 use lib.Dec.{eqb}
-use borrow.Author.Tests.{eq-eqb, ne-eqb, eqb-true, eqb-false}
-use Rattle.base.specs.Choice.{pick, either}
+use borrow.Author.Tests.{eqb-true}
+use Rattle.base.specs.Choice.{pick}
 use Rattle.base.specs.Lists.{each}
 use Rattle.fields.specs.Bytes.{le, run, sep}
 use Rattle.fields.specs.Content.{many}
 use Rattle.fields.specs.Places.{endingAt}
 use Rattle.fields.proofs.ByteLaws.{le1}
-use Rattle.forest.specs.Forest.{Forest, Tup, occurs, valued}
-use Rattle.forest.specs.Rule.{codesOf, indexed, Run, treeOf}
-use Rattle.forest.specs.Acts.{insert, delete, modify, deletes, ActRun, actsOf}
+use Rattle.forest.specs.Forest.{Tup, occurs, valued}
+use Rattle.forest.specs.Rule.{codesOf, indexed, treeOf}
+use Rattle.forest.specs.Acts.{insert, delete, modify, deletes, actsOf}
 use Rattle.forest.proofs.RunLaws.{wholeRule, actsRule}
 use Rattle.rules.specs.Trees.{tupOf, instructionOf, utupOf}
 use Rattle.tree.specs.Source.{two, past, hit, count, numbered, closed, runAt, remains}

@@ -1,18 +1,18 @@
 -- The tree rule of ATTR and INAS fields that have passed number 5, over their bytes; and what one number says of it. Assumes nothing.
 use mathlib.Core.Path.{_≡_, refl, sym, ap, _∙_}
 use mathlib.Core.List.{List, [], _∷_}
-use mathlib.Core.Bool.{Bool, true, false, not}
-use Prim.Native.Nat.{ℕ, _+_, _-_, _≤_, _<_}
+use mathlib.Core.Bool.{Bool, true, false}
+use Prim.Native.Nat.{ℕ, _-_, _≤_}
 use native.Mathlib.Omega.{arith}
 use lib.ListN.{length, getD, take, drop, length-drop}
 use lib.Seq.{take-all}
 use lib.Dec.{leb, eqb}
-use Rattle.base.specs.Choice.{pick, both}
+use Rattle.base.specs.Choice.{pick}
 use Rattle.base.specs.Lists.{each}
 use Rattle.fields.specs.Table.{code, insert, headOf, tupleOf}
 use Rattle.base.specs.Walk.{Got}
 use Rattle.fields.specs.Values.{Val}
-use Rattle.fields.specs.Content.{many, content, fill}
+use Rattle.fields.specs.Content.{many, fill}
 use Rattle.fields.specs.declared.Sub.{Sub}
 use Rattle.fields.specs.Places.{endingAt}
 use Rattle.fields.specs.declared.Format.the-variants.{Attr, AttrNew, InasNew, InasGone}
@@ -28,7 +28,7 @@ use mathlib.Core.Option.{some}
 use Rattle.fields.specs.declared.Sub.the-variants.{B11, Raw}
 use Rattle.forest.specs.Rule.{treeOf}
 use Rattle.rules.specs.Content.{inasFormat}
-use Rattle.rules.specs.Trees.{tupOf, utupOf, attrTree, attrActs, inasTree}
+use Rattle.rules.specs.Trees.{tupOf, attrTree, attrActs, inasTree}
 use Rattle.tree.specs.Source.{runAt, remains}
 use Rattle.tree.specs.Known.{Whole}
 use Rattle.tree.specs.Verdict.{faultyTuple}

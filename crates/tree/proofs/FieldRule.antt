@@ -2,22 +2,19 @@
 use mathlib.Core.Path.{_≡_, refl, sym, ap, _∙_}
 use mathlib.Core.List.{List, [], _∷_}
 use mathlib.Core.Logic.{⊎-elim}
-use mathlib.Core.Bool.{Bool, true, false, true≢false}
-use Prim.Native.Nat.{ℕ, suc, _+_, _-_, _≤_, _<_}
+use mathlib.Core.Bool.{Bool, true, false}
+use Prim.Native.Nat.{ℕ, _+_, _≤_, _<_}
 use native.Mathlib.Omega.{arith}
 use lib.ListN.{length, drop}
-use lib.Dec.{ltb}
 use borrow.Author.Tests.{lt-ltb, le-ltb, ltb-true}
-use Rattle.base.specs.Choice.{pick}
-use Rattle.base.specs.Check.{Check, ok, no, bind, refuse}
+use Rattle.base.specs.Check.{Check, ok, bind}
 use Rattle.base.specs.Lists.{each}
 use Rattle.fields.specs.Values.{Val}
 use Rattle.fields.specs.Content.{many}
 use Rattle.fields.specs.Places.{endingAt}
-use Rattle.forest.specs.Reader.{Reader, Read, readUpTo, readRun}
+use Rattle.forest.specs.Reader.{Read}
 use Rattle.forest.specs.Rule.{allTaken}
 use Rattle.forest.proofs.Numbers.{lt-or-le}
-use Rattle.forest.proofs.CheckLaws.{bind-then}
 use Rattle.forest.proofs.ReaderLaws.{Alike, Agree, refused, came, read-alike, run-is}
 use Rattle.forest.proofs.TupleReader.{Passing, passing, onFirst, TupleRule, source, told, rule-reads, rule-bound}
 use Rattle.tree.specs.Source.{two, past, numbered, closed, Spot, spot, tuplesIn, walkOf, runAt, remains}

@@ -3,18 +3,17 @@ use mathlib.Core.Path.{_≡_, refl, sym, ap, _∙_}
 use mathlib.Core.List.{List, [], _∷_}
 use mathlib.Core.Option.{Option, some}
 use mathlib.Core.Bool.{true, true≢false}
-use Prim.Native.Nat.{ℕ, zero, suc, _+_, _-_, _≤_, _<_}
+use Prim.Native.Nat.{ℕ, zero, suc, _+_, _≤_, _<_}
 use native.Mathlib.Omega.{arith}
-use lib.ListN.{length, getD, take, drop, length-drop, drop-of-length-le}
+use lib.ListN.{length, getD, take, drop, length-drop}
 use lib.Seq.{getD-drop, drop-drop}
-use lib.Dec.{eqb}
 use borrow.Author.Tests.{eqb-true}
-use Rattle.base.specs.Walk.{Got, before}
+use Rattle.base.specs.Walk.{Got}
 use mathlib.Core.Logic.{⊎-elim}
 use Rattle.forest.proofs.Numbers.{lt-or-le}
 use Rattle.fields.specs.Bytes.{le, run}
 use Rattle.fields.specs.Table.{code, count}
-use Rattle.fields.specs.Sizes.{inRange, any, size, sizes, amount}
+use Rattle.fields.specs.Sizes.{size, sizes, amount}
 use Rattle.fields.specs.Values.{Val, num, txt, value, width, values}
 use Rattle.fields.specs.Valid.{allows}
 use Rattle.fields.specs.Content.{tuples, many}

@@ -8,7 +8,7 @@ use native.Mathlib.Omega.{arith}
 use lib.ListN.{length}
 use lib.Dec.{ltb}
 use borrow.Author.Tests.{lt-ltb, le-ltb, ltb-true}
-use Rattle.base.specs.Check.{Check, ok, no, bind, fault, pass, passed}
+use Rattle.base.specs.Check.{Check, ok, no, bind, fault, passed}
 use Rattle.base.specs.declared.Fault.{Fault}
 use Rattle.fields.specs.Table.{headOf, tupleOf}
 use Rattle.fields.specs.Content.{fill}

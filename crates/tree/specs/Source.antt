@@ -8,7 +8,6 @@ use Rattle.base.specs.Choice.{pick, either}
 use Rattle.base.specs.Check.{Check, ok, no}
 use Rattle.fields.specs.Bytes.{le, run}
 use Rattle.forest.specs.Reader.{Reader, Read, faulty, readRun}
-use Rattle.base.specs.Check.{refuse}
 use Rattle.tree.specs.declared.walk.Walk.{Walk}
 use Rattle.tree.specs.declared.walk.Walk.the-variants.{Bad, Upto}
 

@@ -55,7 +55,7 @@ pub fn due_index(
     if !whole {
         return 0;
     }
-    if top < code {
+    if code > top {
         return 1;
     }
     if top == code {

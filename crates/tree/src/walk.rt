@@ -23,14 +23,8 @@ pub fn entry(b: &[u8], at: usize, place: usize, due: usize, shut: bool, whole: b
     if tuple::breaks(b, at, due, shut, whole) {
         return Walk::Bad(place);
     }
-    run(
-        b,
-        first,
-        place,
-        place + 1,
-        tuple::is_closed(b, at, whole),
-        whole,
-    )
+    let childless = tuple::is_closed(b, at, whole);
+    run(b, first, place, place + 1, childless, whole)
 }
 
 // The run of `parent` from `at` on, its first entry of this place; `shut`: that parent takes no child.

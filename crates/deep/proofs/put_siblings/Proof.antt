@@ -1,8 +1,7 @@
-use mathlib.Core.Path.{_≡_, refl, _∙_}
+use mathlib.Core.Path.{_≡_}
 use Prim.Native.Nat.{_-_}
 use lib.ListN.{length}
 use borrow.Author.Needs.{needs}
-use native.Mathlib.Omega.{arith}
 use Rattle.deep.proofs.put_siblings.Statement.{statement}
 use Rattle.deep.proofs.put_siblings.Tie as tie
 use Rattle.deep.proofs.put_siblings.Reads as reads

@@ -1,6 +1,5 @@
 use Rattle.fields.proofs.FieldLaws.{count-fill}
 use mathlib.Core.Path.{sym, _∙_}
-use native.Mathlib.Omega.{arith}
 use borrow.Author.Needs.{needs}
 use Rattle.deep.proofs.tree_of.Statement.{statement}
 use Rattle.deep.proofs.tree_of.Tie as tie

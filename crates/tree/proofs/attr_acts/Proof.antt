@@ -1,7 +1,5 @@
 use Rattle.tree.proofs.FieldLaws.{acts-whole, attr-acts}
 use mathlib.Core.Path.{_∙_}
-use borrow.Author.Needs.{needs}
-use native.Mathlib.Omega.{arith}
 use Rattle.tree.proofs.attr_acts.Statement.{statement}
 use Rattle.tree.proofs.attr_acts.Tie as tie
 use Rattle.tree.proofs.attr_acts.Reads as reads

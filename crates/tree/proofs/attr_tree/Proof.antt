@@ -1,7 +1,5 @@
 use Rattle.tree.proofs.FieldLaws.{attr-whole, attr-tree}
 use mathlib.Core.Path.{_∙_}
-use borrow.Author.Needs.{needs}
-use native.Mathlib.Omega.{arith}
 use Rattle.tree.proofs.attr_tree.Statement.{statement}
 use Rattle.tree.proofs.attr_tree.Tie as tie
 use Rattle.tree.proofs.attr_tree.Reads as reads

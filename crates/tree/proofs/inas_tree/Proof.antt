@@ -1,6 +1,5 @@
 use Rattle.tree.proofs.FieldLaws.{inas-long, inas-whole, inas-tree}
 use mathlib.Core.Path.{_∙_}
-use native.Mathlib.Omega.{arith}
 use borrow.Author.Needs.{needs}
 use Rattle.tree.proofs.inas_tree.Statement.{statement}
 use Rattle.tree.proofs.inas_tree.Tie as tie

@@ -1,7 +1,6 @@
 use Rattle.tree.proofs.TestLaws.{asked, unasked}
 use Rattle.tree.proofs.KnownLaws.{due-new, due-top, due-counted}
 use Rattle.tree.proofs.CountLaws.{count-within}
-use Prim.Native.Nat.{_-_}
 use native.Mathlib.Omega.{arith}
 use borrow.Author.Needs.{needs}
 use Rattle.tree.proofs.siblings.due_index.Statement.{statement}

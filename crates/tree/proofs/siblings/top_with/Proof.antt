@@ -1,6 +1,4 @@
 use Rattle.tree.proofs.TestLaws.{pick-less, pick-not-less}
-use borrow.Author.Needs.{needs}
-use native.Mathlib.Omega.{arith}
 use Rattle.tree.proofs.siblings.top_with.Statement.{statement}
 use Rattle.tree.proofs.siblings.top_with.Tie as tie
 use Rattle.tree.proofs.siblings.top_with.Reads as reads

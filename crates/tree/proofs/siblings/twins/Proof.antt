@@ -1,10 +1,9 @@
 use Rattle.tree.proofs.CountLaws.{past-above, whole-past, whole-next, count-none, count-more, count-within}
 use Rattle.tree.specs.Known.{Whole}
-use Rattle.tree.specs.Source.{past, hit, count}
+use Rattle.tree.specs.Source.{count}
 use lib.ListN.{length}
 use Prim.Native.Nat.{ℕ, _+_, _-_, _≤_, _<_}
 use mathlib.Core.Path.{_≡_, ap}
-use borrow.Author.Needs.{needs}
 use native.Mathlib.Omega.{arith}
 use Rattle.tree.proofs.siblings.twins.Statement.{statement}
 use Rattle.tree.proofs.siblings.twins.Tie as tie

@@ -1,5 +1,4 @@
 use Rattle.tree.specs.Source.{past}
-use borrow.Author.Needs.{needs}
 use native.Mathlib.Omega.{arith}
 use Rattle.tree.proofs.tuple.behind.Statement.{statement}
 use Rattle.tree.proofs.tuple.behind.Tie as tie

@@ -1,8 +1,4 @@
 use Rattle.tree.proofs.TestLaws.{breaks-index, asked}
-use lib.Dec.{eqb}
-use mathlib.Core.Bool.{not}
-use mathlib.Core.Path.{ap, _∙_}
-use native.Mathlib.Omega.{arith}
 use borrow.Author.Needs.{needs}
 use Rattle.tree.proofs.tuple.breaks.Statement.{statement}
 use Rattle.tree.proofs.tuple.breaks.Tie as tie

@@ -1,5 +1,4 @@
 use Rattle.tree.proofs.TestLaws.{closed-whole, closed-parents}
-use native.Mathlib.Omega.{arith}
 use borrow.Author.Needs.{needs}
 use Rattle.tree.proofs.tuple.is_closed.Statement.{statement}
 use Rattle.tree.proofs.tuple.is_closed.Tie as tie

@@ -2,10 +2,9 @@ use Rattle.tree.proofs.TurnLaws.{Going, going-start, entry-breaks, entr
 use Rattle.tree.proofs.WalkLaws.{run-end, run-other}
 use Rattle.tree.proofs.KnownLaws.{known-into, fresh-into}
 use Rattle.tree.proofs.CountLaws.{past-above, whole-past, reach-on}
-use Rattle.tree.specs.Source.{two, past}
 use lib.ListN.{length}
-use Prim.Native.Nat.{_+_, _-_, _*_, _≤_}
-use mathlib.Core.Path.{_≡_, refl, sym, ap, _∙_}
+use Prim.Native.Nat.{_+_, _-_, _*_}
+use mathlib.Core.Path.{refl, sym, _∙_}
 use borrow.Author.Needs.{needs}
 use native.Mathlib.Omega.{arith}
 use Prim.Native.Nat.{ℕ, _<_}
@@ -81,18 +80,6 @@ entry-returns : (t : ℕ) → entry-lts.Need-returns (
 ) (entry-at t) entry.Post
 entry-returns t c = entry-breaks _ _ _ _ _ _ _ (c .before .breaks .ensures) (c .before .before .before .before .pre .1 .2) (c .if1 .taken)
 
-entry-add-run : (t : ℕ) → entry-lts.Need-add-run (
-  behind-reads.Asked,
-  behind-reads.Learnt,
-  breaks-reads.Asked,
-  breaks-reads.Learnt,
-  is-closed-reads.Asked,
-  is-closed-reads.Learnt,
-  run-below t,
-  run.Post,
-) (entry-at t) entry.Post
-entry-add-run t c = let s = c .before .before .before .before in omega (arith, s .pre .1 .0 .slow, s .pre .1 .1)
-
 entry-is-closed-requires : (t : ℕ) → entry-lts.Need-is-closed-requires (
   behind-reads.Asked,
   behind-reads.Learnt,
@@ -104,6 +91,18 @@ entry-is-closed-requires : (t : ℕ) → entry-lts.Need-is-closed-requires (
   run.Post,
 ) (entry-at t) entry.Post
 entry-is-closed-requires t c κs = let s = c .before .before .before .before in omega (arith, past-above (s .args .b .now) (s .args .at), whole-past _ _ (s .pre .1 .0 .whole) (s .pre .1 .1))
+
+entry-add-run : (t : ℕ) → entry-lts.Need-add-run (
+  behind-reads.Asked,
+  behind-reads.Learnt,
+  breaks-reads.Asked,
+  breaks-reads.Learnt,
+  is-closed-reads.Asked,
+  is-closed-reads.Learnt,
+  run-below t,
+  run.Post,
+) (entry-at t) entry.Post
+entry-add-run t c = let s = c .before .before .before .before .before in omega (arith, s .pre .1 .0 .slow, s .pre .1 .1)
 
 entry-run-requires : (t : ℕ) → entry-lts.Need-run-requires (
   behind-reads.Asked,
@@ -361,8 +360,8 @@ pub +entry+run-spec : {M : Type 1} → statement M
     (entry-behind-requires t)
     (entry-breaks-requires t)
     (entry-returns t)
-    (entry-add-run t)
     (entry-is-closed-requires t)
+    (entry-add-run t)
     (entry-run-requires t)
     (entry-returns-2 t))
     λ t. run-lts.spec (
