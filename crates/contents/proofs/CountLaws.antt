@@ -58,7 +58,7 @@ c2il-many : (b : List ℕ) → length (many (tupleOf C2il) b) ≡ length b / 8
 unfolding many tupleOf allRaw tally
 c2il-many b = items-by (length b) (tuples (tupleOf C2il) b) (raw-tally (tupleOf C2il) refl (omega arith) b 0)
 
-each-length : {A B : Type 0} (f : A → B) (xs : List A) → length (each f xs) ≡ length xs
+pub each-length : {A B : Type 0} (f : A → B) (xs : List A) → length (each f xs) ≡ length xs
 unfolding each
 each-length f [] = refl
 each-length f (x ∷ xs) = ap suc (each-length f xs)

@@ -7,3 +7,7 @@ pub mod CountLaws
 pub mod ContentLaws
 pub mod ReaderLaws
 pub mod TreeLaws
+pub mod KeyLaws
+pub mod SpatialLaws
+pub mod EarlierLaws
+pub mod OnceLaws

@@ -1,2 +1,3 @@
 pub mod GeneralLaws
 pub mod CarriedLaws
+pub mod OpeningLaws

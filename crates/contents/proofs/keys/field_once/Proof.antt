@@ -1,0 +1,28 @@
+use Rattle.contents.proofs.OnceLaws.{field-once-ways}
+use borrow.Author.Needs.{needs}
+use native.Mathlib.Omega.{arith}
+use Rattle.contents.proofs.keys.field_once.Statement.{statement}
+use Rattle.contents.proofs.keys.field_once.Tie as tie
+use Rattle.contents.proofs.keys.field_once.Reads as reads
+use Rattle.contents.proofs.keys.field_once.Lts as lts
+use Rattle.contents.proofs.keys.inas_once.Reads as inas-once-reads
+use Rattle.contents.proofs.keys.spas_once.Reads as spas-once-reads
+
+inas-once-requires : tie.Need-inas-once-requires
+inas-once-requires c κs = (search needs, search needs, search field-once-ways)
+
+returns : tie.Need-returns
+returns c = search field-once-ways
+
+spas-once-requires : tie.Need-spas-once-requires
+spas-once-requires c κs = (search needs, search needs, search field-once-ways, search needs)
+
+returns-2 : tie.Need-returns-2
+returns-2 c = search field-once-ways
+
+returns-3 : tie.Need-returns-3
+returns-3 c = search field-once-ways
+
+pub field-once-spec : {M : Type 1} → statement M
+field-once-spec =
+    tie.close (tie.spec inas-once-requires returns spas-once-requires returns-2 returns-3)

@@ -1,0 +1,51 @@
+-- Laws of numbers 4 to 6 of one record. Assumes nothing.
+use mathlib.Core.Path.{_≡_, refl, sym, _∙_}
+use mathlib.Core.List.{List}
+use Prim.Native.Nat.{ℕ}
+use Rattle.base.specs.Check.{Check, ok, no, bind, fault, Passed, pass}
+use Rattle.base.specs.Verdict.{verdictOf}
+use Rattle.base.specs.declared.Verdict.{Verdict}
+use Rattle.base.specs.declared.Verdict.the-variants.{Passed as Through, Refused}
+use Rattle.skeleton.specs.File.{Field}
+use Rattle.rules.specs.Grammar.{number4}
+use Rattle.rules.specs.Content.{number5}
+use Rattle.rules.specs.Trees.{number6}
+use Rattle.rules.specs.declared.Kind.{Kind}
+use Rattle.rules.specs.declared.Mode.{Mode}
+use Rattle.records.specs.Graded.{graded}
+use Rattle.records.specs.declared.grammar.Tags.{Tags}
+use Rattle.records.specs.declared.grammar.Tags.the-variants.{Right, Wrong}
+use Rattle.dataset.specs.Numbers.{fourToSixIn}
+use Rattle.dataset.proofs.VerdictLaws.{passed-is, refused-is, right-is, wrong-is}
+
+module _ (m : Mode) (k : Kind) (fs : List Field) (v : Verdict) (ev : v ≡ verdictOf (number5 m k fs)) where
+  pub five-refused : (n i j : ℕ) → v ≡ Refused n i j → Wrong n i j ≡ graded (bind (number5 m k fs) (λ _. bind (number6 m k fs) (λ _. ok k)))
+  unfolding bind graded
+  five-refused n i j x = rw (refused-is (number5 m k fs) n i j (sym x ∙ ev))
+
+  module _ (x : v ≡ Through) where
+    pub five-passed : number5 m k fs ≡ pass
+    five-passed = passed-is (number5 m k fs) (sym x ∙ ev)
+
+    module _ (w : Verdict) (ew : w ≡ verdictOf (number6 m k fs)) where
+      pub six-refused : (n i j : ℕ) → w ≡ Refused n i j → Wrong n i j ≡ graded (bind (number5 m k fs) (λ _. bind (number6 m k fs) (λ _. ok k)))
+      unfolding bind graded
+      six-refused n i j y = rw five-passed (rw (refused-is (number6 m k fs) n i j (sym y ∙ ew)))
+
+      pub six-passed : w ≡ Through → Right k ≡ graded (bind (number5 m k fs) (λ _. bind (number6 m k fs) (λ _. ok k)))
+      unfolding bind graded
+      six-passed y = rw five-passed (rw (passed-is (number6 m k fs) (sym y ∙ ew)))
+
+pub ruleset five-six-ways = (five-refused, five-passed, six-refused, six-passed)
+
+module _ (m : Mode) (least : ℕ) (fs : List Field) (t : Tags) (et : t ≡ graded (number4 m least fs)) where
+  pub four-wrong : (n i j : ℕ) → t ≡ Wrong n i j → Wrong n i j ≡ graded (fourToSixIn m least fs)
+  unfolding fourToSixIn bind graded
+  four-wrong n i j x = rw (wrong-is (number4 m least fs) n i j (sym x ∙ et))
+
+  pub four-right : (k : Kind) → t ≡ Right k → (u : Tags) → u ≡ graded (bind (number5 m k fs) (λ _. bind (number6 m k fs) (λ _. ok k)))
+      → u ≡ graded (fourToSixIn m least fs)
+  unfolding fourToSixIn bind
+  four-right k x u e = rw (right-is (number4 m least fs) k (sym x ∙ et)) e
+
+pub ruleset four-ways = (four-wrong, four-right)

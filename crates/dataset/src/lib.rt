@@ -1,0 +1,2 @@
+// A whole dataset read.
+pub mod record;

@@ -1,0 +1,144 @@
+-- What the key of a record, or of a reference, is, where its field has its format. Assumes nothing.
+use mathlib.Core.Path.{_≡_, refl, sym, ap, _∙_}
+use mathlib.Core.List.{List, [], _∷_}
+use mathlib.Core.Bool.{Bool, true, false, not}
+use mathlib.Core.Option.{some}
+use Prim.Native.Nat.{ℕ, _+_, _*_, _/_, _≤_, _<_}
+use native.Mathlib.Omega.{arith}
+use borrow.Author.Tests.{leb-true, eqb-true}
+use lib.ListN.{length, getD, take, drop, length-drop}
+use lib.Dec.{leb, eqb}
+use Rattle.base.specs.Choice.{pick, both, either}
+use Rattle.base.specs.Check.{Check, ok, no, bind, Passed, pass}
+use Rattle.base.specs.Lists.{empty}
+use Rattle.base.proofs.ChoiceLaws.{both-hold, by-test}
+use Rattle.base.proofs.CheckLaws.{bind-inv}
+use Rattle.skeleton.specs.File.{Field}
+use Rattle.fields.specs.Bytes.{le}
+use Rattle.fields.specs.Sizes.{size, sizes, inRange, inSet}
+use Rattle.fields.specs.Table.{headOf, tupleOf}
+use Rattle.fields.specs.Values.{Val, value, values, numAt}
+use Rattle.fields.specs.Content.{fill, tallyField}
+use Rattle.fields.specs.declared.Format.{Format}
+use Rattle.fields.specs.declared.Sub.{Sub}
+use Rattle.fields.specs.declared.Sub.the-variants.{B11, B14, Among, Raw}
+use Rattle.fields.specs.declared.Tally.{Tally}
+use Rattle.fields.specs.declared.Tally.the-variants.{Whole, Short}
+use Rattle.fields.proofs.ByteLaws.{le1}
+use Rattle.fields.proofs.SizeLaws.{num-some, sizes-cons}
+use Rattle.fields.proofs.FieldLaws.{filled, count-fill}
+use Rattle.fields.proofs.ValueLaws.{head-number}
+use Rattle.rules.specs.ByTag.{front}
+use Rattle.rules.specs.Kind.{rcnm, rank, coded}
+use Rattle.rules.specs.Content.{identFormat, insertOnly, stands, filled as filledField, number5}
+use Rattle.rules.specs.Record.{identOf, keyNamed}
+use Rattle.rules.specs.declared.Kind.{Kind}
+use Rattle.rules.specs.declared.Kind.the-variants.{Info, Point, Multi, Feature}
+use Rattle.rules.specs.declared.Mode.the-variants.{InDataset}
+use Rattle.keys.specs.Key.{rankOf, keyAt}
+use Rattle.keys.specs.Listed.{keyOf}
+use Rattle.keys.specs.Map.{kindIn}
+use Rattle.keys.specs.Numbered.{numberOf, Ranged}
+use Rattle.keys.proofs.KeyLaws.{key-there}
+
+-- ---- a number c, and then a number in its range
+
+-- a body that begins with the number c and an RCID
+pub record Opens (c : ℕ) (b : List ℕ) : Type 0 where
+  pub room : 5 ≤ length b
+  pub kind : getD b 0 0 ≡ c
+  pub small : le 4 (drop 1 b) < 4294967296
+
+in-range : (lo hi v : ℕ) → inRange lo hi v ≡ true → (lo ≤ v) × (v ≤ hi)
+in-range lo hi v e = let r = both-hold (leb lo v) (leb v hi) e in (leb-true lo v (r .0), leb-true v hi (r .1))
+
+-- the number c, and the bytes behind it
+pub first-is : (c : ℕ) (ds : List Sub) (b : List ℕ) (n : ℕ) → sizes (B11 c c ∷ ds) b ≡ some n → (getD b 0 0 ≡ c) × (k : ℕ) × (sizes ds (drop 1 b) ≡ some k)
+unfolding size
+first-is c ds b n e =
+    let r = sizes-cons (B11 c c) ds b n e in
+    let p = num-some 1 (inRange c c) b (r .0) (r .2) in
+    let v = in-range c c (le 1 b) (p .2) in
+    let rest : sizes ds (drop 1 b) ≡ some (r .1) = rw (p .0) (r .3) in
+    (omega (arith, le1 b 0 (p .1)), r .1, rest)
+
+opens-of : (c : ℕ) (ds : List Sub) (b : List ℕ) (n : ℕ) → sizes (B11 c c ∷ B14 1 4294967294 ∷ ds) b ≡ some n → Opens c b
+unfolding size
+opens-of c ds b n e =
+    let r = first-is c (B14 1 4294967294 ∷ ds) b n e in
+    let s = sizes-cons (B14 1 4294967294) ds (drop 1 b) (r .1) (r .2) in
+    let q = num-some 4 (inRange 1 4294967294) (drop 1 b) (s .0) (s .2) in
+    let w = in-range 1 4294967294 (le 4 (drop 1 b)) (q .2) in
+    record { room = omega (arith, length-drop 1 b, q .1); kind = r .0; small = omega (arith, w .1) }
+
+-- ---- identifiers
+
+-- a field that stands is filled
+stands-fill : (i : ℕ) (k : Format) (b : List ℕ) (u : Unit {0}) → stands i k b ≡ ok u → fill (headOf k) (tupleOf k) b ≡ true
+unfolding stands
+stands-fill i k b u e = go (not (empty (tupleOf k))) (tallyField (headOf k) (tupleOf k) b) refl e
+  where
+    go : (t : Bool) (y : Tally) → tallyField (headOf k) (tupleOf k) b ≡ y → filledField i t y ≡ ok u → fill (headOf k) (tupleOf k) b ≡ true
+    go t (Whole n) x h = count-fill (headOf k) (tupleOf k) b n x
+    go t (Short j) x h = absurd (let z : _≡_ {A = ℕ} 0 1 = cc in omega arith)
+
+-- the identifier of each kind, where every instruction is insert
+ident-opens : (k : Kind) (b : List ℕ) → fill (headOf (identFormat true k)) (tupleOf (identFormat true k)) b ≡ true → Opens (rcnm k) b
+unfolding identFormat headOf rcnm
+ident-opens Info b e = opens-of 150 _ b _ (filled _ _ b e .taken)
+ident-opens Point b e = opens-of 110 _ b _ (filled _ _ b e .taken)
+ident-opens Multi b e = opens-of 115 _ b _ (filled _ _ b e .taken)
+ident-opens Feature b e = opens-of 100 _ b _ (filled _ _ b e .taken)
+
+ident-rcid : (k : Kind) (b : List ℕ) → fill (headOf (identFormat true k)) (tupleOf (identFormat true k)) b ≡ true → (identOf k b) .rcid ≡ le 4 (drop 1 b)
+unfolding identOf identFormat coded headOf values
+ident-rcid Info b e = head-number _ _ b e 1 1 4 refl refl .1
+ident-rcid Point b e = head-number _ _ b e 1 1 4 refl refl .1
+ident-rcid Multi b e = head-number _ _ b e 1 1 4 refl refl .1
+ident-rcid Feature b e = head-number _ _ b e 1 1 4 refl refl .1
+
+rank-rcnm : (k : Kind) → rankOf (rcnm k) ≡ rank k
+unfolding rankOf rcnm rank
+rank-rcnm Info = refl
+rank-rcnm Point = refl
+rank-rcnm Multi = refl
+rank-rcnm Feature = refl
+
+rank-some : (k : Kind) → 0 < rank k
+unfolding rank
+rank-some Info = omega arith
+rank-some Point = omega arith
+rank-some Multi = omega arith
+rank-some Feature = omega arith
+
+-- ---- a record of a dataset that has passed number 5
+
+-- its key, as the rules have it and as a number
+pub record Keyed (k : Kind) (fs : List Field) : Type 0 where
+  pub ranged : Ranged (keyNamed k fs)
+  pub number : keyOf fs ≡ numberOf (keyNamed k fs)
+  pub kind : kindIn (keyOf fs) ≡ rank k
+  pub some : keyOf fs ≡ 0 → ⊥
+
+keyed-of : (k : Kind) (fs : List Field) → fill (headOf (identFormat true k)) (tupleOf (identFormat true k)) (front fs) ≡ true → Keyed k fs
+unfolding keyOf keyNamed numberOf
+keyed-of k fs e =
+    let o = ident-opens k (front fs) e in
+    let i = ident-rcid k (front fs) e in
+    let s = o .small in
+    let p = rank-some k in
+    let r = rank-rcnm k in
+    let n : keyAt (front fs) 0 ≡ rank k * 4294967296 + le 4 (drop 1 (front fs))
+    = sym (key-there (front fs) 0 (o .room) (rank k) (le 4 (drop 1 (front fs))) (sym r ∙ ap rankOf (sym (o .kind))) refl) in
+    record {
+      ranged = record { rcnm = rcnm k; rcid = (identOf k (front fs)) .rcid; parts = refl; kind = omega arith; small = omega arith };
+      number = n ∙ rw (i, r) refl;
+      kind = omega arith;
+      some = λ z. omega arith;
+    }
+
+pub keyed-passed : (k : Kind) (f : Field) (fs : List Field) (u : Unit {0}) → number5 InDataset k (f ∷ fs) ≡ ok u → Keyed k (f ∷ fs)
+unfolding number5 insertOnly front
+keyed-passed k f fs u e =
+    let r = bind-inv (stands 1 (identFormat true k) (f .body)) _ u e in
+    keyed-of k (f ∷ fs) (stands-fill 1 (identFormat true k) (f .body) (r .0) (r .1))

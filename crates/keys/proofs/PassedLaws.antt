@@ -1,0 +1,160 @@
+-- A record of a dataset that has passed its numbers: its kind and its key. Assumes nothing.
+use mathlib.Core.Path.{_≡_, refl, sym, ap, _∙_}
+use mathlib.Core.List.{List, [], _∷_, _++_}
+use mathlib.Core.Bool.{Bool, true, false}
+use mathlib.Core.Option.{Option, some, none}
+use Prim.Native.Nat.{ℕ, _+_, _≤_, _<_}
+use native.Mathlib.Omega.{arith}
+use borrow.Author.Tests.{ne-eqb, ltb-false}
+use lib.Dec.{eqb, ltb}
+use Rattle.base.specs.Choice.{pick}
+use Rattle.base.specs.Check.{Check, ok, no, bind, fault, Passed, pass}
+use Rattle.base.specs.Lists.{each}
+use Rattle.base.specs.Keys.{among}
+use Rattle.base.proofs.CheckLaws.{bind-inv, ok-inj}
+use Rattle.skeleton.specs.File.{Field}
+use Rattle.rules.specs.Kind.{kindOf, rank}
+use Rattle.rules.specs.Grammar.{number4, onKind, fieldsStand}
+use Rattle.rules.specs.Content.{number5}
+use Rattle.rules.specs.Trees.{number6}
+use Rattle.rules.specs.Associations.{number7}
+use Rattle.rules.specs.Record.{Rec, keyNamed, recOf, datasetRecord, keyOf as keyInRules}
+use Rattle.rules.specs.Outcome.{Outcome, done, refused, andThen, at}
+use Rattle.rules.specs.File.{lastRank, datasetTest, through}
+use Rattle.rules.proofs.OutcomeLaws.{andThen-inv, at-inv, done-inj}
+use Rattle.rules.specs.declared.Kind.{Kind}
+use Rattle.rules.specs.declared.Mode.the-variants.{InDataset}
+use Rattle.keys.specs.Listed.{keyOf, listed}
+use Rattle.keys.specs.Numbered.{numberOf, Ranged, Numbered}
+use Rattle.keys.specs.Standing.{fourToSix}
+use Rattle.keys.proofs.ListLaws.{listed-none, listed-later}
+use Rattle.keys.proofs.NumberLaws.{numbered-none, numbered-front}
+use Rattle.keys.proofs.IdentLaws.{Keyed, keyed-passed}
+
+-- ---- numbers 4 to 6
+
+not-ok : {A B : Type 0} {x : _} {a : A} → no x ≡ ok a → B
+not-ok e = absurd (let z : _≡_ {A = ℕ} 0 1 = cc in omega arith)
+
+-- a kind that number 4 gives is not before the last one
+picked : (k j : Kind) (least : ℕ) (t : Bool) (c : Passed) → ltb (rank k) least ≡ t → pick t (no (fault 4 1 0)) (bind c (λ _. ok k)) ≡ ok j → least ≤ rank j
+picked k j least true c e h = not-ok h
+picked k j least false c e h =
+    let r = bind-inv c (λ _. ok k) j h in
+    rw (ok-inj k j (r .2)) at (ltb-false (rank k) least e)
+
+kind-rank : (o : Option Kind) (least : ℕ) (c : Kind → Passed) (j : Kind)
+    → onKind o (λ k. pick (ltb (rank k) least) (no (fault 4 1 0)) (bind (c k) (λ _. ok k))) ≡ ok j → least ≤ rank j
+kind-rank none least c j h = not-ok h
+kind-rank (some k) least c j h = picked k j least (ltb (rank k) least) (c k) refl h
+
+-- a record that has passed them
+pub record Placed (least : ℕ) (k : Kind) (fs : List Field) : Type 0 where
+  pub keyed : Keyed k fs
+  pub follows : least ≤ rank k
+
+pub placed : (least : ℕ) (fs : List Field) (k : Kind) → fourToSix least fs ≡ ok k → Placed least k fs
+unfolding fourToSix number4
+placed least [] k e = let r = bind-inv (number4 InDataset least []) _ k e in not-ok (r .1)
+placed least (f ∷ fs) k e =
+    let r = bind-inv (number4 InDataset least (f ∷ fs)) _ k e in
+    let s = bind-inv (number5 InDataset (r .0) (f ∷ fs)) _ k (r .2) in
+    let t = bind-inv (number6 InDataset (r .0) (f ∷ fs)) _ k (s .2) in
+    let z : r .0 ≡ k = ok-inj (r .0) k (t .2) in
+    let there : Placed least (r .0) (f ∷ fs) = record {
+      keyed = keyed-passed (r .0) f fs (s .0) (s .1);
+      follows = kind-rank (kindOf (f .tag)) least (λ j. fieldsStand InDataset j (f .body) fs) (r .0) (r .1);
+    } in
+    rw z at there
+
+-- ---- all numbers
+
+-- number 7 of a record of that kind, after records with these keys
+abbrev pub seventh : List (List ℕ) → List Field → Kind → Check Rec
+seventh earlier fs k = pick (among (keyNamed k fs) earlier) (no (fault 7 1 0)) (bind (number7 fs) (λ _. ok (recOf k fs)))
+
+behind : (k : Kind) (b c : Passed) (g : Kind → Check Rec) → bind b (λ _. bind c (λ _. g k)) ≡ bind (bind b (λ _. bind c (λ _. ok k))) g
+unfolding bind
+behind k (ok u) (ok v) g = refl
+behind k (ok u) (no y) g = refl
+behind k (no y) c g = refl
+
+regroup : (a : Check Kind) (b c : Kind → Passed) (g : Kind → Check Rec)
+    → bind a (λ k. bind (b k) (λ _. bind (c k) (λ _. g k))) ≡ bind (bind a (λ k. bind (b k) (λ _. bind (c k) (λ _. ok k)))) g
+unfolding bind
+regroup (ok k) b c g = behind k (b k) (c k) g
+regroup (no y) b c g = refl
+
+-- the key of a record, by its kind and its fields
+key-named : (k : Kind) (fs : List Field) → keyInRules (recOf k fs) ≡ keyNamed k fs
+unfolding keyInRules recOf keyNamed
+key-named k fs = refl
+
+-- numbers 4 to 6, and then 7
+pub record-parts : (least : ℕ) (earlier : List (List ℕ)) (fs : List Field) → datasetRecord least earlier fs ≡ bind (fourToSix least fs) (seventh earlier fs)
+unfolding datasetRecord fourToSix keyInRules recOf keyNamed
+record-parts least earlier fs =
+    regroup (number4 InDataset least fs) (λ k. number5 InDataset k fs) (λ k. number6 InDataset k fs) (seventh earlier fs)
+
+-- a record that has passed them all
+pub record Read (fs : List Field) (r : Rec) : Type 0 where
+  pub ranged : Ranged (keyInRules r)
+  pub number : keyOf fs ≡ numberOf (keyInRules r)
+  pub some : keyOf fs ≡ 0 → ⊥
+
+pub read-of : (k : Kind) (fs : List Field) → Keyed k fs → Read fs (recOf k fs)
+read-of k fs d = record { ranged = rw (key-named k fs) (d .ranged); number = rw (key-named k fs) (d .number); some = d .some }
+
+seventh-read : (k : Kind) (earlier : List (List ℕ)) (fs : List Field) (r : Rec) (t : Bool) (c : Passed)
+    → pick t (no (fault 7 1 0)) (bind c (λ _. ok (recOf k fs))) ≡ ok r → recOf k fs ≡ r
+seventh-read k earlier fs r true c e = not-ok e
+seventh-read k earlier fs r false c e = ok-inj (recOf k fs) r (bind-inv c (λ _. ok (recOf k fs)) r e .2)
+
+record-read : (least : ℕ) (earlier : List (List ℕ)) (fs : List Field) (r : Rec) → datasetRecord least earlier fs ≡ ok r → Read fs r
+record-read least earlier fs r e =
+    let p = bind-inv (fourToSix least fs) (seventh earlier fs) r (sym (record-parts least earlier fs) ∙ e) in
+    let q = seventh-read (p .0) earlier fs r (among (keyNamed (p .0) fs) earlier) (number7 fs) (p .2) in
+    rw q at (read-of (p .0) fs (placed least fs (p .0) (p .1) .keyed))
+
+-- ---- all records
+
+-- from the fourth record on, each is tested for all of them
+pub test-later : (n : ℕ) (seen : List Rec) (fs : List Field) → 4 ≤ n
+    → datasetTest n seen fs ≡ bind (datasetRecord (lastRank seen) (each keyInRules seen) fs) (λ r. ok (r ∷ []))
+unfolding datasetTest
+test-later n seen fs h =
+    simp (ne-eqb n 1 (λ e. omega arith), ne-eqb n 2 (λ e. omega arith), ne-eqb n 3 (λ e. omega arith))
+
+-- the keys of records that have passed, as the rules have them and as numbers; none is 0
+pub record ReadAll (items : List (List Field)) (recs : List Rec) : Type 0 where
+  pub numbered : Numbered recs (each keyOf items)
+  pub keyed : listed 0 (each keyOf items) ≡ false
+
+read-none : (recs : List Rec) → done [] ≡ done recs → ReadAll [] recs
+unfolding each
+read-none recs e =
+    let none-read : ReadAll [] [] = record { numbered = numbered-none; keyed = listed-none 0 } in
+    rw (done-inj [] recs e) at none-read
+
+read-more : (fs : List Field) (items : List (List Field)) (r : Rec) (later recs : List Rec) → Read fs r → ReadAll items later → r ∷ later ≡ recs
+    → ReadAll (fs ∷ items) recs
+unfolding each
+read-more fs items r later recs p q e =
+    let all : ReadAll (fs ∷ items) (r ∷ later) = record {
+      numbered = numbered-front r later (each keyOf items) (keyOf fs) (q .numbered) (p .ranged) (p .number);
+      keyed = listed-later 0 (keyOf fs) (each keyOf items) (p .some) ∙ q .keyed;
+    } in
+    rw e at all
+
+pub through-read : (items : List (List Field)) (n : ℕ) (seen recs : List Rec) → 4 ≤ n → through datasetTest 1 n seen items ≡ done recs → ReadAll items recs
+unfolding through
+through-read [] n seen recs h e = read-none recs e
+through-read (fs ∷ items) n seen recs h e =
+    let p = andThen-inv (at 1 n (datasetTest n seen fs)) _ recs e in
+    let q = at-inv 1 n (datasetTest n seen fs) (p .0) (p .1) in
+    let r = bind-inv (datasetRecord (lastRank seen) (each keyInRules seen) fs) (λ r. ok (r ∷ [])) (p .0) (sym (test-later n seen fs h) ∙ q) in
+    let new : r .0 ∷ [] ≡ p .0 = ok-inj (r .0 ∷ []) (p .0) (r .2) in
+    let s = andThen-inv (through datasetTest 1 (n + 1) (p .0 ++ seen) items) (λ later. done (p .0 ++ later)) recs (p .2) in
+    let all : r .0 ∷ s .0 ≡ recs = ap (λ (l : List Rec). l ++ s .0) new ∙ done-inj (p .0 ++ s .0) recs (s .2) in
+    read-more fs items (r .0) (s .0) recs (record-read (lastRank seen) (each keyInRules seen) fs (r .0) (r .1))
+    (through-read items (n + 1) (p .0 ++ seen) (s .0) (omega arith) (s .1)) all

@@ -1,0 +1,111 @@
+-- Laws of the table of places. Assumes nothing.
+use mathlib.Core.Path.{_≡_, refl, sym, ap, _∙_}
+use mathlib.Core.List.{List, [], _∷_, _++_}
+use mathlib.Core.Bool.{Bool, true, false}
+use Prim.Native.Nat.{ℕ, zero, suc, _+_, _-_, _/_, _^_, _≤_, _<_}
+use native.Mathlib.Omega.{arith}
+use borrow.Author.Tests.{eqb-true, eqb-false}
+use lib.ListN.{length, getD, take, drop, set, length-set, length-drop, replicate, length-replicate, getD-replicate}
+use lib.Seq.{drop-drop, take-all, getD-set-same, getD-set-other}
+use lib.Dec.{eqb}
+use Rattle.memory.specs.Hold.{zeros}
+use Rattle.memory.proofs.HoldLaws.{length-zeros}
+use Rattle.keys.specs.Listed.{keysFrom}
+use Rattle.keys.specs.Look.{lookAt, Sound}
+use Rattle.keys.specs.Slots.{Slots, noted}
+use Rattle.keys.specs.Table.{Tail, Tails, Laid}
+use Rattle.keys.specs.declared.look.Look.{Look}
+use Rattle.keys.specs.declared.look.Look.the-variants.{At, Nothing}
+use Rattle.keys.proofs.BitLaws.{set-past}
+use Rattle.keys.proofs.ListLaws.{split-room, split-take, split-drop}
+use Rattle.keys.proofs.LookLaws.{Found, keys-past}
+use Rattle.keys.proofs.SoundLaws.{Next, sound-next, sound-nothing, sound-bounds, sound-more, sound-word, sound-falls, sound-in, sound-small}
+use Rattle.keys.proofs.SlotLaws.{slots-none, slots-more, noted-long}
+
+-- ---- places of records
+
+pub tail-start : (f : List ℕ) (start : ℕ) → Sound f start → Tail f start start
+tail-start f start s = record { sound = s; skipped = 0; rest = refl }
+
+-- a table that names one place everywhere
+pub tails-same : (f : List ℕ) (start n : ℕ) → Sound f start → Tails f start (replicate n start)
+unfolding Tails
+tails-same f start n s j h =
+    let g : j < n = omega (arith, length-replicate n start) in
+    rw (getD-replicate n j start 0 g) (tail-start f start s)
+
+-- a table in which one entry is another such place
+tails-set-at : (f : List ℕ) (start : ℕ) (t : List ℕ) (j p i : ℕ) (b : Bool) → eqb i j ≡ b
+    → Tails f start t → Tail f start p → i < length t → Tail f start (getD (set t j p) i 0)
+unfolding Tails
+tails-set-at f start t j p i true e ts l h =
+    let z : i ≡ j = eqb-true i j e in
+    let g : j < length t = omega arith in
+    rw (z, getD-set-same t j p 0 g) l
+tails-set-at f start t j p i false e ts l h = rw (getD-set-other t j i p 0 (eqb-false i j e)) (ts i h)
+
+pub tails-set : (f : List ℕ) (start : ℕ) (t u : List ℕ) (j p : ℕ) → Tails f start t → Tail f start p → u ≡ set t j p → Tails f start u
+unfolding Tails
+tails-set f start t u j p ts l e =
+    rw e (λ i h. tails-set-at f start t j p i (eqb i j) refl ts l (omega (arith, length-set t j p)))
+
+pub set-long : (t u : List ℕ) (j p n : ℕ) → u ≡ set t j p → length t ≡ n → length u ≡ n
+set-long t u j p n e h = ap length e ∙ length-set t j p ∙ h
+
+-- ---- `put`
+
+pub put-past : (t : List ℕ) (i v : ℕ) → length t ≤ i → t ≡ set t i v
+put-past t i v h = sym (set-past t i v h)
+
+-- ---- `spread`: i records were passed, the next begins at p, and the map has the keys of those
+
+pub record Passed (f : List ℕ) (start i p : ℕ) (map : List ℕ) : Type 0 where
+  pub sound : Sound f p
+  pub counted : i ≤ p
+  pub rest : drop i (keysFrom f start) ≡ keysFrom f p
+  pub slots : Slots (take i (keysFrom f start)) map
+
+pub passed-none : (f : List ℕ) (start : ℕ) (map : List ℕ) (n : ℕ) → Sound f start → map ≡ zeros n → Passed f start 0 start map
+passed-none f start map n s e = record { sound = s; counted = omega arith; rest = refl; slots = rw e (slots-none n) }
+
+pub passed-sound : (f : List ℕ) (start i p : ℕ) (map : List ℕ) → Passed f start i p map → Sound f p
+passed-sound f start i p map s = s .sound
+
+pub passed-tail : (f : List ℕ) (start i p : ℕ) (map : List ℕ) → Passed f start i p map → Tail f start p
+passed-tail f start i p map s = record { sound = s .sound; skipped = i; rest = s .rest }
+
+pub passed-count : (f : List ℕ) (start i p : ℕ) (map : List ℕ) → Passed f start i p map → i ≤ 16777216
+passed-count f start i p map s = let a = s .counted in let b = s .sound .inside in let c = s .sound .small in omega arith
+
+pub passed-word : (f : List ℕ) (start i p : ℕ) (map : List ℕ) → Passed f start i p map → i + 1 < 2 ^ 64
+passed-word f start i p map s = let a = passed-count f start i p map s in omega arith
+
+pub passed-place : (f : List ℕ) (start i p : ℕ) (map : List ℕ) → Passed f start i p map → p < 2 ^ 32
+passed-place f start i p map s = let b = s .sound .inside in let c = s .sound .small in omega arith
+
+module _ (f : List ℕ) (start i p : ℕ) (map : List ℕ) (s : Passed f start i p map) (e : Look) (en : e ≡ lookAt f p) where
+  pub passed-more : (len key : ℕ) → e ≡ At len key → (map' : List ℕ) → map' ≡ noted map key → Passed f start (i + 1) (p + len) map'
+  passed-more len key x map' em =
+      let n = sound-next f p (s .sound) e en len key x in
+      let k : drop i (keysFrom f start) ≡ key ∷ keysFrom f (p + len) = s .rest ∙ n .found .keys in
+      let c = s .counted in
+      let l = n .found .long in
+      record {
+        sound = n .sound;
+        counted = omega arith;
+        rest = split-drop (keysFrom f start) i key (keysFrom f (p + len)) k;
+        slots = rw (split-take (keysFrom f start) i key (keysFrom f (p + len)) k) (slots-more (take i (keysFrom f start)) map map' key (s .slots) em);
+      }
+
+  pub laid-nothing : p < length f → e ≡ Nothing → (t : List ℕ) (r : ℕ) → Laid f start t r map
+  laid-nothing l x t r = absurd (sound-nothing f p (s .sound) e en l x)
+
+pub laid-done : (f : List ℕ) (start i p : ℕ) (t map : List ℕ) (n : ℕ) → Passed f start i p map → Sound f start → Tails f start t → length f ≤ p → n ≤ length t
+    → Laid f start t n map
+laid-done f start i p t map n s g ts h r =
+    let z : length (drop i (keysFrom f start)) ≡ 0 = rw (s .rest, keys-past f p h) refl in
+    let a : take i (keysFrom f start) ≡ keysFrom f start = take-all i (keysFrom f start) (omega (arith, length-drop i (keysFrom f start))) in
+    record { sound = g; tails = ts; room = r; slots = rw a at (s .slots) }
+
+pub ruleset spread-turn =
+    (passed-none, passed-sound, passed-tail, passed-count, passed-word, passed-place, passed-more, laid-nothing, laid-done, tails-set, set-long, noted-long, length-zeros, sound-bounds)

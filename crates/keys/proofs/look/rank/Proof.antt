@@ -1,0 +1,25 @@
+use Rattle.keys.proofs.KeyLaws.{rank-ways}
+use borrow.Author.Needs.{needs}
+use native.Mathlib.Omega.{arith}
+use Rattle.keys.proofs.look.rank.Statement.{statement}
+use Rattle.keys.proofs.look.rank.Tie as tie
+use Rattle.keys.proofs.look.rank.Reads as reads
+use Rattle.keys.proofs.look.rank.Lts as lts
+
+returns : tie.Need-returns
+returns c = search rank-ways
+
+returns-2 : tie.Need-returns-2
+returns-2 c = search rank-ways
+
+returns-3 : tie.Need-returns-3
+returns-3 c = search rank-ways
+
+returns-4 : tie.Need-returns-4
+returns-4 c = search rank-ways
+
+returns-5 : tie.Need-returns-5
+returns-5 c = search rank-ways
+
+pub rank-spec : {M : Type 1} → statement M
+rank-spec = tie.close (tie.spec returns returns-2 returns-3 returns-4 returns-5)

@@ -1,0 +1,16 @@
+use Rattle.keys.proofs.OnceLaws.{larger-ways}
+use borrow.Author.Needs.{needs}
+use native.Mathlib.Omega.{arith}
+use Rattle.keys.proofs.once.larger.Statement.{statement}
+use Rattle.keys.proofs.once.larger.Tie as tie
+use Rattle.keys.proofs.once.larger.Reads as reads
+use Rattle.keys.proofs.once.larger.Lts as lts
+
+returns : tie.Need-returns
+returns c = search larger-ways
+
+returns-2 : tie.Need-returns-2
+returns-2 c = search larger-ways
+
+pub larger-spec : {M : Type 1} → statement M
+larger-spec = tie.close (tie.spec returns returns-2)

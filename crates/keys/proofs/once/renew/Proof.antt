@@ -1,0 +1,23 @@
+use Rattle.keys.proofs.OnceLaws.{renew-ways}
+use native.Mathlib.Omega.{arith}
+use borrow.Author.Needs.{needs}
+use Rattle.keys.proofs.once.renew.Statement.{statement}
+use Rattle.keys.proofs.once.renew.Tie as tie
+use Rattle.keys.proofs.once.renew.Reads as reads
+use Rattle.keys.proofs.once.renew.Lts as lts
+use Rattle.memory.proofs.zero.Reads as zero-reads
+
+returns : tie.Need-returns
+returns c = search renew-ways
+
+zero-requires : tie.Need-zero-requires
+zero-requires c κs = search needs
+
+same-length : tie.Need-same-length
+same-length c = search needs
+
+returns-2 : tie.Need-returns-2
+returns-2 c = search renew-ways
+
+pub renew-spec : {M : Type 1} → statement M
+renew-spec = tie.close (tie.spec returns zero-requires same-length returns-2)

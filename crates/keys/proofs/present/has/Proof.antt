@@ -1,0 +1,49 @@
+use Rattle.keys.proofs.PresentLaws.{has-ways}
+use native.Mathlib.Omega.{arith}
+use borrow.Author.Needs.{needs}
+use Rattle.keys.proofs.present.has.Statement.{statement}
+use Rattle.keys.proofs.present.has.Tie as tie
+use Rattle.keys.proofs.present.has.Reads as reads
+use Rattle.keys.proofs.present.has.Lts as lts
+use Rattle.keys.proofs.bits.flag.Reads as flag-reads
+use Rattle.keys.proofs.present.has_plain.Reads as has-plain-reads
+use Rattle.keys.proofs.present.near.Reads as near-reads
+use Rattle.keys.proofs.present.start_near.Reads as start-near-reads
+use Rattle.keys.proofs.slots.slot.Reads as slot-reads
+
+slot-requires : tie.Need-slot-requires
+slot-requires c κs = search needs
+
+flag-requires : tie.Need-flag-requires
+flag-requires c κs = search needs
+
+returns : tie.Need-returns
+returns c = search has-ways
+
+start-near-requires : tie.Need-start-near-requires
+start-near-requires c κs = search needs
+
+near-requires : tie.Need-near-requires
+near-requires c κs = search needs
+
+returns-2 : tie.Need-returns-2
+returns-2 c = search has-ways
+
+has-plain-requires : tie.Need-has-plain-requires
+has-plain-requires c κs = search needs
+
+returns-3 : tie.Need-returns-3
+returns-3 c = search needs
+
+pub has-spec : {M : Type 1} → statement M
+has-spec =
+    tie.close
+    (tie.spec
+    slot-requires
+    flag-requires
+    returns
+    start-near-requires
+    near-requires
+    returns-2
+    has-plain-requires
+    returns-3)

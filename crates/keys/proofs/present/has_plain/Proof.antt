@@ -1,0 +1,66 @@
+use Rattle.keys.proofs.SoundLaws.{has-turn}
+use mathlib.Core.Path.{_≡_, refl}
+use lib.ListN.{length}
+use Prim.Native.Nat.{_+_, _-_, _≤_, _<_}
+use Rattle.keys.specs.Listed.{hasFrom}
+use Rattle.keys.specs.Look.{Sound}
+use borrow.Author.Needs.{needs}
+use native.Mathlib.Omega.{arith}
+use Rattle.keys.proofs.present.has_plain.Statement.{statement}
+use Rattle.keys.proofs.present.has_plain.Tie as tie
+use Rattle.keys.proofs.present.has_plain.Reads as reads
+use Rattle.keys.proofs.present.has_plain.Lts as lts
+use Rattle.keys.proofs.look.look_at.Reads as look-at-reads
+
+abbrev Inv-loop : tie.InvT-loop
+Inv-loop f start key p₀ p = Sound f p × (hasFrom f p key ≡ hasFrom f start key)
+
+abbrev μ-loop : tie.MeasureT-loop
+μ-loop f start key p₀ p = length f - p
+
+loop-holds : tie.Need-loop-holds Inv-loop μ-loop
+loop-holds c = search needs
+
+look-at-requires : tie.Need-look-at-requires Inv-loop μ-loop
+look-at-requires c κs = search has-turn
+
+enum-known-len : tie.Need-enum-known-len Inv-loop μ-loop
+enum-known-len c = search needs
+
+returns : tie.Need-returns Inv-loop μ-loop
+returns c = search has-turn
+
+add-p : tie.Need-add-p Inv-loop μ-loop
+add-p c = search has-turn
+
+loop-less : tie.Need-loop-less Inv-loop μ-loop
+loop-less c = search has-turn
+
+loop-again : tie.Need-loop-again Inv-loop μ-loop
+loop-again c = search has-turn
+
+enum-told : tie.Need-enum-told Inv-loop μ-loop
+enum-told c = search needs
+
+returns-2 : tie.Need-returns-2 Inv-loop μ-loop
+returns-2 c = search has-turn
+
+returns-3 : tie.Need-returns-3 Inv-loop μ-loop
+returns-3 c = search has-turn
+
+pub has-plain-spec : {M : Type 1} → statement M
+has-plain-spec =
+    tie.close
+    (tie.spec
+    Inv-loop
+    μ-loop
+    loop-holds
+    look-at-requires
+    enum-known-len
+    returns
+    add-p
+    loop-less
+    loop-again
+    enum-told
+    returns-2
+    returns-3)

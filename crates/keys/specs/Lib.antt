@@ -1,0 +1,10 @@
+pub mod Key
+pub mod Listed
+pub mod Look
+pub mod Bits
+pub mod Map
+pub mod Once
+pub mod Slots
+pub mod Table
+pub mod Numbered
+pub mod Standing

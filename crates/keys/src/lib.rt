@@ -1,0 +1,7 @@
+// The keys of a dataset's records.
+pub mod bits;
+pub mod look;
+pub mod once;
+pub mod present;
+pub mod slots;
+pub mod table;

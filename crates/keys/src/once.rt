@@ -1,0 +1,61 @@
+// Whether a record's key stood earlier in a dataset: a larger one never did, and the RCIDs of the present kind stand in a map.
+use crate::bits::flag;
+use crate::bits::raise;
+use crate::look::seen;
+use memory::clearing::zero;
+ghost use mathlib.Core.Path.{_≡_};
+ghost use Prim.Native.Nat.{_/_, _≤_};
+ghost use lib.ListN.{length};
+ghost use Rattle.keys.specs.Listed.{seenFrom};
+ghost use Rattle.keys.specs.Map.{kindIn};
+ghost use Rattle.keys.specs.Once.{largerOf, Renewed, Once, Comes, Told};
+
+// The larger of two.
+pub fn larger(a: u64, b: u64) -> u64
+    ensures { λ r. ⌜ r ≡ largerOf a b ⌝ }
+{
+    if a < b {
+        return b;
+    }
+    a
+}
+
+// Whether k is among the keys of the first m records from start on; its kind is not before that of the largest of them.
+fn stood(f: &[u8], start: usize, m: usize, top: u64, k: u64, t: &[u8]) -> bool
+    requires { ⌜ (length (now f) ≤ 16777216) × (start ≤ length (now f)) ⌝ }
+    requires { ⌜ (Once (now f) start m top (now t)) × (kindIn top ≤ kindIn k) ⌝ }
+    ensures { λ b. ⌜ b ≡ seenFrom (now (f .entry)) start m k ⌝ }
+{
+    if top < k {
+        return false;
+    }
+    let j = (k % 4294967296) as usize;
+    if t.len() <= j / 8 {
+        return seen(f, start, m, k);
+    }
+    flag(t, j)
+}
+
+// Empties the map where the kind is another.
+fn renew(t: &mut [u8], old: u64, new: u64)
+    ensures { λ _. ⌜ Renewed old new (now (t .entry)) (now (t .exit)) ⌝ }
+{
+    if old == new {
+        return;
+    }
+    zero(t);
+}
+
+// Whether the key k of the record after the first m from start on stood earlier; if not, it joins the map.
+pub fn repeats(f: &[u8], start: usize, m: usize, top: u64, k: u64, t: &mut [u8]) -> bool
+    requires { ⌜ (length (now f) ≤ 16777216) × (start ≤ length (now f)) ⌝ }
+    requires { ⌜ (Once (now f) start m top (now t)) × (Comes (now f) start m k) × (kindIn top ≤ kindIn k) ⌝ }
+    ensures { λ b. ⌜ Told (now (f .entry)) start m top k (now (t .entry)) (now (t .exit)) b ⌝ }
+{
+    if stood(f, start, m, top, k, t) {
+        return true;
+    }
+    renew(t, top / 4294967296, k / 4294967296);
+    raise(t, (k % 4294967296) as usize);
+    false
+}
