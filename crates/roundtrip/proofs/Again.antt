@@ -85,16 +85,16 @@ module _ (r : Rec) (s : SoundRec r) (m : Roomy r) where
       let a : standing (attrTree (getD (bodies ATTR (writtenFields r)) 0 [])) ≡ p .attributes =
       ap (λ (bs : List (List ℕ)). standing (attrTree (getD bs 0 []))) (attr-body r)
       ∙ ap (λ (b : List ℕ). standing (attrTree b)) (first-optional (treeBytes (p .attributes)))
-      ∙ standing-ok (treeBytes (p .attributes)) (p .attributes) (attr-tree (p .attributes) (s .parts .attributes) (m .attributes)) in
+      ∙ standing-ok (treeBytes (p .attributes)) (p .attributes) (attr-tree (p .attributes) (s .parts .attributes .tree) (m .attributes)) in
       let b : each assocOf (bodies INAS (writtenFields r)) ≡ p .associations =
-      ap (each assocOf) (inas-body r) ∙ assocs-again (p .associations) (s .parts .associations) (m .associations) in
+      ap (each assocOf) (inas-body r) ∙ assocs-again (p .associations) (s .parts .associations .all) (m .associations) in
       let c : gather coordsIn (bodies C2IT (writtenFields r) ++ bodies C2IL (writtenFields r)) ≡ p .coordinates =
       ap (gather coordsIn) (ap₂ (λ (x y : List (List ℕ)). x ++ y) (c2it-body r) (c2il-body r))
-      ∙ coord-gather coordsIn (r .kind) _ coords-none ∙ coords-again (p .coordinates) (s .parts .coordinates) in
+      ∙ coord-gather coordsIn (r .kind) _ coords-none ∙ coords-again (p .coordinates) (s .parts .coordinates .all) in
       let d : each spatialOf (gather (many (tupleOf Spas)) (bodies SPAS (writtenFields r))) ≡ p .spatial =
       ap (λ (bs : List (List ℕ)). each spatialOf (gather (many (tupleOf Spas)) bs)) (spas-body r)
       ∙ ap (each spatialOf) (gather-optional (many (tupleOf Spas)) (spatialBytes (p .spatial)) spas-none)
-      ∙ spatial-many (p .spatial) (s .parts .spatial) in
+      ∙ spatial-many (p .spatial) (s .parts .spatial .all) in
       λ i. record { attributes = a i; associations = b i; coordinates = c i; spatial = d i }
 
   -- the identifier is the first field

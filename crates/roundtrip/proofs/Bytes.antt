@@ -83,8 +83,8 @@ record-bodies r s =
     let P : Field → Type 0 = λ f. Bytes (f .body) in (
       low-bytes (identBytes r) (ident-low r),
       each-join P (listField FOID (foidBytes (r .foid))) _ (list-bodies FOID (foidBytes (r .foid)) (low-puts (headOf Foid) (nums (r .foid)) (nums-texts (r .foid))))
-          (each-join P (listField ATTR (treeBytes (p .attributes))) _ (list-bodies ATTR (treeBytes (p .attributes)) (tree-low (p .attributes) (s .parts .attributes .ranged)))
-          (each-join P (each assocField (p .associations)) _ (of-each P assocField (p .associations) (each-map (p .associations) (λ a x. low-bytes ((assocField a) .body) (assoc-low a x)) (s .parts .associations)))
+          (each-join P (listField ATTR (treeBytes (p .attributes))) _ (list-bodies ATTR (treeBytes (p .attributes)) (tree-low (p .attributes) (s .parts .attributes .tree .ranged)))
+          (each-join P (each assocField (p .associations)) _ (of-each P assocField (p .associations) (each-map (p .associations) (λ a x. low-bytes ((assocField a) .body) (assoc-low a x)) (s .parts .associations .all)))
           (each-join P (listField (coordTag (r .kind)) (coordBytes (p .coordinates))) _ (list-bodies (coordTag (r .kind)) (coordBytes (p .coordinates)) (coord-low (p .coordinates)))
           (list-bodies SPAS (spatialBytes (p .spatial)) (spatial-low (p .spatial)))))),
     )

@@ -23,7 +23,7 @@ use Rattle.rules.specs.Outcome.{done, andThen, at, everyRecord}
 use Rattle.rules.specs.File.{lastRank, datasetTest, through, ending, taken, datasetOf, references, readDataset, writable}
 use Rattle.rules.specs.declared.Kind.{Kind}
 use Rattle.rules.specs.declared.Kind.the-variants.{Info, Point, Multi, Feature}
-use Rattle.rules.proofs.OutcomeLaws.{andThen-inv}
+use Rattle.rules.proofs.OutcomeLaws.{andThen-inv, done-inj}
 use Rattle.sequence.specs.Keyed.{Each, Ordered, Once, find}
 use Rattle.sequence.proofs.Tests.{by-bool, never}
 use Rattle.updates.specs.Acts.{chart}
@@ -200,3 +200,7 @@ unfolding readDataset datasetOf taken andThen written
 round-trip d s w =
     let f = fitting d w in
     rw (records-again d s f, all-again d s f, ending-again d, references-again d s)
+
+-- so the written form of what it is read as is that form itself
+pub written-again : (d e : Dataset) → Sound d → writable d ≡ done d → readDataset (writtenBytes d) ≡ done e → writtenBytes e ≡ writtenBytes d
+written-again d e s w h = ap writtenBytes (done-inj e d (sym h ∙ round-trip d s w))

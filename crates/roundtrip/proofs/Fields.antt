@@ -60,8 +60,8 @@ unfolding formatOf treeStands
 fine-attr r s m =
     let f = r .parts .attributes in
     record {
-      formed = attr-has f (s .parts .attributes) (m .attributes);
-      treed = passed-ok (attrTree (treeBytes f)) f (attr-tree f (s .parts .attributes) (m .attributes));
+      formed = attr-has f (s .parts .attributes .tree) (m .attributes);
+      treed = passed-ok (attrTree (treeBytes f)) f (attr-tree f (s .parts .attributes .tree) (m .attributes));
       stored = refl;
     }
 
@@ -87,7 +87,7 @@ fine-coords Feature cs e c = fine-none C2IL (coordBytes cs) (rw c (unfold each p
 -- SPAS
 fine-spas : (r : Rec) → SoundRec r → Fine (fieldAs SPAS (spatialBytes (r .parts .spatial)))
 unfolding formatOf treeStands
-fine-spas r s = record { formed = spas-has (r .parts .spatial) (s .parts .spatial); treed = refl; stored = refl }
+fine-spas r s = record { formed = spas-has (r .parts .spatial) (s .parts .spatial .all); treed = refl; stored = refl }
 
 -- no FOID has no bytes
 pub foid-empty : (foid : List ℕ) → foid ≡ [] → foidBytes foid ≡ []
@@ -116,8 +116,8 @@ fine-rest r s m =
     each-join Fine (listField FOID (foidBytes (r .foid))) _ (fine-foid (r .kind) (r .foid) (s .foid))
     (each-join Fine (listField ATTR (treeBytes (p .attributes))) _ (fine-list ATTR (treeBytes (p .attributes)) (fine-attr r s m))
     (each-join Fine (each assocField (p .associations)) _
-    (of-each Fine assocField (p .associations) (each-zip (p .associations) (λ a x y. fine-inas a x y) (s .parts .associations) (m .associations)))
-    (each-join Fine (listField (coordTag (r .kind)) (coordBytes (p .coordinates))) _ (fine-coords (r .kind) (p .coordinates) (s .parts .coordinates) (s .parts .counted))
+    (of-each Fine assocField (p .associations) (each-zip (p .associations) (λ a x y. fine-inas a x y) (s .parts .associations .all) (m .associations)))
+    (each-join Fine (listField (coordTag (r .kind)) (coordBytes (p .coordinates))) _ (fine-coords (r .kind) (p .coordinates) (s .parts .coordinates .all) (s .parts .coordinates .counted))
     (fine-list SPAS (spatialBytes (p .spatial)) (fine-spas r s)))))
 
 -- no COCC, nothing to count

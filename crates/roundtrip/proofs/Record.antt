@@ -68,10 +68,10 @@ spatial-empty ss e = rw e
 -- what a kind lacks has no bytes
 empties : (k : Kind) (foid : List ℕ) (p : Parts) → SoundFoid k foid → SoundParts k p → Empties k (foidBytes foid) (treeBytes (p .attributes)) (coordBytes (p .coordinates)) (spatialBytes (p .spatial))
 unfolding SoundFoid Counted rowsOf rowed
-empties Info foid p f s = (foid-empty foid f, coord-empty (p .coordinates) (s .counted), spatial-empty (p .spatial) (s .spatial-none refl))
-empties Point foid p f s = (foid-empty foid f, tree-empty (p .attributes) (s .attributes-none refl), spatial-empty (p .spatial) (s .spatial-none refl))
-empties Multi foid p f s = (foid-empty foid f, tree-empty (p .attributes) (s .attributes-none refl), spatial-empty (p .spatial) (s .spatial-none refl))
-empties Feature foid p f s = coord-empty (p .coordinates) (s .counted)
+empties Info foid p f s = (foid-empty foid f, coord-empty (p .coordinates) (s .coordinates .counted), spatial-empty (p .spatial) (s .spatial .lacking refl))
+empties Point foid p f s = (foid-empty foid f, tree-empty (p .attributes) (s .attributes .lacking refl), spatial-empty (p .spatial) (s .spatial .lacking refl))
+empties Multi foid p f s = (foid-empty foid f, tree-empty (p .attributes) (s .attributes .lacking refl), spatial-empty (p .spatial) (s .spatial .lacking refl))
+empties Feature foid p f s = coord-empty (p .coordinates) (s .coordinates .counted)
 
 -- a feature's FOID has bytes
 foid-bytes : (k : Kind) (foid : List ℕ) → SoundFoid k foid → k ≡ Feature → 0 < length (foidBytes foid)
@@ -108,7 +108,7 @@ module _ (r : Rec) (s : SoundRec r) where
       let shut = forbidden InDataset (ruinByte k (identBytes r)) (couiByte (restOf r)) (has COCC (restOf r)) in
       let o = ord-kind shut (λ t h. free t h) k (foidBytes (r .foid)) (treeBytes (p .attributes)) (p .associations) (coordBytes (p .coordinates)) (spatialBytes (p .spatial)) e 2 in
       let c = complete-kind k (foidBytes (r .foid)) (treeBytes (p .attributes)) (p .associations) (coordBytes (p .coordinates)) (spatialBytes (p .spatial)) e
-      (foid-bytes k (r .foid) (s .foid)) (coord-bytes k (p .coordinates) (s .parts .coordinates) (s .parts .counted)) in
+      (foid-bytes k (r .foid) (s .foid)) (coord-bytes k (p .coordinates) (s .parts .coordinates .all) (s .parts .coordinates .counted)) in
       rw (o, c)
     where
       free : (t : ℕ) → eqb t COCC ≡ false → forbidden InDataset (ruinByte (r .kind) (identBytes r)) (couiByte (restOf r)) (has COCC (restOf r)) t ≡ false
@@ -124,10 +124,10 @@ module _ (r : Rec) (s : SoundRec r) where
   unfolding number7 Each
   seven-passes =
       let p = r .parts in
-      let a : Each (λ k. length k ≡ 4) (each assocKey (p .associations)) = of-each (λ k. length k ≡ 4) assocKey (p .associations) (each-map (p .associations) assoc-four (s .parts .associations)) in
-      let b : Each (λ k. length k ≡ 2) (each spatialKey (p .spatial)) = of-each (λ k. length k ≡ 2) spatialKey (p .spatial) (each-map (p .spatial) spatial-two (s .parts .spatial)) in
+      let a : Each (λ k. length k ≡ 4) (each assocKey (p .associations)) = of-each (λ k. length k ≡ 4) assocKey (p .associations) (each-map (p .associations) assoc-four (s .parts .associations .all)) in
+      let b : Each (λ k. length k ≡ 2) (each spatialKey (p .spatial)) = of-each (λ k. length k ≡ 2) spatialKey (p .spatial) (each-map (p .spatial) spatial-two (s .parts .spatial .all)) in
       apart-once [] (marks 1 (writtenFields r))
-      (rw (marks-keys 1 (writtenFields r) ∙ written-keys r s) (apart-two 4 2 [] (each assocKey (p .associations)) (each spatialKey (p .spatial)) (λ z. omega arith) tt a b (s .parts .association-keys) (s .parts .spatial-keys)))
+      (rw (marks-keys 1 (writtenFields r) ∙ written-keys r s) (apart-two 4 2 [] (each assocKey (p .associations)) (each spatialKey (p .spatial)) (λ z. omega arith) tt a b (s .parts .associations .once) (s .parts .spatial .once)))
 
   -- 11
   pub eleven-passes : (keys : List (List ℕ)) → Named keys r → number11 keys (marks 1 (writtenFields r)) ≡ pass

@@ -29,7 +29,7 @@ use Rattle.rules.specs.declared.Kind.{Kind}
 use Rattle.rules.specs.declared.Kind.the-variants.{Info, Point, Multi, Feature}
 use Rattle.sequence.specs.Keyed.{Each}
 use Rattle.sequence.proofs.Tests.{by-bool}
-use Rattle.sound.specs.Sound.{Apart, SoundAssoc, SoundCoord, rowed, Counted, SoundParts}
+use Rattle.sound.specs.Sound.{Apart, SoundAssoc, SoundCoord, rowed, Counted, SoundTree, SoundCoords, SoundSpatials, SoundParts}
 use Rattle.sound.proofs.Lists.{each-map, each-gathered}
 use Rattle.sound.proofs.Keys.{joined, left}
 use Rattle.sound.proofs.Stand.{Has, passed-inv, field-inv}
@@ -54,76 +54,42 @@ module _ (k : Kind) (b : List ℕ) (p : Parts) (s : SoundParts k p) where
   by-attr : At k ATTR b → (f : Forest) → actAttr b (p .attributes) ≡ ok f → SoundParts k (withAttributes f p)
   unfolding formatOf
   by-attr a f e =
-      record {
-        attributes = attributes-edited b (p .attributes) f (a .bytes) (a .formed) (s .attributes) e;
-        attributes-none = λ h. not-lacking (rowed ATTR (rowsOf k)) (a .row) h;
-        associations = s .associations;
-        association-keys = s .association-keys;
-        coordinates = s .coordinates;
-        counted = s .counted;
-        spatial = s .spatial;
-        spatial-keys = s .spatial-keys;
-        spatial-none = s .spatial-none;
-      }
+      let t : SoundTree k f = record {
+        tree = attributes-edited b (p .attributes) f (a .bytes) (a .formed) (s .attributes .tree) e;
+        lacking = λ h. not-lacking (rowed ATTR (rowsOf k)) (a .row) h;
+      } in
+      record { attributes = t; associations = s .associations; coordinates = s .coordinates; spatial = s .spatial }
 
   -- the associations that INAS leaves
   inas-left : At k INAS b → (ls : List Assoc) → actInas b (p .associations) ≡ ok ls → Each SoundAssoc ls × Apart [] (each assocKey ls)
   unfolding actInas formatOf inasFormat treeStands
   inas-left a ls e =
+      let all = s .associations .all in
+      let once = s .associations .once in
       by-bool (eqb (getD b 9 0) 1)
       (λ h.
       let (f, x) = passed-inv (inasTree b) (a .treed) in
       let n : Has InasNew b = rw (eqb-true (getD b 9 0) 1 h) at (a .formed) in
-      joined SoundAssoc assocKey 0 (assocOf b) (p .associations) ls (assoc-read b (a .bytes) n f x) (s .associations) (s .association-keys) (rw h at e))
-      (λ h. left SoundAssoc assocKey 0 (inasKey b) (p .associations) ls (s .associations) (s .association-keys) (rw h at e))
+      joined SoundAssoc assocKey 0 (assocOf b) (p .associations) ls (assoc-read b (a .bytes) n f x) all once (rw h at e))
+      (λ h. left SoundAssoc assocKey 0 (inasKey b) (p .associations) ls all once (rw h at e))
 
   -- INAS
   by-inas : At k INAS b → (ls : List Assoc) → actInas b (p .associations) ≡ ok ls → SoundParts k (withAssociations ls p)
   by-inas a ls e =
       let (x, y) = inas-left a ls e in
-      record {
-        attributes = s .attributes;
-        attributes-none = s .attributes-none;
-        associations = x;
-        association-keys = y;
-        coordinates = s .coordinates;
-        counted = s .counted;
-        spatial = s .spatial;
-        spatial-keys = s .spatial-keys;
-        spatial-none = s .spatial-none;
-      }
+      record { attributes = s .attributes; associations = record { all = x; once = y }; coordinates = s .coordinates; spatial = s .spatial }
 
   -- other coordinates
-  with-coordinates : (cs : List Coord) → Each SoundCoord cs → Counted k cs → SoundParts k (withCoordinates cs p)
-  with-coordinates cs x y =
-      record {
-        attributes = s .attributes;
-        attributes-none = s .attributes-none;
-        associations = s .associations;
-        association-keys = s .association-keys;
-        coordinates = x;
-        counted = y;
-        spatial = s .spatial;
-        spatial-keys = s .spatial-keys;
-        spatial-none = s .spatial-none;
-      }
+  with-coordinates : (cs : List Coord) → SoundCoords k cs → SoundParts k (withCoordinates cs p)
+  with-coordinates cs c = record { attributes = s .attributes; associations = s .associations; coordinates = c; spatial = s .spatial }
 
   -- SPAS
   by-spas : At k SPAS b → (ss : List Spatial) → actSpas 1 (many (tupleOf Spas) b) (p .spatial) ≡ ok ss → SoundParts k (withSpatial ss p)
   unfolding formatOf
   by-spas a ss e =
-      let (x, y) = spatial-acted 1 (many (tupleOf Spas) b) (p .spatial) ss (spatial-read b (a .bytes) (a .formed)) (s .spatial, s .spatial-keys) e in
-      record {
-        attributes = s .attributes;
-        attributes-none = s .attributes-none;
-        associations = s .associations;
-        association-keys = s .association-keys;
-        coordinates = s .coordinates;
-        counted = s .counted;
-        spatial = x;
-        spatial-keys = y;
-        spatial-none = λ h. not-lacking (rowed SPAS (rowsOf k)) (a .row) h;
-      }
+      let (x, y) = spatial-acted 1 (many (tupleOf Spas) b) (p .spatial) ss (spatial-read b (a .bytes) (a .formed)) (s .spatial .all, s .spatial .once) e in
+      let t : SoundSpatials k ss = record { all = x; once = y; lacking = λ h. not-lacking (rowed SPAS (rowsOf k)) (a .row) h } in
+      record { attributes = s .attributes; associations = s .associations; coordinates = s .coordinates; spatial = t }
 
 -- COCC stands in a multi point alone, which has any number of tuples
 cocc-counts : (k : Kind) (cs : List Coord) → rowed COCC (rowsOf k) ≡ true → Counted k cs
@@ -155,7 +121,7 @@ module _ (k : Kind) (new : List Coord) (n : Each SoundCoord new) where
       (λ i. let (x, y, z) = bind-inv (actInas b (p .associations)) _ q (rw (h, i) at e) in rw (← ok-inj _ q z) (by-inas k b p s (to INAS i) x y))
       (λ i. by-bool (eqb t COCC)
       (λ j. let (x, y, z) = bind-inv (placed (placeIn b) new (p .coordinates)) _ q (rw (h, i, j) at e) in
-      rw (← ok-inj _ q z) (with-coordinates k b p s x (placed-each SoundCoord (placeIn b) new (p .coordinates) x n (s .coordinates) y) (cocc-counts k x ((to COCC j) .row))))
+      rw (← ok-inj _ q z) (with-coordinates k b p s x (record { all = placed-each SoundCoord (placeIn b) new (p .coordinates) x n (s .coordinates .all) y; counted = cocc-counts k x ((to COCC j) .row) })))
       (λ j. by-bool (eqb t C2IT)
       (λ l. rw (← ok-inj _ q (rw (h, i, j, l) at e)) (point p s b (to C2IT l)))
       (λ l. by-bool (eqb t SPAS)
@@ -163,7 +129,7 @@ module _ (k : Kind) (new : List Coord) (n : Each SoundCoord new) where
       (λ m. rw (← ok-inj p q (rw (h, i, j, l, m) at e)) s)))))
     where
       point : (p : Parts) → SoundParts k p → (b : List ℕ) → At k C2IT b → SoundParts k (withCoordinates (coordsIn b) p)
-      point p s b a = unfold formatOf in let (x, y) = point-read b (a .bytes) (a .formed) in with-coordinates k b p s (coordsIn b) x (c2it-counts k (coordsIn b) (a .row) y)
+      point p s b a = unfold formatOf in let (x, y) = point-read b (a .bytes) (a .formed) in with-coordinates k b p s (coordsIn b) (record { all = x; counted = c2it-counts k (coordsIn b) (a .row) y })
 
   -- all of them
   pub fields-sound : (i : ℕ) (fs : List Field) (p q : Parts) → Each (Stood false k) fs → SoundParts k p → actFields new i fs p ≡ ok q → SoundParts k q

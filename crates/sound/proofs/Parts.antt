@@ -207,26 +207,34 @@ module _ (m : Mode) (k : Kind) (f : Field) (fs : List Field) (t : Through m k f 
       let apart = keys-once e in
       let c2it = at-tag C2IT refl in
       record {
-        attributes = attr-part k (bodies ATTR all) (at-tag ATTR refl);
-        attributes-none = λ h. ap (λ (bs : List (List ℕ)). standing (attrTree (getD bs 0 []))) (lacks ATTR refl h) ∙ standing-ok [] nil attr-nothing;
-        associations = of-each SoundAssoc assocOf (bodies INAS all) (each-map (bodies INAS all) (assoc-part k) (at-tag INAS refl));
-        association-keys = rw inas-same (apart-part [] [] (λ q z. z) (within-inas all) apart);
-        coordinates =
-            each-gathered SoundCoord coordsIn (bodies C2IT all ++ bodies C2IL all)
-            (each-join (λ b. Each SoundCoord (coordsIn b)) (bodies C2IT all) (bodies C2IL all)
-            (each-map (bodies C2IT all) (λ b s. point-part k b s .0) c2it)
-            (each-map (bodies C2IL all) (list-part k) (at-tag C2IL refl)));
-        counted =
-            counted-of k (bodies C2IT all) (bodies C2IL all) (lacks C2IT refl) (lacks C2IL refl)
-            (λ q.
-            let (h, o) = point-needs k fs q (whole .needs) in
-            let (b, z) = needed C2IT refl o h in
-            point-one k (bodies C2IT all) b z c2it);
-        spatial =
-            of-each SoundSpatial spatialOf (gather (many (tupleOf Spas)) (bodies SPAS all))
-            (each-gathered (λ vs. SoundSpatial (spatialOf vs)) (many (tupleOf Spas)) (bodies SPAS all) (each-map (bodies SPAS all) (spatial-part k) (at-tag SPAS refl)));
-        spatial-keys = rw spas-same (apart-part [] [] (λ q z. z) (within-spas all) apart);
-        spatial-none = λ h. ap (λ (bs : List (List ℕ)). each spatialOf (gather (many (tupleOf Spas)) bs)) (lacks SPAS refl h) ∙ none;
+        attributes = record {
+          tree = attr-part k (bodies ATTR all) (at-tag ATTR refl);
+          lacking = λ h. ap (λ (bs : List (List ℕ)). standing (attrTree (getD bs 0 []))) (lacks ATTR refl h) ∙ standing-ok [] nil attr-nothing;
+        };
+        associations = record {
+          all = of-each SoundAssoc assocOf (bodies INAS all) (each-map (bodies INAS all) (assoc-part k) (at-tag INAS refl));
+          once = rw inas-same (apart-part [] [] (λ q z. z) (within-inas all) apart);
+        };
+        coordinates = record {
+          all =
+              each-gathered SoundCoord coordsIn (bodies C2IT all ++ bodies C2IL all)
+              (each-join (λ b. Each SoundCoord (coordsIn b)) (bodies C2IT all) (bodies C2IL all)
+              (each-map (bodies C2IT all) (λ b s. point-part k b s .0) c2it)
+              (each-map (bodies C2IL all) (list-part k) (at-tag C2IL refl)));
+          counted =
+              counted-of k (bodies C2IT all) (bodies C2IL all) (lacks C2IT refl) (lacks C2IL refl)
+              (λ q.
+              let (h, o) = point-needs k fs q (whole .needs) in
+              let (b, z) = needed C2IT refl o h in
+              point-one k (bodies C2IT all) b z c2it);
+        };
+        spatial = record {
+          all =
+              of-each SoundSpatial spatialOf (gather (many (tupleOf Spas)) (bodies SPAS all))
+              (each-gathered (λ vs. SoundSpatial (spatialOf vs)) (many (tupleOf Spas)) (bodies SPAS all) (each-map (bodies SPAS all) (spatial-part k) (at-tag SPAS refl)));
+          once = rw spas-same (apart-part [] [] (λ q z. z) (within-spas all) apart);
+          lacking = λ h. ap (λ (bs : List (List ℕ)). each spatialOf (gather (many (tupleOf Spas)) bs)) (lacks SPAS refl h) ∙ none;
+        };
       }
     where
       none : each spatialOf (gather (many (tupleOf Spas)) []) ≡ []

@@ -205,4 +205,4 @@ written-keys r s =
     let (x, y, z, w) = tag-others (r .kind) in
     ap₂ (λ (u v : List (List ℕ)). u ++ v) (other-keys (tagOf (r .kind)) _ x y)
     (keys-join (listField FOID _) _
-    ∙ ap₂ (λ (u v : List (List ℕ)). u ++ v) (list-keys FOID _ refl refl) (parts-keys (r .kind) (r .parts) (s .parts .associations) (s .parts .spatial)))
+    ∙ ap₂ (λ (u v : List (List ℕ)). u ++ v) (list-keys FOID _ refl refl) (parts-keys (r .kind) (r .parts) (s .parts .associations .all) (s .parts .spatial .all)))

@@ -84,17 +84,33 @@ Counted Point cs = length cs ≡ 1
 Counted Multi cs = Unit {0}
 Counted Feature cs = cs ≡ []
 
--- parts that a record of kind k can have
+-- attributes that a record of kind k can have
+pub record SoundTree (k : Kind) (f : Forest) : Type 0 where
+  pub tree : Attributes f
+  pub lacking : rowed ATTR (rowsOf k) ≡ false → f ≡ nil
+
+-- associations, each key once
+pub record SoundAssocs (l : List Assoc) : Type 0 where
+  pub all : Each SoundAssoc l
+  pub once : Apart [] (each assocKey l)
+
+-- coordinates that a record of kind k can have
+pub record SoundCoords (k : Kind) (cs : List Coord) : Type 0 where
+  pub all : Each SoundCoord cs
+  pub counted : Counted k cs
+
+-- spatial associations that a record of kind k can have, each key once
+pub record SoundSpatials (k : Kind) (ss : List Spatial) : Type 0 where
+  pub all : Each SoundSpatial ss
+  pub once : Apart [] (each spatialKey ss)
+  pub lacking : rowed SPAS (rowsOf k) ≡ false → ss ≡ []
+
+-- the parts of a record of kind k
 pub record SoundParts (k : Kind) (p : Parts) : Type 0 where
-  pub attributes : Attributes (p .attributes)
-  pub attributes-none : rowed ATTR (rowsOf k) ≡ false → p .attributes ≡ nil
-  pub associations : Each SoundAssoc (p .associations)
-  pub association-keys : Apart [] (each assocKey (p .associations))
-  pub coordinates : Each SoundCoord (p .coordinates)
-  pub counted : Counted k (p .coordinates)
-  pub spatial : Each SoundSpatial (p .spatial)
-  pub spatial-keys : Apart [] (each spatialKey (p .spatial))
-  pub spatial-none : rowed SPAS (rowsOf k) ≡ false → p .spatial ≡ []
+  pub attributes : SoundTree k (p .attributes)
+  pub associations : SoundAssocs (p .associations)
+  pub coordinates : SoundCoords k (p .coordinates)
+  pub spatial : SoundSpatials k (p .spatial)
 
 -- ---- a record
 
