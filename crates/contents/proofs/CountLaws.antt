@@ -1,8 +1,8 @@
 -- Laws of NCOR and of the coordinate tuples that a record sends. Assumes nothing.
 use mathlib.Core.Path.{_≡_, refl, sym, ap, _∙_}
 use mathlib.Core.Bool.{Bool, true, false, not}
-use mathlib.Core.List.{List, [], _∷_, _++_}
-use Prim.Native.Nat.{ℕ, suc, _+_, _-_, _/_, _%_, _≤_, _<_}
+use mathlib.Core.List.{List, _∷_}
+use Prim.Native.Nat.{ℕ, _+_, _-_, _/_, _%_, _≤_, _<_}
 use native.Mathlib.Nat.{zero-add}
 use native.Mathlib.Omega.{arith}
 use borrow.Author.Tests.{eq-eqb, ne-eqb, eqb-true, eqb-false}
@@ -16,12 +16,11 @@ use Rattle.base.specs.Verdict.{verdictOf}
 use Rattle.base.specs.declared.Verdict.{Verdict}
 use Rattle.base.specs.declared.Verdict.the-variants.{Passed, Refused}
 use Rattle.fields.specs.Bytes.{le}
-use Rattle.fields.specs.Values.{Val, values, numAt}
+use Rattle.fields.specs.Values.{Val}
 use Rattle.fields.specs.Table.{headOf, tupleOf}
 use Rattle.fields.specs.Content.{tuples, many, tallied, tally, fill}
 use Rattle.fields.specs.Places.{allRaw}
 use Rattle.fields.specs.declared.Format.the-variants.{Cocc, C2il}
-use Rattle.fields.specs.declared.Tally.{Tally}
 use Rattle.fields.specs.declared.Tally.the-variants.{Whole, Short}
 use Rattle.fields.proofs.CountLaws.{byLength, raw-tally}
 use Rattle.fields.proofs.ValueLaws.{head-number}
@@ -35,8 +34,9 @@ use Rattle.rules.specs.Tags.{COCC, C2IL}
 use Rattle.rules.specs.ByTag.{withTag, bodies}
 use Rattle.rules.specs.Coordinates.{coordOf, coordsIn, sent, placeIn}
 use Rattle.rules.specs.Content.{formatOf, miscounts, counted}
-use Rattle.contents.specs.Fit.{fits, allFit}
+use Rattle.contents.specs.Fit.{fits}
 use Rattle.contents.specs.Answers.{sentIn, sendFrom, countedFrom}
+use Rattle.contents.proofs.ListLaws.{each-length}
 use Rattle.contents.proofs.StepLaws.{step-bounds}
 use Rattle.contents.proofs.FitLaws.{fit-here, fit-next}
 use Rattle.contents.proofs.FormatLaws.{of-cocc}
@@ -57,11 +57,6 @@ items-by m g e = go (eqb (g .ending) 0) (eqb (m % 8) 0) e
 c2il-many : (b : List ℕ) → length (many (tupleOf C2il) b) ≡ length b / 8
 unfolding many tupleOf allRaw tally
 c2il-many b = items-by (length b) (tuples (tupleOf C2il) b) (raw-tally (tupleOf C2il) refl (omega arith) b 0)
-
-pub each-length : {A B : Type 0} (f : A → B) (xs : List A) → length (each f xs) ≡ length xs
-unfolding each
-each-length f [] = refl
-each-length f (x ∷ xs) = ap suc (each-length f xs)
 
 coords-length : (b : List ℕ) → length (coordsIn b) ≡ length b / 8
 unfolding coordsIn

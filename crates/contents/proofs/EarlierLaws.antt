@@ -1,7 +1,7 @@
 -- Laws of the keys of earlier fields. Assumes nothing.
 use mathlib.Core.Path.{_≡_, refl, sym, ap, _∙_}
 use mathlib.Core.Bool.{Bool, true, false}
-use mathlib.Core.List.{List, [], _∷_, _++_}
+use mathlib.Core.List.{List, [], _∷_}
 use Prim.Native.Nat.{ℕ, suc, _+_, _-_, _/_, _≤_, _<_}
 use native.Mathlib.Omega.{arith}
 use borrow.Author.Tests.{eq-eqb, ne-eqb}
@@ -18,7 +18,6 @@ use Rattle.fields.specs.Content.{many, fill}
 use Rattle.fields.specs.declared.Format.the-variants.{InasNew, InasGone, Spas}
 use Rattle.fields.specs.declared.Sub.{Sub}
 use Rattle.fields.proofs.ValueLaws.{isNumber, lies, head-number}
-use Rattle.skeleton.specs.File.{Field}
 use Rattle.skeleton.specs.Place.{between, placeAt, fieldsAt}
 use Rattle.skeleton.specs.declared.directory.Shape.{Shape}
 use Rattle.skeleton.specs.declared.place.Place.{Place}

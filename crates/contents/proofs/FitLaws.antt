@@ -1,41 +1,34 @@
 -- Fields that have their formats: what number 5 says of each, and that a field of a record that is inserted has the format of any. Assumes nothing.
-use mathlib.Core.Path.{_≡_, refl, sym, ap, _∙_}
-use mathlib.Core.Bool.{Bool, true, false, not, true≢false}
+use mathlib.Core.Path.{_≡_, refl}
+use mathlib.Core.Bool.{Bool, true, false, not}
 use mathlib.Core.List.{List, [], _∷_}
-use mathlib.Core.Option.{some}
-use Prim.Native.Nat.{ℕ, zero, suc, _+_, _-_, _≤_, _<_}
+use Prim.Native.Nat.{ℕ, _+_, _-_}
 use native.Mathlib.Omega.{arith}
-use borrow.Author.Tests.{eqb-true, leb-true, ne-eqb}
+use borrow.Author.Tests.{leb-true, ne-eqb}
 use lib.Dec.{eqb, leb}
-use lib.ListN.{length, getD, drop}
-use lib.Seq.{drop-drop}
-use Rattle.base.specs.Choice.{pick, both}
-use Rattle.base.specs.Check.{Check, ok, no, bind, Passed, pass}
+use lib.ListN.{getD}
+use Rattle.base.specs.Choice.{pick}
+use Rattle.base.specs.Check.{ok}
 use Rattle.base.specs.Lists.{empty}
 use Rattle.base.proofs.CheckLaws.{bind-inv}
 use Rattle.base.proofs.ChoiceLaws.{both-hold}
-use Rattle.fields.specs.Bytes.{le}
-use Rattle.fields.specs.Sizes.{sizes}
-use Rattle.fields.specs.Values.{width}
+use Rattle.fields.specs.Values.{values, numAt}
 use Rattle.fields.specs.Valid.{allows}
 use Rattle.fields.specs.Table.{headOf, tupleOf}
 use Rattle.fields.specs.Content.{tallyField, isWhole, fill}
 use Rattle.fields.specs.declared.Format.{Format}
-use Rattle.fields.specs.declared.Format.the-variants.{Foid, Attr, AttrNew, InasNew, InasGone, Spas, SpasNew, Cocc, C2it, C2il}
-use Rattle.fields.specs.declared.Sub.{Sub}
-use Rattle.fields.specs.declared.Sub.the-variants.{Text}
+use Rattle.fields.specs.declared.Format.the-variants.{Foid, Attr, AttrNew, InasNew, Spas, SpasNew, Cocc, C2it, C2il}
 use Rattle.fields.specs.declared.Tally.{Tally}
 use Rattle.fields.specs.declared.Tally.the-variants.{Whole, Short}
 use Rattle.fields.proofs.ByteLaws.{le1}
-use Rattle.fields.proofs.SizeLaws.{isNum, num-size, num-some, sizes-cons}
 use Rattle.fields.proofs.FieldLaws.{filled}
-use Rattle.fields.proofs.ValueLaws.{isNumber, lies, head-number}
+use Rattle.fields.proofs.ValueLaws.{head-number, head-allowed}
 use Rattle.fields.proofs.WiderLaws.{attr, spas, format-wider}
 use Rattle.skeleton.specs.File.{Field}
 use Rattle.skeleton.specs.Place.{between, placeAt, fieldsAt}
 use Rattle.skeleton.specs.declared.directory.Shape.{Shape}
 use Rattle.skeleton.specs.declared.place.Place.{Place}
-use Rattle.skeleton.specs.declared.place.Place.the-variants.{At, Done}
+use Rattle.skeleton.specs.declared.place.Place.the-variants.{At}
 use Rattle.skeleton.proofs.PlaceLaws.{fields-more}
 use Rattle.rules.specs.Tags.{ATTR, INAS, SPAS, FOID, COCC, C2IT}
 use Rattle.rules.specs.Grammar.{ruinByte, asStored}
@@ -86,40 +79,20 @@ module _ (r : List ℕ) (h : Shape) (p : ℕ) (e : Place) (en : e ≡ placeAt r 
   pub fit-next : allFit new (fieldsAt r h next) ≡ true
   fit-next = apart .1
 
--- ---- a number of a head is within its range
-
-pub head-allows : (ds : List Sub) (j o w : ℕ) (l : List ℕ) (n : ℕ) → sizes ds l ≡ some n → isNumber ds j w ≡ true → lies ds j o ≡ true
-    → allows (getD ds j Text) (le w (drop o l)) ≡ true
-head-allows [] j o w l n e i q = absurd (true≢false (sym i))
-head-allows (d ∷ ds) zero o w l n e i q =
-    let s = both-hold (isNum d) (eqb (width d) w) i in
-    let r = sizes-cons d ds l n e in
-    rw (eqb-true o 0 q, ← eqb-true (width d) w (s .1)) ((num-some (width d) (allows d) l (r .0) (sym (num-size d l (s .0)) ∙ r .2)) .2)
-head-allows (d ∷ ds) (suc j) o w l n e i q =
-    let s = both-hold (isNum d) (both (leb (width d) o) (lies ds j (o - width d))) q in
-    let t = both-hold (leb (width d) o) (lies ds j (o - width d)) (s .1) in
-    let r = sizes-cons d ds l n e in
-    let m : width d ≡ r .0 = (num-some (width d) (allows d) l (r .0) (sym (num-size d l (s .0)) ∙ r .2)) .0 in
-    let f : width d ≤ o = leb-true (width d) o (t .0) in
-    let c : r .0 + (o - width d) ≡ o = omega arith in
-    let g : drop (o - width d) (drop (r .0) l) ≡ drop o l = drop-drop (o - width d) (r .0) l ∙ ap (λ (k : ℕ). drop k l) c in
-    rw g at (head-allows ds j (o - width d) w (drop (r .0) l) (r .1) (r .3) i (t .1))
+-- ---- the format of any record
 
 -- an INAS of an inserted record says insert
 inserts : (b : List ℕ) → fill (headOf InasNew) (tupleOf InasNew) b ≡ true → getD b 9 0 ≡ 2 → ⊥
 unfolding headOf allows
 inserts b e z =
-    let r = filled (headOf InasNew) (tupleOf InasNew) b e in
-    let a = both-hold (leb 1 (le 1 (drop 9 b))) (leb (le 1 (drop 9 b)) 1) (head-allows (headOf InasNew) 4 9 1 b (r .bytes) (r .taken) refl refl) in
-    let s : 9 + 1 ≤ length b = (head-number (headOf InasNew) (tupleOf InasNew) b e 4 9 1 refl refl) .0 in
-    let v : le 1 (drop 9 b) ≤ 1 = leb-true (le 1 (drop 9 b)) 1 (a .1) in
-    omega (arith, le1 b 9 s)
+    let v : ℕ = numAt (values (headOf InasNew) b) 4 in
+    let a = both-hold (leb 1 v) (leb v 1) (head-allowed (headOf InasNew) (tupleOf InasNew) b e 4 1 refl) in
+    let n = head-number (headOf InasNew) (tupleOf InasNew) b e 4 9 1 refl refl in
+    omega (arith, leb-true v 1 (a .1), n .1, le1 b 9 (n .0))
 
 inas-wider : (b : List ℕ) → fill (headOf InasNew) (tupleOf InasNew) b ≡ true → fill (headOf (inasFormat false b)) (tupleOf (inasFormat false b)) b ≡ true
 unfolding inasFormat
 inas-wider b e = simp (ne-eqb (getD b 9 0) 2 (inserts b e)) e
-
--- ---- the format of any record
 
 wider-true : (t : ℕ) (b : List ℕ) → fill (headOf (formatOf true t b)) (tupleOf (formatOf true t b)) b ≡ true
     → fill (headOf (formatOf false t b)) (tupleOf (formatOf false t b)) b ≡ true

@@ -1,13 +1,12 @@
 -- Laws of the formats of fields. Assumes nothing.
-use mathlib.Core.Path.{_≡_, refl, sym, ap, _∙_}
+use mathlib.Core.Path.{_≡_, refl, sym, _∙_}
 use mathlib.Core.Bool.{Bool, true, false, not}
 use mathlib.Core.List.{List}
 use Prim.Native.Nat.{ℕ, _≤_, _<_}
-use native.Mathlib.Omega.{arith}
 use borrow.Author.Tests.{eq-eqb, ne-eqb}
 use lib.Dec.{eqb, ltb}
 use lib.ListN.{length, getD, List·getD-eq-default}
-use Rattle.base.specs.Choice.{pick, both}
+use Rattle.base.specs.Choice.{pick}
 use Rattle.base.specs.Lists.{empty}
 use Rattle.base.specs.Verdict.{verdictOf}
 use Rattle.base.specs.declared.Verdict.the-variants.{Passed, Refused}

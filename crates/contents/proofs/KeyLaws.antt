@@ -7,7 +7,7 @@ use native.Mathlib.Omega.{arith}
 use borrow.Author.Tests.{ltb-true, ltb-false}
 use lib.Dec.{eqb, ltb}
 use Rattle.base.specs.Choice.{pick, either}
-use Rattle.base.specs.Check.{Check, ok, no, bind, fault, Passed}
+use Rattle.base.specs.Check.{ok, no, bind, fault, Passed}
 use Rattle.base.specs.Keys.{same, among}
 use Rattle.base.specs.Lists.{each}
 use Rattle.base.specs.declared.Fault.{Fault}

@@ -3,6 +3,7 @@ pub mod StepLaws
 pub mod FormatLaws
 pub mod FitLaws
 pub mod IdentifierLaws
+pub mod ListLaws
 pub mod CountLaws
 pub mod ContentLaws
 pub mod ReaderLaws
@@ -10,4 +11,7 @@ pub mod TreeLaws
 pub mod KeyLaws
 pub mod SpatialLaws
 pub mod EarlierLaws
+pub mod NewLaws
+pub mod SpasLaws
 pub mod OnceLaws
+pub mod SevenLaws

@@ -1,19 +1,24 @@
 -- Laws of the readers of an identifier: each number where it stands. Assumes nothing.
-use mathlib.Core.Path.{_≡_, refl, sym, ap, _∙_}
+use mathlib.Core.Path.{_≡_, refl, sym, _∙_}
 use mathlib.Core.Bool.{Bool, true, false, true≢false}
-use mathlib.Core.List.{List, [], _∷_}
+use mathlib.Core.List.{List, _∷_}
 use Prim.Native.Nat.{ℕ, _+_, _≤_}
 use lib.ListN.{length, drop}
 use Rattle.base.specs.Choice.{pick}
-use Rattle.base.specs.Check.{ok, bind}
+use Rattle.base.specs.Check.{ok, pass}
 use Rattle.base.proofs.CheckLaws.{bind-inv}
 use Rattle.fields.specs.Bytes.{le}
 use Rattle.fields.specs.Table.{headOf, tupleOf}
 use Rattle.fields.specs.Content.{fill}
-use Rattle.fields.specs.declared.Format.the-variants.{Irid, IridNew, Prid, PridNew, Mrid, MridNew, Frid, FridNew}
+use Rattle.fields.specs.declared.Format.the-variants.{Irid, Prid, Mrid, Frid}
 use Rattle.fields.proofs.ValueLaws.{head-number}
 use Rattle.fields.proofs.WiderLaws.{irid, prid, mrid, frid, format-wider}
 use Rattle.skeleton.specs.File.{Field}
+use Rattle.skeleton.specs.Place.{between, placeAt, fieldsAt}
+use Rattle.skeleton.specs.declared.directory.Shape.{Shape}
+use Rattle.skeleton.specs.declared.place.Place.{Place}
+use Rattle.skeleton.specs.declared.place.Place.the-variants.{At}
+use Rattle.skeleton.proofs.PlaceLaws.{fields-more}
 use Rattle.rules.specs.Kind.{coded}
 use Rattle.rules.specs.Content.{insertOnly, identFormat, stands, number5}
 use Rattle.rules.specs.Record.{identOf}
@@ -125,3 +130,9 @@ unfolding number5
 five-identified m k f fs u e =
     let r = bind-inv (stands 1 (identFormat (insertOnly m) k) (f .body)) _ u e in
     stands-identified (insertOnly m) k (f .body) (r .0) (r .1)
+
+-- at its place
+pub ident-here : (r : List ℕ) (h : Shape) (m : Mode) (k : Kind) → number5 m k (fieldsAt r h 24) ≡ pass → (e : Place) → e ≡ placeAt r h 24
+    → (tag start end next : ℕ) → e ≡ At tag start end next → identified k (between r start end) ≡ true
+ident-here r h m k five e en tag start end next x =
+    five-identified m k (record { tag = tag; body = between r start end }) (fieldsAt r h next) tt (rw (fields-more r h 24 e en tag start end next x) at five)

@@ -1,19 +1,19 @@
 -- Laws of the tuples of a SPAS, 15 bytes each, and of their keys. Assumes nothing.
-use mathlib.Core.Path.{_≡_, refl, sym, ap, ap₂, _∙_}
+use mathlib.Core.Path.{_≡_, refl, sym, ap, _∙_}
 use mathlib.Core.Bool.{Bool, true, false}
-use mathlib.Core.List.{List, [], _∷_, _++_}
+use mathlib.Core.List.{List, [], _∷_}
 use Prim.Native.Nat.{ℕ, zero, suc, _+_, _-_, _*_, _/_, _≤_, _<_}
 use native.Mathlib.Nat.{add-zero}
 use native.Mathlib.Omega.{arith}
 use borrow.Author.Tests.{eq-eqb, ne-eqb, eqb-true, eqb-false, lt-ltb, le-ltb}
-use lib.Dec.{eqb, ltb}
+use lib.Dec.{eqb}
 use lib.ListN.{length, take, drop}
 use lib.Seq.{drop-drop, take-all}
-use Rattle.base.specs.Choice.{pick, both, either}
+use Rattle.base.specs.Choice.{both, either}
 use Rattle.base.specs.Keys.{same, among}
 use Rattle.base.specs.Lists.{each}
 use Rattle.fields.specs.Bytes.{le}
-use Rattle.fields.specs.Values.{Val, values, numAt}
+use Rattle.fields.specs.Values.{values, numAt}
 use Rattle.fields.specs.Table.{headOf, tupleOf}
 use Rattle.fields.specs.Content.{many, fill}
 use Rattle.fields.specs.Places.{endingAt}
@@ -24,7 +24,7 @@ use Rattle.fields.proofs.EvenLaws.{even-next, fill-even}
 use Rattle.fields.proofs.ValueLaws.{tuple-number}
 use Rattle.rules.specs.Associations.{spasKey}
 use Rattle.contents.specs.Keys.{spasKeys, tupleIs, hasFrom, larger}
-use Rattle.contents.proofs.CountLaws.{each-length}
+use Rattle.contents.proofs.ListLaws.{each-length}
 
 -- ---- numbers
 

@@ -5,7 +5,7 @@ use mathlib.Core.List.{List, [], _∷_, _++_}
 use lib.ListN.{take, drop}
 use lib.Dec.{eqb, ltb}
 use Rattle.base.specs.Choice.{pick, both}
-use Rattle.base.specs.Check.{Check, ok, no, Passed}
+use Rattle.base.specs.Check.{ok, no, Passed}
 use Rattle.base.specs.Keys.{among}
 use Rattle.base.specs.Lists.{each, gather}
 use Rattle.base.specs.Verdict.{verdictOf}
@@ -18,7 +18,7 @@ use Rattle.skeleton.specs.File.{Field}
 use Rattle.skeleton.specs.Place.{fieldsAt}
 use Rattle.skeleton.specs.declared.directory.Shape.{Shape}
 use Rattle.rules.specs.Tags.{INAS, SPAS}
-use Rattle.rules.specs.Associations.{Mark, inasKey, spasKey, spasMarks, fieldMarks, marks, keysOnce}
+use Rattle.rules.specs.Associations.{inasKey, spasKey, spasMarks, fieldMarks, marks, keysOnce}
 use Rattle.contents.specs.declared.earlier.Key.{Key}
 use Rattle.contents.specs.declared.earlier.Key.the-variants.{Information, Spatial}
 use Rattle.contents.specs.declared.keys.Keys.{Keys}

@@ -14,11 +14,9 @@ use skeleton::place::place_at;
 ghost use mathlib.Core.Path.{_≡_};
 ghost use Prim.Native.Nat.{_≤_};
 ghost use lib.ListN.{length};
-ghost use Rattle.base.specs.Check.{bind};
 ghost use Rattle.base.specs.Verdict.{verdictOf};
 ghost use Rattle.skeleton.specs.Place.{between, fieldsAt};
 ghost use Rattle.skeleton.specs.Shape.{Bounded};
-ghost use Rattle.rules.specs.Grammar.{ruinByte, asStored};
 ghost use Rattle.rules.specs.Content.{insertOnly, identFormat, formatOf, stands, number5};
 ghost use Rattle.contents.specs.Answers.{standFrom, restRight};
 

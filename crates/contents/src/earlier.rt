@@ -8,7 +8,7 @@ use skeleton::place::Place;
 use skeleton::place::place_at;
 ghost use mathlib.Core.Path.{_≡_};
 ghost use mathlib.Core.Bool.{true, false};
-ghost use mathlib.Core.List.{List, [], _∷_};
+ghost use mathlib.Core.List.{[], _∷_};
 ghost use Rattle.base.specs.Keys.{same, among};
 ghost use Rattle.fields.specs.Table.{headOf, tupleOf};
 ghost use Rattle.fields.specs.Content.{fill};

@@ -1,2 +1,3 @@
 pub mod VerdictLaws
 pub mod RecordLaws
+pub mod WalkLaws

@@ -1,2 +1,3 @@
 // A whole dataset read.
 pub mod record;
+pub mod walk;

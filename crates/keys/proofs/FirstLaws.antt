@@ -1,20 +1,20 @@
 -- The first field of a record that is right begins at its base address. Assumes nothing.
 use mathlib.Core.Path.{_≡_, refl, sym, ap, _∙_}
-use mathlib.Core.List.{List, [], _∷_}
+use mathlib.Core.List.{List}
 use mathlib.Core.Bool.{Bool, true, false}
-use Prim.Native.Nat.{ℕ, _+_, _-_, _≤_, _<_}
+use Prim.Native.Nat.{ℕ, _+_, _-_, _≤_}
 use native.Mathlib.Omega.{arith}
 use native.Mathlib.Nat.{add-zero}
 use lib.ListN.{length, take, drop, length-take, length-drop}
 use Rattle.base.specs.Lists.{each}
-use Rattle.base.specs.Walk.{Got, follow}
-use Rattle.skeleton.specs.Directory.{Body, entryAt, lies, ended, stepBy, fieldsFrom, fieldsOf}
+use Rattle.base.specs.Walk.{Got}
+use Rattle.skeleton.specs.Directory.{Body, entryAt, lies, ended, fieldsOf}
 use Rattle.skeleton.specs.File.{Field, cutOut}
 use Rattle.skeleton.specs.Place.{between, fieldsAt}
 use Rattle.skeleton.specs.declared.directory.Entry.{Entry}
 use Rattle.skeleton.specs.declared.directory.Entry.the-variants.{Field as FieldAt, End, Bad}
 use Rattle.skeleton.specs.declared.directory.Shape.{Shape}
-use Rattle.skeleton.proofs.DirectoryLaws.{lies-in, fields-step, dir-bad, dir-end-not}
+use Rattle.skeleton.proofs.DirectoryLaws.{lies-in, fields-step, dir-bad}
 use Rattle.skeleton.proofs.PlaceLaws.{fields-same}
 use Rattle.rules.specs.ByTag.{front}
 use Rattle.keys.specs.Key.{keyAt}

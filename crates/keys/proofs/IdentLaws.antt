@@ -1,27 +1,26 @@
 -- What the key of a record, or of a reference, is, where its field has its format. Assumes nothing.
 use mathlib.Core.Path.{_≡_, refl, sym, ap, _∙_}
-use mathlib.Core.List.{List, [], _∷_}
-use mathlib.Core.Bool.{Bool, true, false, not}
+use mathlib.Core.List.{List, _∷_}
+use mathlib.Core.Bool.{Bool, true, not}
 use mathlib.Core.Option.{some}
-use Prim.Native.Nat.{ℕ, _+_, _*_, _/_, _≤_, _<_}
+use Prim.Native.Nat.{ℕ, _+_, _*_, _≤_, _<_}
 use native.Mathlib.Omega.{arith}
-use borrow.Author.Tests.{leb-true, eqb-true}
-use lib.ListN.{length, getD, take, drop, length-drop}
-use lib.Dec.{leb, eqb}
-use Rattle.base.specs.Choice.{pick, both, either}
-use Rattle.base.specs.Check.{Check, ok, no, bind, Passed, pass}
+use borrow.Author.Tests.{leb-true}
+use lib.ListN.{length, getD, drop, length-drop}
+use lib.Dec.{leb}
+use Rattle.base.specs.Check.{ok}
 use Rattle.base.specs.Lists.{empty}
-use Rattle.base.proofs.ChoiceLaws.{both-hold, by-test}
+use Rattle.base.proofs.ChoiceLaws.{both-hold}
 use Rattle.base.proofs.CheckLaws.{bind-inv}
 use Rattle.skeleton.specs.File.{Field}
 use Rattle.fields.specs.Bytes.{le}
-use Rattle.fields.specs.Sizes.{size, sizes, inRange, inSet}
+use Rattle.fields.specs.Sizes.{size, sizes, inRange}
 use Rattle.fields.specs.Table.{headOf, tupleOf}
-use Rattle.fields.specs.Values.{Val, value, values, numAt}
+use Rattle.fields.specs.Values.{values}
 use Rattle.fields.specs.Content.{fill, tallyField}
 use Rattle.fields.specs.declared.Format.{Format}
 use Rattle.fields.specs.declared.Sub.{Sub}
-use Rattle.fields.specs.declared.Sub.the-variants.{B11, B14, Among, Raw}
+use Rattle.fields.specs.declared.Sub.the-variants.{B11, B14}
 use Rattle.fields.specs.declared.Tally.{Tally}
 use Rattle.fields.specs.declared.Tally.the-variants.{Whole, Short}
 use Rattle.fields.proofs.ByteLaws.{le1}

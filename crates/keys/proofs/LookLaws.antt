@@ -8,14 +8,14 @@ use borrow.Author.Tests.{ltb-true, ltb-false}
 use lib.ListN.{length, drop}
 use lib.Dec.{ltb}
 use Rattle.base.specs.Lists.{each}
-use Rattle.base.specs.Walk.{Got, before}
+use Rattle.base.specs.Walk.{Got}
 use Rattle.base.proofs.ChoiceLaws.{by-test}
 use Rattle.skeleton.specs.Digits.{numberAt, valueOf}
 use Rattle.skeleton.specs.Leader.{within, statedOf}
 use Rattle.skeleton.specs.declared.digits.Number.{Number}
 use Rattle.skeleton.specs.declared.digits.Number.the-variants.{Value, NotDigits}
 use Rattle.skeleton.proofs.DigitsLaws.{number-small}
-use Rattle.skeleton.specs.File.{Field, recordsFrom}
+use Rattle.skeleton.specs.File.{Field}
 use Rattle.skeleton.specs.Place.{between, fieldsAt}
 use Rattle.skeleton.specs.Record.{recordAt, statedAt}
 use Rattle.skeleton.specs.declared.leader.Head.{Head}
@@ -24,7 +24,7 @@ use Rattle.skeleton.proofs.RecordLaws.{right}
 use Rattle.skeleton.proofs.FileLaws.{records-over, records-refused, records-more}
 use Rattle.keys.specs.Key.{keyAt}
 use Rattle.keys.specs.Listed.{keyOf, keysFrom}
-use Rattle.keys.specs.Look.{lookBy, lookAt}
+use Rattle.keys.specs.Look.{lookAt}
 use Rattle.keys.specs.declared.look.Look.{Look}
 use Rattle.keys.specs.declared.look.Look.the-variants.{At, Nothing}
 use Rattle.keys.proofs.FirstLaws.{first-key}

@@ -14,7 +14,7 @@ use Rattle.fields.specs.Table.{headOf, tupleOf}
 use Rattle.fields.specs.Values.{values, numAt}
 use Rattle.fields.specs.Content.{fill}
 use Rattle.fields.specs.declared.Format.the-variants.{InasNew, InasGone, Spas}
-use Rattle.fields.specs.declared.Sub.the-variants.{B11, Among, Raw}
+use Rattle.fields.specs.declared.Sub.the-variants.{Among}
 use Rattle.fields.proofs.ByteLaws.{le1}
 use Rattle.fields.proofs.SizeLaws.{num-some, sizes-cons}
 use Rattle.fields.proofs.TupleLaws.{Next}

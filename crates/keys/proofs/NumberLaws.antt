@@ -2,10 +2,9 @@
 use mathlib.Core.Path.{_≡_, refl, sym, ap, _∙_}
 use mathlib.Core.List.{List, [], _∷_, _++_}
 use mathlib.Core.Bool.{Bool, true, false, true≢false}
-use Prim.Native.Nat.{ℕ, _+_, _*_, _/_, _≤_, _<_}
+use Prim.Native.Nat.{ℕ, _+_, _*_, _<_}
 use native.Mathlib.Omega.{arith}
 use borrow.Author.Tests.{eq-eqb, ne-eqb, eqb-true}
-use lib.ListN.{getD}
 use lib.Dec.{eqb}
 use Rattle.base.specs.Choice.{pick, either}
 use Rattle.base.specs.Lists.{each}
@@ -13,7 +12,7 @@ use Rattle.base.specs.Keys.{same, among}
 use Rattle.base.proofs.ChoiceLaws.{by-test}
 use Rattle.base.proofs.KeysLaws.{same-sound, same-refl}
 use Rattle.rules.specs.Record.{Rec, keyOf as keyInRules}
-use Rattle.keys.specs.Key.{rankOf, keyNumber}
+use Rattle.keys.specs.Key.{rankOf}
 use Rattle.keys.specs.Listed.{listed}
 use Rattle.keys.specs.Numbered.{numberOf, Ranged, Numbered}
 use Rattle.keys.proofs.ListLaws.{listed-none, listed-more}

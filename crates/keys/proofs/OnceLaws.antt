@@ -2,24 +2,24 @@
 use mathlib.Core.Path.{_≡_, refl, sym, ap, _∙_}
 use mathlib.Core.List.{List, [], _∷_, _++_}
 use mathlib.Core.Bool.{Bool, true, false, true≢false}
-use Prim.Native.Nat.{ℕ, suc, _+_, _-_, _*_, _/_, _%_, _^_, _≤_, _<_}
+use Prim.Native.Nat.{ℕ, suc, _+_, _/_, _%_, _≤_, _<_}
 use native.Mathlib.Omega.{arith}
-use borrow.Author.Tests.{lt-ltb, le-ltb, eq-eqb, ne-eqb, le-leb, ltb-true, ltb-false, leb-true, eqb-true, eqb-false}
+use borrow.Author.Tests.{lt-ltb, le-ltb, ne-eqb, le-leb, ltb-true, ltb-false, leb-true, eqb-true, eqb-false}
 use lib.ListN.{length, take, drop}
 use lib.Seq.{drop-cons}
 use lib.Dec.{leb, ltb, eqb}
 use Rattle.memory.specs.Hold.{zeros}
 use Rattle.memory.proofs.HoldLaws.{length-zeros}
-use Rattle.base.specs.Choice.{both}
+use Rattle.base.specs.Choice.{either}
 use Rattle.base.proofs.ChoiceLaws.{by-test, both-hold}
 use Rattle.keys.specs.Listed.{keysFrom, listed, seenFrom}
 use Rattle.keys.specs.Look.{Known}
 use Rattle.keys.specs.Bits.{flagOf, raised}
-use Rattle.keys.specs.Map.{Mapped, kindIn, rcidIn, ofKind, Marks}
+use Rattle.keys.specs.Map.{kindIn, sharedFlag, Marks}
 use Rattle.keys.specs.Once.{largerOf, noneAbove, Renewed, Once, Comes, Told}
 use Rattle.keys.proofs.ListLaws.{listed-later, listed-none, listed-more, split-take}
-use Rattle.keys.proofs.BitLaws.{flag-none, raised-long}
-use Rattle.keys.proofs.MapLaws.{zeros-all, mapped-more}
+use Rattle.keys.proofs.BitLaws.{raised-long, flag-same, flag-other}
+use Rattle.keys.proofs.MapLaws.{zeros-all}
 
 -- ---- the largest key
 
@@ -67,14 +67,18 @@ module _ (f : List ℕ) (start m top k : ℕ) (t : List ℕ) (o : Once f start m
   unfolding seenFrom
   stood-above h = sym (above-new top k (take m (keysFrom f start)) h (o .none-above))
 
-  pub stood-flag : kindIn top ≤ kindIn k → (b : Bool) → k ≤ top → k % 4294967296 / 8 < length t → b ≡ flagOf t (k % 4294967296) → b ≡ seenFrom f start m k
-  unfolding Marks Mapped ofKind seenFrom
-  stood-flag g b l h e = e ∙ o .marks k (eq-eqb (kindIn k) (kindIn top) (omega arith)) h
+  pub stood-clear : kindIn top ≤ kindIn k → k ≤ top → k % 262144 / 8 < length t → (b : Bool) → b ≡ flagOf t (k % 262144) → b ≡ false → false ≡ seenFrom f start m k
+  unfolding Marks seenFrom
+  stood-clear g l h b e x = go (listed k (take m (keysFrom f start))) refl
+    where
+      go : (y : Bool) → listed k (take m (keysFrom f start)) ≡ y → false ≡ y
+      go true z = sym x ∙ e ∙ o .marks k (omega arith) z h
+      go false z = refl
 
   pub stood-known : Known f start m
   stood-known = o .known
 
-pub ruleset stood-ways = (stood-above, stood-flag, stood-known, arith)
+pub ruleset stood-ways = (stood-above, stood-clear, stood-known, arith)
 
 -- ---- `renew`
 
@@ -89,37 +93,45 @@ pub ruleset renew-ways = (renew-same, renew-empty)
 
 -- ---- the map
 
--- a kind and a place in its map are those of one key
-pub kind-back : (kind k : ℕ) → ofKind kind k ≡ true → kind * 4294967296 + rcidIn k ≡ k
-unfolding ofKind
-kind-back kind k e = let z : kindIn k ≡ kind = eqb-true (kindIn k) kind e in omega arith
+either-first : (b : Bool) → either b false ≡ true → b ≡ true
+either-first true e = refl
+either-first false e = e
+
+-- of no keys
+pub marks-none : (kind : ℕ) (t : List ℕ) → Marks [] kind t
+unfolding Marks
+marks-none kind t k x e h = absurd (true≢false (sym e ∙ listed-none k))
 
 -- for the kind of the next key
 marks-renewed : (l : List ℕ) (top kind' : ℕ) (t t' : List ℕ) → noneAbove top l ≡ true → Marks l (kindIn top) t → kindIn top ≤ kind'
     → Renewed (kindIn top) kind' t t' → Marks l kind' t'
-unfolding Marks Mapped ofKind
+unfolding Marks
 marks-renewed l top kind' t t' na ms h rn = go (eqb (kindIn top) kind') refl
   where
-    go : (b : Bool) → eqb (kindIn top) kind' ≡ b → (k : ℕ) → eqb (kindIn k) kind' ≡ true → rcidIn k / 8 < length t' → flagOf t' (rcidIn k) ≡ listed k l
-    go true e k x g =
+    go : (b : Bool) → eqb (kindIn top) kind' ≡ b → (k : ℕ) → kindIn k ≡ kind' → listed k l ≡ true → sharedFlag k / 8 < length t' → flagOf t' (sharedFlag k) ≡ true
+    go true e k x y g =
         let z : kindIn top ≡ kind' = eqb-true (kindIn top) kind' e in
-        let y = rn .same z in
-        rw y (ms k (rw z x) (omega (arith, rn .long)))
-    go false e k x g =
+        let same = rn .same z in
+        rw same (ms k (x ∙ sym z) y (omega (arith, rn .long)))
+    go false e k x y g =
         let z : kindIn top ≡ kind' → ⊥ = eqb-false (kindIn top) kind' e in
-        let y : kindIn k ≡ kind' = eqb-true (kindIn k) kind' x in
         let w : top < k = omega arith in
-        flag-none t' (rcidIn k) (rn .empty z (rcidIn k / 8)) ∙ sym (above-new top k l w na)
+        absurd (true≢false (sym y ∙ above-new top k l w na))
 
 -- with one key more
-own-kind : (k : ℕ) → ofKind (kindIn k) k ≡ true
-unfolding ofKind
-own-kind k = eq-eqb (kindIn k) (kindIn k) refl
-
-marks-more : (l : List ℕ) (k : ℕ) (t : List ℕ) → Marks l (kindIn k) t → Marks (l ++ (k ∷ [])) (kindIn k) (raised t (rcidIn k))
+marks-more : (l : List ℕ) (k : ℕ) (t : List ℕ) → Marks l (kindIn k) t → Marks (l ++ (k ∷ [])) (kindIn k) (raised t (sharedFlag k))
 unfolding Marks
-marks-more l k t ms =
-    mapped-more (ofKind (kindIn k)) rcidIn (λ j. kindIn k * 4294967296 + j) (kind-back (kindIn k)) l t ms k (own-kind k)
+marks-more l k t ms j x y g = go (eqb (sharedFlag j) (sharedFlag k)) refl (omega (arith, raised-long t (sharedFlag k)))
+  where
+    go : (b : Bool) → eqb (sharedFlag j) (sharedFlag k) ≡ b → sharedFlag j / 8 < length t → flagOf (raised t (sharedFlag k)) (sharedFlag j) ≡ true
+    go true e h =
+        let z : sharedFlag j ≡ sharedFlag k = eqb-true _ _ e in
+        ap (λ (i : ℕ). flagOf (raised t i) (sharedFlag j)) (sym z) ∙ flag-same t (sharedFlag j) h
+    go false e h =
+        let z : sharedFlag j ≡ sharedFlag k → ⊥ = eqb-false _ _ e in
+        let n : k ≡ j → ⊥ = λ q. z (ap sharedFlag (sym q)) in
+        let was : listed j l ≡ true = either-first (listed j l) (rw (listed-more j k l, ne-eqb k j n) at y) in
+        flag-other t (sharedFlag j) (sharedFlag k) z ∙ ms j x was h
 
 -- ---- `repeats`
 
@@ -144,7 +156,7 @@ module _ (f : List ℕ) (start m top k : ℕ) (t : List ℕ) (o : Once f start m
       let y = o .known .keyed in
       record { enough = omega arith; keyed = rw (one-more, z, y, ne-eqb k 0 (c .keyed)) refl }
 
-  once-more : Once f start (m + 1) (largerOf top k) (raised t' (k % 4294967296))
+  once-more : Once f start (m + 1) (largerOf top k) (raised t' (k % 262144))
   once-more =
       let l = larger-least top k in
       record {
@@ -153,7 +165,7 @@ module _ (f : List ℕ) (start m top k : ℕ) (t : List ℕ) (o : Once f start m
         marks = rw (one-more, l .2 h) (marks-more (take m (keysFrom f start)) k t' marks-then);
       }
 
-  pub told-false : (t'' : List ℕ) → t'' ≡ raised t' (k % 4294967296) → Told f start m top k t t'' false
-  told-false t'' e = record { told = sym x ∙ eb; long = rw e (raised-long t' (k % 4294967296) ∙ rn .long); once = λ _. rw e once-more }
+  pub told-false : (t'' : List ℕ) → t'' ≡ raised t' (k % 262144) → Told f start m top k t t'' false
+  told-false t'' e = record { told = sym x ∙ eb; long = rw e (raised-long t' (k % 262144) ∙ rn .long); once = λ _. rw e once-more }
 
 pub ruleset repeats-ways = (told-true, told-false, arith)

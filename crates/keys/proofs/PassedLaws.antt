@@ -3,30 +3,35 @@ use mathlib.Core.Path.{_≡_, refl, sym, ap, _∙_}
 use mathlib.Core.List.{List, [], _∷_, _++_}
 use mathlib.Core.Bool.{Bool, true, false}
 use mathlib.Core.Option.{Option, some, none}
-use Prim.Native.Nat.{ℕ, _+_, _≤_, _<_}
+use Prim.Native.Nat.{ℕ, suc, _+_, _≤_}
 use native.Mathlib.Omega.{arith}
-use borrow.Author.Tests.{ne-eqb, ltb-false}
+use borrow.Author.Tests.{ne-eqb, ltb-false, eqb-true}
+use lib.ListN.{length}
 use lib.Dec.{eqb, ltb}
 use Rattle.base.specs.Choice.{pick}
 use Rattle.base.specs.Check.{Check, ok, no, bind, fault, Passed, pass}
 use Rattle.base.specs.Lists.{each}
 use Rattle.base.specs.Keys.{among}
+use Rattle.base.proofs.ChoiceLaws.{by-test}
 use Rattle.base.proofs.CheckLaws.{bind-inv, ok-inj}
 use Rattle.skeleton.specs.File.{Field}
-use Rattle.rules.specs.Kind.{kindOf, rank}
+use Rattle.rules.specs.Tags.{IRID, PRID, MRID, FRID}
+use Rattle.rules.specs.ByTag.{firstTag}
+use Rattle.rules.specs.Kind.{kindOf, tagOf, rank}
 use Rattle.rules.specs.Grammar.{number4, onKind, fieldsStand}
 use Rattle.rules.specs.Content.{number5}
 use Rattle.rules.specs.Trees.{number6}
 use Rattle.rules.specs.Associations.{number7}
 use Rattle.rules.specs.Record.{Rec, keyNamed, recOf, datasetRecord, keyOf as keyInRules}
-use Rattle.rules.specs.Outcome.{Outcome, done, refused, andThen, at}
+use Rattle.rules.specs.Outcome.{done, at}
 use Rattle.rules.specs.File.{lastRank, datasetTest, through}
 use Rattle.rules.proofs.OutcomeLaws.{andThen-inv, at-inv, done-inj}
 use Rattle.rules.specs.declared.Kind.{Kind}
+use Rattle.rules.specs.declared.Kind.the-variants.{Info, Point, Multi, Feature}
 use Rattle.rules.specs.declared.Mode.the-variants.{InDataset}
 use Rattle.keys.specs.Listed.{keyOf, listed}
 use Rattle.keys.specs.Numbered.{numberOf, Ranged, Numbered}
-use Rattle.keys.specs.Standing.{fourToSix}
+use Rattle.keys.specs.Standing.{fourToSix, Fine, AllFine}
 use Rattle.keys.proofs.ListLaws.{listed-none, listed-later}
 use Rattle.keys.proofs.NumberLaws.{numbered-none, numbered-front}
 use Rattle.keys.proofs.IdentLaws.{Keyed, keyed-passed}
@@ -35,6 +40,16 @@ use Rattle.keys.proofs.IdentLaws.{Keyed, keyed-passed}
 
 not-ok : {A B : Type 0} {x : _} {a : A} → no x ≡ ok a → B
 not-ok e = absurd (let z : _≡_ {A = ℕ} 0 1 = cc in omega arith)
+
+some-kind : (k j : Kind) → some k ≡ some j → k ≡ j
+some-kind k j e = cc
+
+no-kind : {B : Type 0} {j : Kind} → none ≡ some j → B
+no-kind e = absurd (let z : _≡_ {A = ℕ} 0 1 = cc in omega arith)
+
+picked-kind : (k j : Kind) (t : Bool) (c : Passed) → pick t (no (fault 4 1 0)) (bind c (λ _. ok k)) ≡ ok j → k ≡ j
+picked-kind k j true c h = not-ok h
+picked-kind k j false c h = ok-inj k j (bind-inv c (λ _. ok k) j h .2)
 
 -- a kind that number 4 gives is not before the last one
 picked : (k j : Kind) (least : ℕ) (t : Bool) (c : Passed) → ltb (rank k) least ≡ t → pick t (no (fault 4 1 0)) (bind c (λ _. ok k)) ≡ ok j → least ≤ rank j
@@ -48,13 +63,32 @@ kind-rank : (o : Option Kind) (least : ℕ) (c : Kind → Passed) (j : Kind)
 kind-rank none least c j h = not-ok h
 kind-rank (some k) least c j h = picked k j least (ltb (rank k) least) (c k) refl h
 
+-- and it is that of the first tag
+kind-tag : (t : ℕ) (j : Kind) → kindOf t ≡ some j → t ≡ tagOf j
+unfolding kindOf tagOf
+kind-tag t j =
+    let P : Option Kind → Type 0 = λ o. o ≡ some j → t ≡ tagOf j in
+    by-test P (eqb t IRID) _ _ (λ e h. eqb-true t IRID e ∙ ap tagOf (some-kind Info j h)) (λ _.
+    by-test P (eqb t PRID) _ _ (λ e h. eqb-true t PRID e ∙ ap tagOf (some-kind Point j h)) (λ _.
+    by-test P (eqb t MRID) _ _ (λ e h. eqb-true t MRID e ∙ ap tagOf (some-kind Multi j h)) (λ _.
+    by-test P (eqb t FRID) _ _ (λ e h. eqb-true t FRID e ∙ ap tagOf (some-kind Feature j h)) (λ _ h. no-kind h))))
+
+given-tag : (t : ℕ) (o : Option Kind) (least : ℕ) (c : Kind → Passed) (j : Kind) → kindOf t ≡ o
+    → onKind o (λ k. pick (ltb (rank k) least) (no (fault 4 1 0)) (bind (c k) (λ _. ok k))) ≡ ok j → t ≡ tagOf j
+given-tag t none least c j e h = not-ok h
+given-tag t (some k) least c j e h =
+    let z : k ≡ j = picked-kind k j (ltb (rank k) least) (c k) h in
+    kind-tag t j (e ∙ ap some z)
+
 -- a record that has passed them
 pub record Placed (least : ℕ) (k : Kind) (fs : List Field) : Type 0 where
   pub keyed : Keyed k fs
   pub follows : least ≤ rank k
+  pub five : number5 InDataset k fs ≡ pass
+  pub tag : firstTag fs ≡ tagOf k
 
 pub placed : (least : ℕ) (fs : List Field) (k : Kind) → fourToSix least fs ≡ ok k → Placed least k fs
-unfolding fourToSix number4
+unfolding fourToSix number4 firstTag
 placed least [] k e = let r = bind-inv (number4 InDataset least []) _ k e in not-ok (r .1)
 placed least (f ∷ fs) k e =
     let r = bind-inv (number4 InDataset least (f ∷ fs)) _ k e in
@@ -64,8 +98,20 @@ placed least (f ∷ fs) k e =
     let there : Placed least (r .0) (f ∷ fs) = record {
       keyed = keyed-passed (r .0) f fs (s .0) (s .1);
       follows = kind-rank (kindOf (f .tag)) least (λ j. fieldsStand InDataset j (f .body) fs) (r .0) (r .1);
+      five = s .1;
+      tag = given-tag (f .tag) (kindOf (f .tag)) least (λ j. fieldsStand InDataset j (f .body) fs) (r .0) refl (r .1);
     } in
     rw z at there
+
+-- what number 7 within the record asks for
+module _ (least : ℕ) (fs : List Field) (k : Kind) (e : fourToSix least fs ≡ ok k) where
+  pub placed-five : number5 InDataset k fs ≡ pass
+  placed-five = placed least fs k e .five
+
+  pub placed-tag : firstTag fs ≡ tagOf k
+  placed-tag = placed least fs k e .tag
+
+pub ruleset placed-ways = (placed-five, placed-tag)
 
 -- ---- all numbers
 
@@ -101,9 +147,17 @@ pub record Read (fs : List Field) (r : Rec) : Type 0 where
   pub ranged : Ranged (keyInRules r)
   pub number : keyOf fs ≡ numberOf (keyInRules r)
   pub some : keyOf fs ≡ 0 → ⊥
+  pub fine : Fine fs
 
-pub read-of : (k : Kind) (fs : List Field) → Keyed k fs → Read fs (recOf k fs)
-read-of k fs d = record { ranged = rw (key-named k fs) (d .ranged); number = rw (key-named k fs) (d .number); some = d .some }
+pub read-of : (least : ℕ) (k : Kind) (fs : List Field) → Placed least k fs → Read fs (recOf k fs)
+read-of least k fs p =
+    let d = p .keyed in
+    record {
+      ranged = rw (key-named k fs) (d .ranged);
+      number = rw (key-named k fs) (d .number);
+      some = d .some;
+      fine = record { kind = k; five = p .five; tag = p .tag };
+    }
 
 seventh-read : (k : Kind) (earlier : List (List ℕ)) (fs : List Field) (r : Rec) (t : Bool) (c : Passed)
     → pick t (no (fault 7 1 0)) (bind c (λ _. ok (recOf k fs))) ≡ ok r → recOf k fs ≡ r
@@ -114,7 +168,7 @@ record-read : (least : ℕ) (earlier : List (List ℕ)) (fs : List Field) (r : R
 record-read least earlier fs r e =
     let p = bind-inv (fourToSix least fs) (seventh earlier fs) r (sym (record-parts least earlier fs) ∙ e) in
     let q = seventh-read (p .0) earlier fs r (among (keyNamed (p .0) fs) earlier) (number7 fs) (p .2) in
-    rw q at (read-of (p .0) fs (placed least fs (p .0) (p .1) .keyed))
+    rw q at (read-of least (p .0) fs (placed least fs (p .0) (p .1)))
 
 -- ---- all records
 
@@ -129,11 +183,13 @@ test-later n seen fs h =
 pub record ReadAll (items : List (List Field)) (recs : List Rec) : Type 0 where
   pub numbered : Numbered recs (each keyOf items)
   pub keyed : listed 0 (each keyOf items) ≡ false
+  pub counted : length recs ≡ length (each keyOf items)
+  pub fine : AllFine items
 
 read-none : (recs : List Rec) → done [] ≡ done recs → ReadAll [] recs
 unfolding each
 read-none recs e =
-    let none-read : ReadAll [] [] = record { numbered = numbered-none; keyed = listed-none 0 } in
+    let none-read : ReadAll [] [] = record { numbered = numbered-none; keyed = listed-none 0; counted = refl; fine = tt } in
     rw (done-inj [] recs e) at none-read
 
 read-more : (fs : List Field) (items : List (List Field)) (r : Rec) (later recs : List Rec) → Read fs r → ReadAll items later → r ∷ later ≡ recs
@@ -143,6 +199,8 @@ read-more fs items r later recs p q e =
     let all : ReadAll (fs ∷ items) (r ∷ later) = record {
       numbered = numbered-front r later (each keyOf items) (keyOf fs) (q .numbered) (p .ranged) (p .number);
       keyed = listed-later 0 (keyOf fs) (each keyOf items) (p .some) ∙ q .keyed;
+      counted = ap suc (q .counted);
+      fine = (p .fine, q .fine);
     } in
     rw e at all
 

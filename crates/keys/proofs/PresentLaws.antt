@@ -1,18 +1,18 @@
 -- Laws of a key that stands in a file. Assumes nothing.
-use mathlib.Core.Path.{_≡_, refl, sym, ap, _∙_}
-use mathlib.Core.List.{List, [], _∷_}
+use mathlib.Core.Path.{_≡_, sym, ap, _∙_}
+use mathlib.Core.List.{List}
 use mathlib.Core.Bool.{Bool, true, false, true≢false}
-use Prim.Native.Nat.{ℕ, suc, _+_, _-_, _/_, _^_, _≤_, _<_}
+use Prim.Native.Nat.{ℕ, _+_, _-_, _/_, _^_, _≤_, _<_}
 use native.Mathlib.Omega.{arith}
 use lib.ListN.{length, getD, drop}
 use lib.Seq.{drop-drop}
 use Rattle.keys.specs.Bits.{flagOf}
-use Rattle.keys.specs.Listed.{keysFrom, listed, hasFrom}
+use Rattle.keys.specs.Listed.{keysFrom, hasFrom}
 use Rattle.keys.specs.Look.{lookAt, Sound}
 use Rattle.keys.specs.Slots.{slotOf}
 use Rattle.keys.specs.Table.{Tail, Tails, Laid}
 use Rattle.keys.specs.declared.look.Look.{Look}
-use Rattle.keys.specs.declared.look.Look.the-variants.{At, Nothing}
+use Rattle.keys.specs.declared.look.Look.the-variants.{At}
 use Rattle.keys.proofs.ListLaws.{listed-here, listed-drop}
 use Rattle.keys.proofs.LookLaws.{Found}
 use Rattle.keys.proofs.SoundLaws.{Next, sound-next, sound-word}

@@ -1,14 +1,14 @@
 -- A dataset that reads: quick looks are right in it, and the records that are named are those whose keys stand in it. Assumes nothing.
-use mathlib.Core.Path.{_≡_, refl, sym, ap, _∙_}
-use mathlib.Core.List.{List, [], _∷_, _++_}
+use mathlib.Core.Path.{_≡_, refl}
+use mathlib.Core.List.{List, [], _∷_}
 use mathlib.Core.Bool.{Bool, true, false}
 use Prim.Native.Nat.{ℕ, _+_, _≤_, _<_}
 use native.Mathlib.Omega.{arith}
 use borrow.Author.Tests.{lt-leb, eqb-true}
-use lib.ListN.{length, take, drop}
+use lib.ListN.{length, take}
 use lib.Dec.{eqb, leb}
 use Rattle.base.specs.Choice.{pick}
-use Rattle.base.specs.Check.{Check, ok, no, fault, Passed, pass}
+use Rattle.base.specs.Check.{ok, no, fault, Passed}
 use Rattle.base.specs.Lists.{each}
 use Rattle.base.specs.Keys.{among}
 use Rattle.base.specs.Walk.{Got, before}
@@ -17,18 +17,18 @@ use Rattle.skeleton.specs.File.{Field, recordsFrom}
 use Rattle.skeleton.specs.Place.{between, fieldsAt}
 use Rattle.skeleton.specs.Record.{recordAt}
 use Rattle.skeleton.specs.declared.leader.Head.{Head}
-use Rattle.skeleton.specs.declared.leader.Head.the-variants.{Good, Refused}
+use Rattle.skeleton.specs.declared.leader.Head.the-variants.{Good}
 use Rattle.skeleton.proofs.FileLaws.{records-over, records-more}
 use Rattle.rules.specs.Associations.{Mark, marks, number11}
 use Rattle.rules.specs.Record.{Rec, keyOf as keyInRules}
 use Rattle.rules.specs.Outcome.{Outcome, done, refused, andThen, at, everyRecord}
-use Rattle.rules.specs.File.{datasetTest, through, ending, taken}
+use Rattle.rules.specs.File.{datasetTest, through, ending, taken, references}
 use Rattle.rules.proofs.OutcomeLaws.{andThen-inv, done-inj}
 use Rattle.keys.specs.Key.{keyAt}
-use Rattle.keys.specs.Listed.{keyOf, keysFrom, hasFrom}
+use Rattle.keys.specs.Listed.{keysFrom, hasFrom}
 use Rattle.keys.specs.Look.{Sound}
-use Rattle.keys.specs.Numbered.{numberOf, Ranged, Numbered}
-use Rattle.keys.specs.Standing.{unread, outcomeFrom, referencesFrom}
+use Rattle.keys.specs.Numbered.{Ranged, Numbered}
+use Rattle.keys.specs.Standing.{unread, outcomeFrom, referencesFrom, Fine, FineFrom}
 use Rattle.keys.proofs.NamedLaws.{Names}
 use Rattle.keys.proofs.PassedLaws.{ReadAll, through-read}
 
@@ -39,6 +39,8 @@ pub record Reads (f : List ℕ) (start : ℕ) (recs : List Rec) : Type 0 where
   pub clean : (recordsFrom f start) .ending ≡ 0
   pub keyed : hasFrom f start 0 ≡ false
   pub numbered : Numbered recs (keysFrom f start)
+  pub counted : length recs ≡ length (keysFrom f start)
+  pub fine : FineFrom f start
 
 -- a file that ends well gives what it was given
 ends-well : (n e : ℕ) (recs recs' : List Rec) (t : Bool) → eqb e 0 ≡ t
@@ -49,13 +51,13 @@ ends-well n e recs recs' true x h =
 ends-well n e recs recs' false x h = absurd (let z : _≡_ {A = ℕ} 0 1 = cc in omega arith)
 
 pub taken-reads : (f : List ℕ) (start : ℕ) (recs : List Rec) → taken datasetTest 1 3 4 [] (recordsFrom f start) ≡ done recs → Reads f start recs
-unfolding taken ending keysFrom hasFrom
+unfolding taken ending keysFrom hasFrom FineFrom
 taken-reads f start recs e =
     let g = recordsFrom f start in
     let p = andThen-inv (through datasetTest 1 4 [] (g .items)) _ recs e in
     let w = ends-well (length (g .items)) (g .ending) (p .0) recs (eqb (g .ending) 0) refl (p .2) in
     let r : ReadAll (g .items) recs = rw (w .1) at (through-read (g .items) 4 [] (p .0) (omega arith) (p .1)) in
-    record { clean = w .0; keyed = r .keyed; numbered = r .numbered }
+    record { clean = w .0; keyed = r .keyed; numbered = r .numbered; counted = r .counted; fine = r .fine }
 
 -- no refusal: there are such records
 pub unread-done : {A : Type 0} (o : Outcome A) → unread o ≡ done tt → (a : A) × (o ≡ done a)
@@ -76,6 +78,21 @@ reads-sound f start recs r s i = record { small = s; inside = i; clean = r .clea
 pub passed-sound : (f : List ℕ) (start : ℕ) → outcomeFrom f start 0 [] ≡ done tt → length f ≤ 16777216 → start ≤ length f → Sound f start
 passed-sound f start e s i = let r = outcome-reads f start e in reads-sound f start (r .0) (r .1) s i
 
+pub passed-fine : (f : List ℕ) (start : ℕ) → outcomeFrom f start 0 [] ≡ done tt → FineFrom f start
+passed-fine f start e = let r = outcome-reads f start e in r .1 .fine
+
+-- at each record its fields have their formats
+module _ (f : List ℕ) (p : ℕ) (g : FineFrom f p) (l : p < length f) (h : Head) (eh : h ≡ recordAt f p) (len base a b : ℕ) (y : h ≡ Good len base a b) where
+  fine-parts : Fine (fieldsAt (between f p (p + len)) (record { base = base; a = a; b = b }) 24) × FineFrom f (p + len)
+  unfolding FineFrom
+  fine-parts = rw (records-more f p l h eh len base a b y) at g
+
+  pub fine-here : Fine (fieldsAt (between f p (p + len)) (record { base = base; a = a; b = b }) 24)
+  fine-here = fine-parts .0
+
+  pub fine-more : FineFrom f (p + len)
+  fine-more = fine-parts .1
+
 -- ---- number 11
 
 module _ (f : List ℕ) (start : ℕ) (recs : List Rec) (r : Reads f start recs) where
@@ -95,7 +112,15 @@ module _ (f : List ℕ) (start : ℕ) (recs : List Rec) (r : Reads f start recs)
     unfolding number11
     named-loose y = simp (named-is b p (take 2 (m .key)) n, ← et, y) at inv
 
--- ---- record after record: the next is at p, and m stand before it behind the third
+-- ---- record after record
+
+-- the records after the third begin at start
+pub references-start : (recs : List Rec) (f : List ℕ) (start : ℕ) (sent : List (List Field)) → sent ≡ (recordsFrom f start) .items
+    → references 1 recs sent ≡ referencesFrom recs f start 0
+unfolding references referencesFrom
+references-start recs f start sent e = rw e refl
+
+-- the next is at p, and m stand before it behind the third
 
 module _ (recs : List Rec) (f : List ℕ) (p m : ℕ) (x : Outcome (Unit {0})) (inv : referencesFrom recs f p m ≡ x) where
   pub references-over : length f ≤ p → done tt ≡ x
@@ -122,4 +147,4 @@ module _ (recs : List Rec) (f : List ℕ) (p m : ℕ) (x : Outcome (Unit {0})) (
         let i : m + 1 + 4 ≡ m + 4 + 1 = omega arith in
         rw i (rw e at turn)
 
-pub ruleset references-turn = (references-over, references-loose, references-more)
+pub ruleset references-turn = (references-over, references-loose, references-more, fine-here, fine-more)

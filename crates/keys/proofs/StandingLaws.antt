@@ -3,14 +3,13 @@
 use mathlib.Core.Path.{_≡_, refl, sym, ap, _∙_}
 use mathlib.Core.List.{List, [], _∷_, _++_}
 use mathlib.Core.Bool.{Bool, true, false}
-use Prim.Native.Nat.{ℕ, _+_, _/_, _≤_, _<_}
+use Prim.Native.Nat.{ℕ, _+_, _≤_, _<_}
 use native.Mathlib.Omega.{arith}
-use borrow.Author.Tests.{eq-eqb, ne-eqb, lt-leb}
-use lib.ListN.{length, getD, take, drop}
+use borrow.Author.Tests.{ne-eqb, lt-leb}
+use lib.ListN.{length, take, drop, length-drop}
 use lib.Seq.{drop-cons}
-use lib.Dec.{eqb, leb}
 use Rattle.base.specs.Choice.{pick}
-use Rattle.base.specs.Check.{Check, ok, no, bind, fault, Passed, pass}
+use Rattle.base.specs.Check.{Check, ok, no, bind, fault}
 use Rattle.base.specs.Lists.{each}
 use Rattle.base.specs.Keys.{among}
 use Rattle.base.specs.Walk.{Got, before}
@@ -23,9 +22,8 @@ use Rattle.skeleton.specs.declared.leader.Head.{Head}
 use Rattle.skeleton.specs.declared.leader.Head.the-variants.{Good, Refused}
 use Rattle.skeleton.proofs.RecordLaws.{right, refusal-some}
 use Rattle.skeleton.proofs.FileLaws.{records-over, records-refused, records-more}
-use Rattle.rules.specs.Kind.{rank}
 use Rattle.rules.specs.Associations.{number7}
-use Rattle.rules.specs.Record.{Rec, keyNamed, recOf, datasetRecord, keyOf as keyInRules}
+use Rattle.rules.specs.Record.{Rec, keyNamed, recOf, keyOf as keyInRules}
 use Rattle.rules.specs.Outcome.{Outcome, done, refused, andThen, at}
 use Rattle.rules.specs.File.{lastRank, datasetTest, ending, taken}
 use Rattle.rules.proofs.FileLaws.{taken-over, taken-more}
@@ -33,15 +31,14 @@ use Rattle.rules.specs.declared.Kind.{Kind}
 use Rattle.keys.specs.Key.{keyAt}
 use Rattle.keys.specs.Listed.{keyOf, keysFrom, listed, seenFrom}
 use Rattle.keys.specs.Look.{Known}
-use Rattle.keys.specs.Map.{kindIn, ofKind, rcidIn, Marks}
-use Rattle.keys.specs.Once.{largerOf, noneAbove, Once, Comes}
-use Rattle.keys.specs.Numbered.{numberOf, Ranged, Numbered}
+use Rattle.keys.specs.Map.{kindIn}
+use Rattle.keys.specs.Once.{largerOf, noneAbove, Once, Comes, Told}
+use Rattle.keys.specs.Numbered.{Ranged, Numbered}
 use Rattle.keys.specs.Standing.{fourToSix, unread, outcomeFrom, Standing}
 use Rattle.keys.proofs.FirstLaws.{first-key}
 use Rattle.keys.proofs.ListLaws.{listed-none, split-room, split-take, split-drop}
-use Rattle.keys.proofs.LookLaws.{keys-good}
-use Rattle.keys.proofs.MapLaws.{zeros-all, mapped-none}
-use Rattle.keys.proofs.OnceLaws.{kind-back, larger-least}
+use Rattle.keys.proofs.LookLaws.{keys-past, keys-good}
+use Rattle.keys.proofs.OnceLaws.{marks-none, larger-least}
 use Rattle.keys.proofs.NumberLaws.{numbered-none, numbered-last}
 use Rattle.keys.proofs.IdentLaws.{Keyed}
 use Rattle.keys.proofs.PassedLaws.{Placed, placed, Read, read-of, seventh, record-parts, test-later}
@@ -53,12 +50,27 @@ unfolding lastRank
 standing-start f start x e = record { seen = []; rest = refl; numbered = numbered-none; last = refl; outcome = e }
 
 pub once-start : (f : List ℕ) (start n : ℕ) → Once f start 0 0 (zeros n)
-unfolding noneAbove Marks seenFrom
+unfolding noneAbove seenFrom
 once-start f start n = record {
   known = record { enough = omega arith; keyed = listed-none 0 };
   none-above = refl;
-  marks = mapped-none (ofKind 0) rcidIn (λ j. 0 + j) (kind-back 0) (zeros n) (zeros-all n);
+  marks = marks-none 0 (zeros n);
 }
+
+-- ---- what `repeats` says
+
+module _ (f : List ℕ) (start m top k : ℕ) (t t' : List ℕ) (b : Bool) (w : Told f start m top k t t' b) where
+  pub told-seen : b ≡ seenFrom f start m k
+  told-seen = w .told
+
+  pub told-long : (n : ℕ) → length t ≡ n → length t' ≡ n
+  told-long n e = w .long ∙ e
+
+  -- the map after a key that did not stand earlier, and top = larger(top, k)
+  pub told-once : b ≡ false → (up : ℕ) → up ≡ largerOf top k → Once f start (m + 1) up t'
+  told-once x up e = rw e (w .once x)
+
+pub ruleset told-ways = (told-seen, told-long, told-once)
 
 -- ---- the record at hand
 
@@ -70,6 +82,13 @@ module _ (f : List ℕ) (start at' m top : ℕ) (x : Outcome (Unit {0})) (s : St
       let e = taken-over datasetTest 1 3 (m + 4) 0 (s .seen) in
       let r : unread (ending {A = List Rec} 1 3 (m + 4) 0 []) ≡ x = rw (records-over f at' h, e) at (s .outcome) in
       simp (lt-leb (m + 4) 3 (omega arith)) at r
+
+  -- and all its records were passed
+  pub standing-count : (t : List ℕ) → Once f start m top t → length f ≤ at' → m ≡ length (keysFrom f start)
+  standing-count t o h =
+      let e : length (drop m (keysFrom f start)) ≡ 0 = rw (s .rest, keys-past f at' h) refl in
+      let g = o .known .enough in
+      omega (arith, length-drop m (keysFrom f start))
 
   module _ (l : at' < length f) (h : Head) (eh : h ≡ recordAt f at') where
     -- the skeleton refuses
@@ -178,7 +197,7 @@ module _ (f : List ℕ) (start at' m top : ℕ) (x : Outcome (Unit {0})) (s : St
 
             pub standing-more : Standing f start (at' + len) (m + 1) (largerOf top key) x
             standing-more =
-                let r = read-of k fields (passed .keyed) in
+                let r = read-of (kindIn top) k fields passed in
                 let one = split-take (keysFrom f start) m key (keysFrom f (at' + len)) next-is in
                 record {
                   seen = recOf k fields ∷ s .seen;
@@ -188,5 +207,14 @@ module _ (f : List ℕ) (start at' m top : ℕ) (x : Outcome (Unit {0})) (s : St
                   outcome = outcome-on;
                 }
 
+-- ---- the next record: its loop's top is what `larger` returned
+
+module _ (f : List ℕ) (start m top k up : ℕ) (e : up ≡ largerOf top k) where
+  pub standing-up : (at' : ℕ) (x : Outcome (Unit {0})) → Standing f start at' m (largerOf top k) x → Standing f start at' m up x
+  standing-up at' x s = rw e s
+
+  pub once-up : (t : List ℕ) → Once f start m (largerOf top k) t → Once f start m up t
+  once-up t o = rw e o
+
 pub ruleset standing-turn =
-    (standing-over, standing-refused, standing-before, standing-comes, standing-kind, standing-seven, standing-within, standing-more)
+    (standing-over, standing-count, standing-refused, standing-before, standing-comes, standing-kind, standing-seven, standing-within, standing-more, standing-up, once-up)

@@ -1,12 +1,12 @@
 -- Laws of the table of places. Assumes nothing.
 use mathlib.Core.Path.{_≡_, refl, sym, ap, _∙_}
-use mathlib.Core.List.{List, [], _∷_, _++_}
+use mathlib.Core.List.{List, _∷_}
 use mathlib.Core.Bool.{Bool, true, false}
-use Prim.Native.Nat.{ℕ, zero, suc, _+_, _-_, _/_, _^_, _≤_, _<_}
+use Prim.Native.Nat.{ℕ, _+_, _^_, _≤_, _<_}
 use native.Mathlib.Omega.{arith}
 use borrow.Author.Tests.{eqb-true, eqb-false}
 use lib.ListN.{length, getD, take, drop, set, length-set, length-drop, replicate, length-replicate, getD-replicate}
-use lib.Seq.{drop-drop, take-all, getD-set-same, getD-set-other}
+use lib.Seq.{take-all, getD-set-same, getD-set-other}
 use lib.Dec.{eqb}
 use Rattle.memory.specs.Hold.{zeros}
 use Rattle.memory.proofs.HoldLaws.{length-zeros}
@@ -17,9 +17,9 @@ use Rattle.keys.specs.Table.{Tail, Tails, Laid}
 use Rattle.keys.specs.declared.look.Look.{Look}
 use Rattle.keys.specs.declared.look.Look.the-variants.{At, Nothing}
 use Rattle.keys.proofs.BitLaws.{set-past}
-use Rattle.keys.proofs.ListLaws.{split-room, split-take, split-drop}
+use Rattle.keys.proofs.ListLaws.{split-take, split-drop}
 use Rattle.keys.proofs.LookLaws.{Found, keys-past}
-use Rattle.keys.proofs.SoundLaws.{Next, sound-next, sound-nothing, sound-bounds, sound-more, sound-word, sound-falls, sound-in, sound-small}
+use Rattle.keys.proofs.SoundLaws.{Next, sound-next, sound-nothing, sound-bounds}
 use Rattle.keys.proofs.SlotLaws.{slots-none, slots-more, noted-long}
 
 -- ---- places of records

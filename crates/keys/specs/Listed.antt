@@ -1,7 +1,7 @@
 -- The keys of the records of a file, and whether a key is among them.
 use Prim.Native.Nat.{ℕ}
 use mathlib.Core.List.{List, [], _∷_}
-use mathlib.Core.Bool.{Bool, true, false}
+use mathlib.Core.Bool.{Bool, false}
 use lib.ListN.{take}
 use lib.Dec.{eqb}
 use Rattle.base.specs.Choice.{either}

@@ -1,11 +1,9 @@
 -- A map of keys in flags.
-use Prim.Native.Nat.{ℕ, _+_, _*_, _/_, _%_, _<_}
+use Prim.Native.Nat.{ℕ, _/_, _%_, _<_}
 use mathlib.Core.Path.{_≡_}
 use mathlib.Core.List.{List}
 use mathlib.Core.Bool.{Bool, true}
 use lib.ListN.{length}
-use lib.Dec.{eqb, ltb}
-use Rattle.base.specs.Choice.{pick}
 use Rattle.keys.specs.Listed.{listed}
 use Rattle.keys.specs.Bits.{flagOf}
 
@@ -13,7 +11,7 @@ use Rattle.keys.specs.Bits.{flagOf}
 unfoldable pub Mapped : (ℕ → Bool) → (ℕ → ℕ) → List ℕ → List ℕ → Type 0
 Mapped has place l t = (k : ℕ) → has k ≡ true → place k / 8 < length t → flagOf t (place k) ≡ listed k l
 
--- ---- the keys of one kind, each at its RCID
+-- ---- the parts of a key
 
 -- the rank of a key's kind
 abbrev pub kindIn : ℕ → ℕ
@@ -23,10 +21,12 @@ kindIn k = k / 4294967296
 abbrev pub rcidIn : ℕ → ℕ
 rcidIn k = k % 4294967296
 
--- it is of that kind
-unfoldable pub ofKind : ℕ → ℕ → Bool
-ofKind kind k = eqb (kindIn k) kind
+-- ---- a map whose flags are shared
 
--- flag j of the map says whether the key of that kind with RCID j is among the keys
+-- the flag of a key: RCIDs that are 262,144 apart share one
+abbrev pub sharedFlag : ℕ → ℕ
+sharedFlag k = k % 262144
+
+-- the flag of each of the keys that is of the kind is raised: where a key's flag is not, it is none of them
 unfoldable pub Marks : List ℕ → ℕ → List ℕ → Type 0
-Marks l kind t = Mapped (ofKind kind) rcidIn l t
+Marks l kind t = (k : ℕ) → kindIn k ≡ kind → listed k l ≡ true → sharedFlag k / 8 < length t → flagOf t (sharedFlag k) ≡ true

@@ -1,4 +1,4 @@
--- What is known of the keys so far, so that a key that stood earlier is found quickly: the largest of them, and a map of the RCIDs of its kind.
+-- What is known of the keys so far, so that a key that is new is told quickly: the largest of them, and a map of the keys of its kind.
 use Prim.Native.Nat.{ℕ, _+_, _<_}
 use mathlib.Core.Path.{_≡_}
 use mathlib.Core.List.{List, [], _∷_}
@@ -25,7 +25,7 @@ pub record Renewed (kind kind' : ℕ) (t t' : List ℕ) : Type 0 where
   pub same : kind ≡ kind' → t' ≡ t
   pub empty : (kind ≡ kind' → ⊥) → (i : ℕ) → getD t' i 0 ≡ 0
 
--- of the first m records from start on: each has a key, none of the keys is above top, and t is the map of the RCIDs of top's kind
+-- of the first m records from start on: each has a key, none of the keys is above top, and t is a map of those of top's kind
 pub record Once (f : List ℕ) (start m top : ℕ) (t : List ℕ) : Type 0 where
   pub known : Known f start m
   pub none-above : noneAbove top (take m (keysFrom f start)) ≡ true

@@ -1,12 +1,14 @@
 -- A dataset from the record at hand on: what a loop over its records after the third stands on.
 use Prim.Native.Nat.{ℕ, _+_}
 use mathlib.Core.Path.{_≡_}
-use mathlib.Core.List.{List}
+use mathlib.Core.List.{List, [], _∷_}
 use lib.ListN.{take, drop}
-use Rattle.base.specs.Check.{Check, ok, bind}
+use Rattle.base.specs.Check.{Check, ok, bind, pass}
 use Rattle.base.specs.Lists.{each}
 use Rattle.base.specs.Walk.{Got}
 use Rattle.skeleton.specs.File.{Field, recordsFrom}
+use Rattle.rules.specs.ByTag.{firstTag}
+use Rattle.rules.specs.Kind.{tagOf}
 use Rattle.rules.specs.Grammar.{number4}
 use Rattle.rules.specs.Content.{number5}
 use Rattle.rules.specs.Trees.{number6}
@@ -48,3 +50,18 @@ unfoldable pub referencesFrom : List Rec → List ℕ → ℕ → ℕ → Outcom
 referencesFrom recs f at m =
     let keys = each keyInRules recs in
     everyRecord (λ fs. number11 keys (marks 1 fs)) 1 (m + 4) ((recordsFrom f at) .items)
+
+-- a record that has passed number 5 as one of the kind of its first tag
+pub record Fine (fs : List Field) : Type 0 where
+  pub kind : Kind
+  pub five : number5 InDataset kind fs ≡ pass
+  pub tag : firstTag fs ≡ tagOf kind
+
+-- each of these records is such
+abbrev pub AllFine : List (List Field) → Type 0
+AllFine [] = Unit {0}
+AllFine (fs ∷ rest) = Fine fs × AllFine rest
+
+-- each of the records from byte at on is such
+unfoldable pub FineFrom : List ℕ → ℕ → Type 0
+FineFrom f at = AllFine ((recordsFrom f at) .items)

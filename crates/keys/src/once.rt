@@ -1,4 +1,5 @@
-// Whether a record's key stood earlier in a dataset: a larger one never did, and the RCIDs of the present kind stand in a map.
+// Whether a record's key stood earlier in a dataset: a larger one never did, nor one whose flag in a map of the present kind's keys is not raised.
+// The others are looked for: a key that stands twice, or an RCID that shares its flag with an earlier one.
 use crate::bits::flag;
 use crate::bits::raise;
 use crate::look::seen;
@@ -29,11 +30,14 @@ fn stood(f: &[u8], start: usize, m: usize, top: u64, k: u64, t: &[u8]) -> bool
     if top < k {
         return false;
     }
-    let j = (k % 4294967296) as usize;
-    if t.len() <= j / 8 {
-        return seen(f, start, m, k);
+    let j = (k % 262144) as usize;
+    if j / 8 < t.len() {
+        if flag(t, j) {
+            return seen(f, start, m, k);
+        }
+        return false;
     }
-    flag(t, j)
+    seen(f, start, m, k)
 }
 
 // Empties the map where the kind is another.
@@ -56,6 +60,6 @@ pub fn repeats(f: &[u8], start: usize, m: usize, top: u64, k: u64, t: &mut [u8])
         return true;
     }
     renew(t, top / 4294967296, k / 4294967296);
-    raise(t, (k % 4294967296) as usize);
+    raise(t, (k % 262144) as usize);
     false
 }

@@ -5,8 +5,7 @@ use crate::look::look_at;
 use crate::slots::slot;
 ghost use mathlib.Core.Path.{_≡_};
 ghost use mathlib.Core.Bool.{true};
-ghost use Prim.Native.Nat.{_≤_, _<_};
-ghost use lib.ListN.{length};
+ghost use Prim.Native.Nat.{_<_};
 ghost use Rattle.keys.specs.Listed.{hasFrom};
 ghost use Rattle.keys.specs.Look.{Sound};
 ghost use Rattle.keys.specs.Table.{Tail, Laid};
@@ -33,6 +32,7 @@ fn has_plain(f: &[u8], start: usize, key: u64) -> bool
     false
 }
 
+// An entry of the table as a place.
 fn wide(x: u32) -> usize
     ensures { λ r. ⌜ r ≡ x ⌝ }
 {

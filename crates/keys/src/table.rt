@@ -5,7 +5,7 @@ use crate::slots::note;
 use memory::clearing::zero;
 ghost use mathlib.Core.Path.{_≡_};
 ghost use Prim.Native.Nat.{_≤_, _<_};
-ghost use lib.ListN.{length, set};
+ghost use lib.ListN.{set};
 ghost use Rattle.keys.specs.Look.{Sound};
 ghost use Rattle.keys.specs.Table.{Tails, Laid};
 

@@ -7,10 +7,6 @@ use borrow.Author.Needs.{needs}
 use native.Mathlib.Omega.{arith}
 use Rattle.contents.proofs.content.all_stand.Statement.{statement}
 use Rattle.contents.proofs.content.all_stand.Tie as tie
-use Rattle.contents.proofs.content.all_stand.Reads as reads
-use Rattle.contents.proofs.content.all_stand.Lts as lts
-use Rattle.contents.proofs.content.field_stands.Reads as field-stands-reads
-use Rattle.skeleton.proofs.place.place_at.Reads as place-at-reads
 
 abbrev Inv-loop : tie.InvT-loop
 Inv-loop r h p new q₀ i₀ q i = (i ≤ q) × (standFrom r h new q i ≡ standFrom r h new p 2)

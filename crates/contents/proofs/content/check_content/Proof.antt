@@ -1,15 +1,8 @@
 use Rattle.contents.proofs.StepLaws.{step-bounds, step-second}
 use Rattle.contents.proofs.ContentLaws.{five-ways}
-use native.Mathlib.Omega.{arith}
 use borrow.Author.Needs.{needs}
 use Rattle.contents.proofs.content.check_content.Statement.{statement}
 use Rattle.contents.proofs.content.check_content.Tie as tie
-use Rattle.contents.proofs.content.check_content.Reads as reads
-use Rattle.contents.proofs.content.check_content.Lts as lts
-use Rattle.contents.proofs.content.ident_stands.Reads as ident-stands-reads
-use Rattle.contents.proofs.content.rest_right.Reads as rest-right-reads
-use Rattle.contents.proofs.identifier.is_stored.Reads as is-stored-reads
-use Rattle.skeleton.proofs.place.place_at.Reads as place-at-reads
 
 place-at-requires : tie.Need-place-at-requires
 place-at-requires c κs = search needs

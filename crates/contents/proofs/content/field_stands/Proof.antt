@@ -1,12 +1,7 @@
 use Rattle.contents.proofs.ContentLaws.{stands-by}
-use native.Mathlib.Omega.{arith}
 use borrow.Author.Needs.{needs}
 use Rattle.contents.proofs.content.field_stands.Statement.{statement}
 use Rattle.contents.proofs.content.field_stands.Tie as tie
-use Rattle.contents.proofs.content.field_stands.Reads as reads
-use Rattle.contents.proofs.content.field_stands.Lts as lts
-use Rattle.contents.proofs.formats.format_of.Reads as format-of-reads
-use Rattle.contents.proofs.formats.has_format.Reads as has-format-reads
 
 sub-b : tie.Need-sub-b
 sub-b c = search needs

@@ -1,13 +1,7 @@
 use Rattle.contents.proofs.ContentLaws.{ident-by}
-use native.Mathlib.Omega.{arith}
 use borrow.Author.Needs.{needs}
 use Rattle.contents.proofs.content.ident_stands.Statement.{statement}
 use Rattle.contents.proofs.content.ident_stands.Tie as tie
-use Rattle.contents.proofs.content.ident_stands.Reads as reads
-use Rattle.contents.proofs.content.ident_stands.Lts as lts
-use Rattle.contents.proofs.formats.has_format.Reads as has-format-reads
-use Rattle.contents.proofs.formats.ident_format.Reads as ident-format-reads
-use Rattle.contents.proofs.formats.insert_only.Reads as insert-only-reads
 
 insert-only-requires : tie.Need-insert-only-requires
 insert-only-requires c κs = search needs

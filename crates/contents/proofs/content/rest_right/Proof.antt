@@ -1,12 +1,7 @@
 use Rattle.contents.proofs.ContentLaws.{rest-ways}
-use native.Mathlib.Omega.{arith}
 use borrow.Author.Needs.{needs}
 use Rattle.contents.proofs.content.rest_right.Statement.{statement}
 use Rattle.contents.proofs.content.rest_right.Tie as tie
-use Rattle.contents.proofs.content.rest_right.Reads as reads
-use Rattle.contents.proofs.content.rest_right.Lts as lts
-use Rattle.contents.proofs.content.all_stand.Reads as all-stand-reads
-use Rattle.contents.proofs.counts.check_counts.Reads as check-counts-reads
 
 all-stand-requires : tie.Need-all-stand-requires
 all-stand-requires c κs = search needs

@@ -10,10 +10,6 @@ use borrow.Author.Needs.{needs}
 use native.Mathlib.Omega.{arith}
 use Rattle.contents.proofs.counts.check_counts.Statement.{statement}
 use Rattle.contents.proofs.counts.check_counts.Tie as tie
-use Rattle.contents.proofs.counts.check_counts.Reads as reads
-use Rattle.contents.proofs.counts.check_counts.Lts as lts
-use Rattle.contents.proofs.counts.is_miscount.Reads as is-miscount-reads
-use Rattle.skeleton.proofs.place.place_at.Reads as place-at-reads
 
 abbrev Inv-loop : tie.InvT-loop
 Inv-loop r h p q₀ i₀ q i = (i ≤ q) × (allFit false (fieldsAt r h q) ≡ true) × (countedFrom r h p q i ≡ countedFrom r h p p 2)

@@ -1,13 +1,7 @@
 use Rattle.contents.proofs.CountLaws.{miscount-ways}
-use native.Mathlib.Omega.{arith}
 use borrow.Author.Needs.{needs}
 use Rattle.contents.proofs.counts.is_miscount.Statement.{statement}
 use Rattle.contents.proofs.counts.is_miscount.Tie as tie
-use Rattle.contents.proofs.counts.is_miscount.Reads as reads
-use Rattle.contents.proofs.counts.is_miscount.Lts as lts
-use Rattle.contents.proofs.counts.sends.Reads as sends-reads
-use Rattle.fields.proofs.le16.Reads as le16-reads
-use Rattle.fields.proofs.le8.Reads as le8-reads
 
 returns : tie.Need-returns
 returns c = search miscount-ways

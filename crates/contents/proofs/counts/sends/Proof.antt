@@ -1,16 +1,11 @@
 use Rattle.contents.specs.Answers.{sendFrom}
 use mathlib.Core.Path.{_≡_, refl}
-use Prim.Native.Nat.{_-_, _≤_}
+use Prim.Native.Nat.{_-_}
 use lib.ListN.{length}
 use Rattle.contents.proofs.CountLaws.{send-turn}
 use borrow.Author.Needs.{needs}
-use native.Mathlib.Omega.{arith}
 use Rattle.contents.proofs.counts.sends.Statement.{statement}
 use Rattle.contents.proofs.counts.sends.Tie as tie
-use Rattle.contents.proofs.counts.sends.Reads as reads
-use Rattle.contents.proofs.counts.sends.Lts as lts
-use Rattle.contents.proofs.counts.sent_in.Reads as sent-in-reads
-use Rattle.skeleton.proofs.place.place_at.Reads as place-at-reads
 
 abbrev Inv-loop : tie.InvT-loop
 Inv-loop r h p n q₀ left₀ q left = sendFrom r h q left ≡ sendFrom r h p n

@@ -1,10 +1,6 @@
 use Rattle.contents.proofs.CountLaws.{sent-in-ways}
-use borrow.Author.Needs.{needs}
-use native.Mathlib.Omega.{arith}
 use Rattle.contents.proofs.counts.sent_in.Statement.{statement}
 use Rattle.contents.proofs.counts.sent_in.Tie as tie
-use Rattle.contents.proofs.counts.sent_in.Reads as reads
-use Rattle.contents.proofs.counts.sent_in.Lts as lts
 
 returns : tie.Need-returns
 returns c = search sent-in-ways

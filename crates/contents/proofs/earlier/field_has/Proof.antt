@@ -1,12 +1,7 @@
 use Rattle.contents.proofs.EarlierLaws.{field-has-ways}
-use native.Mathlib.Omega.{arith}
 use borrow.Author.Needs.{needs}
 use Rattle.contents.proofs.earlier.field_has.Statement.{statement}
 use Rattle.contents.proofs.earlier.field_has.Tie as tie
-use Rattle.contents.proofs.earlier.field_has.Reads as reads
-use Rattle.contents.proofs.earlier.field_has.Lts as lts
-use Rattle.contents.proofs.earlier.inas_is.Reads as inas-is-reads
-use Rattle.contents.proofs.spatial.tuples_have.Reads as tuples-have-reads
 
 enum-known-key : tie.Need-enum-known-key
 enum-known-key c = search needs

@@ -5,13 +5,8 @@ use mathlib.Core.Bool.{true, false}
 use mathlib.Core.Path.{_≡_, refl}
 use Rattle.contents.proofs.EarlierLaws.{seen-turn}
 use borrow.Author.Needs.{needs}
-use native.Mathlib.Omega.{arith}
 use Rattle.contents.proofs.earlier.fields_have.Statement.{statement}
 use Rattle.contents.proofs.earlier.fields_have.Tie as tie
-use Rattle.contents.proofs.earlier.fields_have.Reads as reads
-use Rattle.contents.proofs.earlier.fields_have.Lts as lts
-use Rattle.contents.proofs.earlier.field_has.Reads as field-has-reads
-use Rattle.skeleton.proofs.place.place_at.Reads as place-at-reads
 
 abbrev Inv-loop : tie.InvT-loop
 Inv-loop r h p n key q₀ left₀ q left = (allFit false (fieldsAt r h q) ≡ true) × (seenFrom r h q left (listOf key) ≡ seenFrom r h p n (listOf key))

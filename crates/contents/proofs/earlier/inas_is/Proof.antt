@@ -1,13 +1,6 @@
 use Rattle.contents.proofs.EarlierLaws.{inas-is-ways}
-use borrow.Author.Needs.{needs}
-use native.Mathlib.Omega.{arith}
 use Rattle.contents.proofs.earlier.inas_is.Statement.{statement}
 use Rattle.contents.proofs.earlier.inas_is.Tie as tie
-use Rattle.contents.proofs.earlier.inas_is.Reads as reads
-use Rattle.contents.proofs.earlier.inas_is.Lts as lts
-use Rattle.fields.proofs.le16.Reads as le16-reads
-use Rattle.fields.proofs.le32.Reads as le32-reads
-use Rattle.fields.proofs.le8.Reads as le8-reads
 
 le8-requires : tie.Need-le8-requires
 le8-requires c κs = search inas-is-ways

@@ -1,13 +1,6 @@
 use Rattle.contents.proofs.EarlierLaws.{inas-key-ways}
-use native.Mathlib.Omega.{arith}
-use borrow.Author.Needs.{needs}
 use Rattle.contents.proofs.earlier.inas_key.Statement.{statement}
 use Rattle.contents.proofs.earlier.inas_key.Tie as tie
-use Rattle.contents.proofs.earlier.inas_key.Reads as reads
-use Rattle.contents.proofs.earlier.inas_key.Lts as lts
-use Rattle.fields.proofs.le16.Reads as le16-reads
-use Rattle.fields.proofs.le32.Reads as le32-reads
-use Rattle.fields.proofs.le8.Reads as le8-reads
 
 le8-requires : tie.Need-le8-requires
 le8-requires c κs = search inas-key-ways

@@ -1,13 +1,7 @@
 use Rattle.contents.proofs.FormatLaws.{format-ways}
-use native.Mathlib.Omega.{arith}
 use borrow.Author.Needs.{needs}
 use Rattle.contents.proofs.formats.format_of.Statement.{statement}
 use Rattle.contents.proofs.formats.format_of.Tie as tie
-use Rattle.contents.proofs.formats.format_of.Reads as reads
-use Rattle.contents.proofs.formats.format_of.Lts as lts
-use Rattle.contents.proofs.formats.attr_format.Reads as attr-format-reads
-use Rattle.contents.proofs.formats.inas_format.Reads as inas-format-reads
-use Rattle.contents.proofs.formats.spas_format.Reads as spas-format-reads
 
 attr-format-requires : tie.Need-attr-format-requires
 attr-format-requires c κs = search needs

@@ -1,12 +1,7 @@
 use Rattle.contents.proofs.FormatLaws.{has-format-ways}
-use native.Mathlib.Omega.{arith}
 use borrow.Author.Needs.{needs}
 use Rattle.contents.proofs.formats.has_format.Statement.{statement}
 use Rattle.contents.proofs.formats.has_format.Tie as tie
-use Rattle.contents.proofs.formats.has_format.Reads as reads
-use Rattle.contents.proofs.formats.has_format.Lts as lts
-use Rattle.contents.proofs.formats.has_tuples.Reads as has-tuples-reads
-use Rattle.fields.proofs.tally_of.Reads as tally-of-reads
 
 tally-of-requires : tie.Need-tally-of-requires
 tally-of-requires c κs = search needs

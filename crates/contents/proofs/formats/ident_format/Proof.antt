@@ -1,10 +1,7 @@
 use Rattle.contents.proofs.FormatLaws.{ident-format-ways}
-use native.Mathlib.Omega.{arith}
 use borrow.Author.Needs.{needs}
 use Rattle.contents.proofs.formats.ident_format.Statement.{statement}
 use Rattle.contents.proofs.formats.ident_format.Tie as tie
-use Rattle.contents.proofs.formats.ident_format.Reads as reads
-use Rattle.contents.proofs.formats.ident_format.Lts as lts
 
 enum-told : tie.Need-enum-told
 enum-told c = search needs

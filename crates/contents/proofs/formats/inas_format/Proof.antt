@@ -1,10 +1,7 @@
 use Rattle.contents.proofs.FormatLaws.{inas-format-ways}
-use native.Mathlib.Omega.{arith}
 use borrow.Author.Needs.{needs}
 use Rattle.contents.proofs.formats.inas_format.Statement.{statement}
 use Rattle.contents.proofs.formats.inas_format.Tie as tie
-use Rattle.contents.proofs.formats.inas_format.Reads as reads
-use Rattle.contents.proofs.formats.inas_format.Lts as lts
 
 returns : tie.Need-returns
 returns c = search inas-format-ways

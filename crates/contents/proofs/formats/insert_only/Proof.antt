@@ -1,10 +1,7 @@
 use Rattle.contents.proofs.FormatLaws.{insert-only-ways}
-use native.Mathlib.Omega.{arith}
 use borrow.Author.Needs.{needs}
 use Rattle.contents.proofs.formats.insert_only.Statement.{statement}
 use Rattle.contents.proofs.formats.insert_only.Tie as tie
-use Rattle.contents.proofs.formats.insert_only.Reads as reads
-use Rattle.contents.proofs.formats.insert_only.Lts as lts
 
 enum-told : tie.Need-enum-told
 enum-told c = search needs

@@ -1,12 +1,7 @@
 use Rattle.contents.proofs.ReaderLaws.{reader-ways}
-use native.Mathlib.Omega.{arith}
 use borrow.Author.Needs.{needs}
 use Rattle.contents.proofs.identifier.code.Statement.{statement}
 use Rattle.contents.proofs.identifier.code.Tie as tie
-use Rattle.contents.proofs.identifier.code.Reads as reads
-use Rattle.contents.proofs.identifier.code.Lts as lts
-use Rattle.contents.proofs.identifier.is_coded.Reads as is-coded-reads
-use Rattle.fields.proofs.le16.Reads as le16-reads
 
 is-coded-requires : tie.Need-is-coded-requires
 is-coded-requires c κs = search needs

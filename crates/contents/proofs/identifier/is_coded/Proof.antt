@@ -1,10 +1,7 @@
 use Rattle.contents.proofs.IdentifierLaws.{coded-ways}
-use native.Mathlib.Omega.{arith}
 use borrow.Author.Needs.{needs}
 use Rattle.contents.proofs.identifier.is_coded.Statement.{statement}
 use Rattle.contents.proofs.identifier.is_coded.Tie as tie
-use Rattle.contents.proofs.identifier.is_coded.Reads as reads
-use Rattle.contents.proofs.identifier.is_coded.Lts as lts
 
 enum-told : tie.Need-enum-told
 enum-told c = search needs

@@ -1,11 +1,7 @@
 use Rattle.contents.proofs.IdentifierLaws.{is-stored-ways}
-use native.Mathlib.Omega.{arith}
 use borrow.Author.Needs.{needs}
 use Rattle.contents.proofs.identifier.is_stored.Statement.{statement}
 use Rattle.contents.proofs.identifier.is_stored.Tie as tie
-use Rattle.contents.proofs.identifier.is_stored.Reads as reads
-use Rattle.contents.proofs.identifier.is_stored.Lts as lts
-use Rattle.contents.proofs.identifier.ruin_byte.Reads as ruin-byte-reads
 
 enum-told : tie.Need-enum-told
 enum-told c = search needs

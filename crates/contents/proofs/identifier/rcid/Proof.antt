@@ -1,11 +1,7 @@
 use Rattle.contents.proofs.ReaderLaws.{reader-ways}
-use native.Mathlib.Omega.{arith}
 use borrow.Author.Needs.{needs}
 use Rattle.contents.proofs.identifier.rcid.Statement.{statement}
 use Rattle.contents.proofs.identifier.rcid.Tie as tie
-use Rattle.contents.proofs.identifier.rcid.Reads as reads
-use Rattle.contents.proofs.identifier.rcid.Lts as lts
-use Rattle.fields.proofs.le32.Reads as le32-reads
 
 sub-le32 : tie.Need-sub-le32
 sub-le32 c = search needs

@@ -1,12 +1,7 @@
 use Rattle.contents.proofs.ReaderLaws.{reader-ways}
-use native.Mathlib.Omega.{arith}
 use borrow.Author.Needs.{needs}
 use Rattle.contents.proofs.identifier.ruin.Statement.{statement}
 use Rattle.contents.proofs.identifier.ruin.Tie as tie
-use Rattle.contents.proofs.identifier.ruin.Reads as reads
-use Rattle.contents.proofs.identifier.ruin.Lts as lts
-use Rattle.contents.proofs.identifier.ruin_place.Reads as ruin-place-reads
-use Rattle.fields.proofs.le8.Reads as le8-reads
 
 sub-le8 : tie.Need-sub-le8
 sub-le8 c = search needs

@@ -1,11 +1,7 @@
 use Rattle.contents.proofs.IdentifierLaws.{ruin-byte-ways}
-use native.Mathlib.Omega.{arith}
 use borrow.Author.Needs.{needs}
 use Rattle.contents.proofs.identifier.ruin_byte.Statement.{statement}
 use Rattle.contents.proofs.identifier.ruin_byte.Tie as tie
-use Rattle.contents.proofs.identifier.ruin_byte.Reads as reads
-use Rattle.contents.proofs.identifier.ruin_byte.Lts as lts
-use Rattle.contents.proofs.identifier.ruin_place.Reads as ruin-place-reads
 
 ruin-place-requires : tie.Need-ruin-place-requires
 ruin-place-requires c κs = search needs

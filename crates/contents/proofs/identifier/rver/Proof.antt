@@ -1,12 +1,7 @@
 use Rattle.contents.proofs.ReaderLaws.{reader-ways}
-use native.Mathlib.Omega.{arith}
 use borrow.Author.Needs.{needs}
 use Rattle.contents.proofs.identifier.rver.Statement.{statement}
 use Rattle.contents.proofs.identifier.rver.Tie as tie
-use Rattle.contents.proofs.identifier.rver.Reads as reads
-use Rattle.contents.proofs.identifier.rver.Lts as lts
-use Rattle.contents.proofs.identifier.rver_place.Reads as rver-place-reads
-use Rattle.fields.proofs.le16.Reads as le16-reads
 
 sub-le16 : tie.Need-sub-le16
 sub-le16 c = search needs

@@ -1,11 +1,7 @@
 use Rattle.contents.proofs.IdentifierLaws.{place-ways}
-use native.Mathlib.Omega.{arith}
 use borrow.Author.Needs.{needs}
 use Rattle.contents.proofs.identifier.rver_place.Statement.{statement}
 use Rattle.contents.proofs.identifier.rver_place.Tie as tie
-use Rattle.contents.proofs.identifier.rver_place.Reads as reads
-use Rattle.contents.proofs.identifier.rver_place.Lts as lts
-use Rattle.contents.proofs.identifier.is_coded.Reads as is-coded-reads
 
 is-coded-requires : tie.Need-is-coded-requires
 is-coded-requires c κs = search needs

@@ -1,13 +1,8 @@
 use Rattle.contents.proofs.StepLaws.{step-second}
-use Rattle.contents.proofs.OnceLaws.{seven-ways}
-use native.Mathlib.Omega.{arith}
+use Rattle.contents.proofs.SevenLaws.{seven-ways}
 use borrow.Author.Needs.{needs}
 use Rattle.contents.proofs.keys.check_keys.Statement.{statement}
 use Rattle.contents.proofs.keys.check_keys.Tie as tie
-use Rattle.contents.proofs.keys.check_keys.Reads as reads
-use Rattle.contents.proofs.keys.check_keys.Lts as lts
-use Rattle.contents.proofs.keys.keys_once.Reads as keys-once-reads
-use Rattle.skeleton.proofs.place.place_at.Reads as place-at-reads
 
 place-at-requires : tie.Need-place-at-requires
 place-at-requires c κs = search needs

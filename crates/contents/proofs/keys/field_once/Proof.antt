@@ -1,12 +1,7 @@
 use Rattle.contents.proofs.OnceLaws.{field-once-ways}
 use borrow.Author.Needs.{needs}
-use native.Mathlib.Omega.{arith}
 use Rattle.contents.proofs.keys.field_once.Statement.{statement}
 use Rattle.contents.proofs.keys.field_once.Tie as tie
-use Rattle.contents.proofs.keys.field_once.Reads as reads
-use Rattle.contents.proofs.keys.field_once.Lts as lts
-use Rattle.contents.proofs.keys.inas_once.Reads as inas-once-reads
-use Rattle.contents.proofs.keys.spas_once.Reads as spas-once-reads
 
 inas-once-requires : tie.Need-inas-once-requires
 inas-once-requires c κs = (search needs, search needs, search field-once-ways)

@@ -1,12 +1,7 @@
-use Rattle.contents.proofs.OnceLaws.{inas-once-ways}
-use native.Mathlib.Omega.{arith}
+use Rattle.contents.proofs.NewLaws.{inas-once-ways}
 use borrow.Author.Needs.{needs}
 use Rattle.contents.proofs.keys.inas_once.Statement.{statement}
 use Rattle.contents.proofs.keys.inas_once.Tie as tie
-use Rattle.contents.proofs.keys.inas_once.Reads as reads
-use Rattle.contents.proofs.keys.inas_once.Lts as lts
-use Rattle.contents.proofs.earlier.fields_have.Reads as fields-have-reads
-use Rattle.contents.proofs.earlier.inas_key.Reads as inas-key-reads
 
 inas-key-requires : tie.Need-inas-key-requires
 inas-key-requires c κs = search needs

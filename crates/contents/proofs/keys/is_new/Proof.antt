@@ -1,13 +1,7 @@
-use Rattle.contents.proofs.OnceLaws.{new-ways}
-use native.Mathlib.Omega.{arith}
+use Rattle.contents.proofs.NewLaws.{new-ways}
 use borrow.Author.Needs.{needs}
 use Rattle.contents.proofs.keys.is_new.Statement.{statement}
 use Rattle.contents.proofs.keys.is_new.Tie as tie
-use Rattle.contents.proofs.keys.is_new.Reads as reads
-use Rattle.contents.proofs.keys.is_new.Lts as lts
-use Rattle.contents.proofs.earlier.fields_have.Reads as fields-have-reads
-use Rattle.contents.proofs.spatial.key_number.Reads as key-number-reads
-use Rattle.contents.proofs.spatial.tuples_have.Reads as tuples-have-reads
 
 key-number-requires : tie.Need-key-number-requires
 key-number-requires c κs = search needs

@@ -10,10 +10,6 @@ use borrow.Author.Needs.{needs}
 use native.Mathlib.Omega.{arith}
 use Rattle.contents.proofs.keys.keys_once.Statement.{statement}
 use Rattle.contents.proofs.keys.keys_once.Tie as tie
-use Rattle.contents.proofs.keys.keys_once.Reads as reads
-use Rattle.contents.proofs.keys.keys_once.Lts as lts
-use Rattle.contents.proofs.keys.field_once.Reads as field-once-reads
-use Rattle.skeleton.proofs.place.place_at.Reads as place-at-reads
 
 abbrev Inv-loop : tie.InvT-loop
 Inv-loop r h p q₀ n₀ top₀ q n top = (n + 2 ≤ q) × (drop n (fieldsAt r h p) ≡ fieldsAt r h q) × (allFit false (fieldsAt r h q) ≡ true) × (top ≡ topWith 0 (keysIn (take n (fieldsAt r h p)))) × (onceFrom r h p n ≡ onceFrom r h p 0)

@@ -2,17 +2,11 @@ use Rattle.contents.specs.Keys.{topWith, seenBefore, spasFrom}
 use lib.ListN.{length}
 use Prim.Native.Nat.{_-_, _*_, _≤_}
 use mathlib.Core.Path.{_≡_, refl}
-use Rattle.contents.proofs.OnceLaws.{spas-turn}
+use Rattle.contents.proofs.SpasLaws.{spas-turn}
 use borrow.Author.Needs.{needs}
 use native.Mathlib.Omega.{arith}
 use Rattle.contents.proofs.keys.spas_once.Statement.{statement}
 use Rattle.contents.proofs.keys.spas_once.Tie as tie
-use Rattle.contents.proofs.keys.spas_once.Reads as reads
-use Rattle.contents.proofs.keys.spas_once.Lts as lts
-use Rattle.contents.proofs.keys.is_new.Reads as is-new-reads
-use Rattle.contents.proofs.spatial.top_with.Reads as top-with-reads
-use Rattle.fields.proofs.le32.Reads as le32-reads
-use Rattle.fields.proofs.le8.Reads as le8-reads
 
 abbrev Inv-loop : tie.InvT-loop
 Inv-loop r h p n b largest j₀ at₀ top₀ j at top = (at ≡ 15 * j) × (at ≤ length b) × (top ≡ topWith 0 (seenBefore r h p n b j)) × (spasFrom r h p n b j top ≡ spasFrom r h p n b 0 largest)

@@ -1,11 +1,7 @@
 use Rattle.contents.proofs.SpatialLaws.{top-ways}
-use native.Mathlib.Omega.{arith}
 use borrow.Author.Needs.{needs}
 use Rattle.contents.proofs.spatial.top_with.Statement.{statement}
 use Rattle.contents.proofs.spatial.top_with.Tie as tie
-use Rattle.contents.proofs.spatial.top_with.Reads as reads
-use Rattle.contents.proofs.spatial.top_with.Lts as lts
-use Rattle.contents.proofs.spatial.key_number.Reads as key-number-reads
 
 key-number-requires : tie.Need-key-number-requires
 key-number-requires c κs = search needs

@@ -1,12 +1,7 @@
 use Rattle.contents.proofs.SpatialLaws.{tuple-is-ways}
-use native.Mathlib.Omega.{arith}
 use borrow.Author.Needs.{needs}
 use Rattle.contents.proofs.spatial.tuple_is.Statement.{statement}
 use Rattle.contents.proofs.spatial.tuple_is.Tie as tie
-use Rattle.contents.proofs.spatial.tuple_is.Reads as reads
-use Rattle.contents.proofs.spatial.tuple_is.Lts as lts
-use Rattle.fields.proofs.le32.Reads as le32-reads
-use Rattle.fields.proofs.le8.Reads as le8-reads
 
 le8-requires : tie.Need-le8-requires
 le8-requires c κs = search needs

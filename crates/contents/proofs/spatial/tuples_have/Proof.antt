@@ -10,9 +10,6 @@ use borrow.Author.Needs.{needs}
 use native.Mathlib.Omega.{arith}
 use Rattle.contents.proofs.spatial.tuples_have.Statement.{statement}
 use Rattle.contents.proofs.spatial.tuples_have.Tie as tie
-use Rattle.contents.proofs.spatial.tuples_have.Reads as reads
-use Rattle.contents.proofs.spatial.tuples_have.Lts as lts
-use Rattle.contents.proofs.spatial.tuple_is.Reads as tuple-is-reads
 
 abbrev Inv-loop : tie.InvT-loop
 Inv-loop b n x y at₀ left₀ at left = (at + 15 * left ≤ length b) × (endingAt (tupleOf Spas) b at ≡ 0) × (hasFrom b at left x y ≡ hasFrom b 0 n x y)

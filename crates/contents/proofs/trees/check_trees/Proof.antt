@@ -1,14 +1,8 @@
 use Rattle.contents.proofs.StepLaws.{step-bounds, step-second}
 use Rattle.contents.proofs.TreeLaws.{six-ways}
-use native.Mathlib.Omega.{arith}
 use borrow.Author.Needs.{needs}
 use Rattle.contents.proofs.trees.check_trees.Statement.{statement}
 use Rattle.contents.proofs.trees.check_trees.Tie as tie
-use Rattle.contents.proofs.trees.check_trees.Reads as reads
-use Rattle.contents.proofs.trees.check_trees.Lts as lts
-use Rattle.contents.proofs.identifier.is_stored.Reads as is-stored-reads
-use Rattle.contents.proofs.trees.trees_stand.Reads as trees-stand-reads
-use Rattle.skeleton.proofs.place.place_at.Reads as place-at-reads
 
 place-at-requires : tie.Need-place-at-requires
 place-at-requires c κs = search needs

@@ -1,13 +1,7 @@
 use Rattle.contents.proofs.TreeLaws.{faulty-ways}
-use native.Mathlib.Omega.{arith}
 use borrow.Author.Needs.{needs}
 use Rattle.contents.proofs.trees.faulty_tuple.Statement.{statement}
 use Rattle.contents.proofs.trees.faulty_tuple.Tie as tie
-use Rattle.contents.proofs.trees.faulty_tuple.Reads as reads
-use Rattle.contents.proofs.trees.faulty_tuple.Lts as lts
-use Rattle.tree.proofs.attr_acts.Reads as attr-acts-reads
-use Rattle.tree.proofs.attr_tree.Reads as attr-tree-reads
-use Rattle.tree.proofs.inas_tree.Reads as inas-tree-reads
 
 sub-b : tie.Need-sub-b
 sub-b c = search needs

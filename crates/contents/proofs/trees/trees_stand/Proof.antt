@@ -10,10 +10,6 @@ use borrow.Author.Needs.{needs}
 use native.Mathlib.Omega.{arith}
 use Rattle.contents.proofs.trees.trees_stand.Statement.{statement}
 use Rattle.contents.proofs.trees.trees_stand.Tie as tie
-use Rattle.contents.proofs.trees.trees_stand.Reads as reads
-use Rattle.contents.proofs.trees.trees_stand.Lts as lts
-use Rattle.contents.proofs.trees.faulty_tuple.Reads as faulty-tuple-reads
-use Rattle.skeleton.proofs.place.place_at.Reads as place-at-reads
 
 abbrev Inv-loop : tie.InvT-loop
 Inv-loop r h p new q₀ i₀ q i = (i ≤ q) × (allFit new (fieldsAt r h q) ≡ true) × (treesFrom r h new q i ≡ treesFrom r h new p 2)

@@ -2,7 +2,6 @@ use mathlib.Core.Path.{_≡_, refl}
 use Rattle.keys.specs.Bits.{bitOf}
 use Rattle.keys.proofs.BitLaws.{bit-turn}
 use borrow.Author.Needs.{needs}
-use native.Mathlib.Omega.{arith}
 use Rattle.keys.proofs.bits.bit.Statement.{statement}
 use Rattle.keys.proofs.bits.bit.Tie as tie
 use Rattle.keys.proofs.bits.bit.Reads as reads

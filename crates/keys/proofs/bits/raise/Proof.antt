@@ -1,6 +1,5 @@
 use Rattle.keys.proofs.BitLaws.{raise-ways}
 use borrow.Author.Needs.{needs}
-use native.Mathlib.Omega.{arith}
 use Rattle.keys.proofs.bits.raise.Statement.{statement}
 use Rattle.keys.proofs.bits.raise.Tie as tie
 use Rattle.keys.proofs.bits.raise.Reads as reads

@@ -1,5 +1,4 @@
 use Rattle.keys.proofs.BitLaws.{with-bit-ways}
-use native.Mathlib.Omega.{arith}
 use borrow.Author.Needs.{needs}
 use Rattle.keys.proofs.bits.with_bit.Statement.{statement}
 use Rattle.keys.proofs.bits.with_bit.Tie as tie

@@ -1,5 +1,4 @@
 use Rattle.keys.proofs.KeyLaws.{key-ways}
-use native.Mathlib.Omega.{arith}
 use borrow.Author.Needs.{needs}
 use Rattle.keys.proofs.look.key_at.Statement.{statement}
 use Rattle.keys.proofs.look.key_at.Tie as tie

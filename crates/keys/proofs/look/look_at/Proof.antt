@@ -1,5 +1,4 @@
 use Rattle.keys.proofs.LookLaws.{look-ways}
-use native.Mathlib.Omega.{arith}
 use borrow.Author.Needs.{needs}
 use Rattle.keys.proofs.look.look_at.Statement.{statement}
 use Rattle.keys.proofs.look.look_at.Tie as tie

@@ -1,6 +1,4 @@
 use Rattle.keys.proofs.KeyLaws.{rank-ways}
-use borrow.Author.Needs.{needs}
-use native.Mathlib.Omega.{arith}
 use Rattle.keys.proofs.look.rank.Statement.{statement}
 use Rattle.keys.proofs.look.rank.Tie as tie
 use Rattle.keys.proofs.look.rank.Reads as reads

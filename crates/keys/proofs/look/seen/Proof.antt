@@ -1,11 +1,10 @@
-use mathlib.Core.Path.{_≡_, refl}
+use mathlib.Core.Path.{_≡_}
 use Prim.Native.Nat.{_≤_}
 use lib.ListN.{length}
 use Rattle.keys.specs.Listed.{seenFrom}
 use Rattle.keys.specs.Look.{Known}
 use Rattle.keys.proofs.SeenLaws.{seen-turn}
 use borrow.Author.Needs.{needs}
-use native.Mathlib.Omega.{arith}
 use Rattle.keys.proofs.look.seen.Statement.{statement}
 use Rattle.keys.proofs.look.seen.Tie as tie
 use Rattle.keys.proofs.look.seen.Reads as reads

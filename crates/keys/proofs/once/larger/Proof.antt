@@ -1,6 +1,4 @@
 use Rattle.keys.proofs.OnceLaws.{larger-ways}
-use borrow.Author.Needs.{needs}
-use native.Mathlib.Omega.{arith}
 use Rattle.keys.proofs.once.larger.Statement.{statement}
 use Rattle.keys.proofs.once.larger.Tie as tie
 use Rattle.keys.proofs.once.larger.Reads as reads

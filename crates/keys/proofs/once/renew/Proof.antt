@@ -1,5 +1,4 @@
 use Rattle.keys.proofs.OnceLaws.{renew-ways}
-use native.Mathlib.Omega.{arith}
 use borrow.Author.Needs.{needs}
 use Rattle.keys.proofs.once.renew.Statement.{statement}
 use Rattle.keys.proofs.once.renew.Tie as tie

@@ -1,6 +1,5 @@
 use Rattle.keys.proofs.OnceLaws.{repeats-ways}
 use borrow.Author.Needs.{needs}
-use native.Mathlib.Omega.{arith}
 use Rattle.keys.proofs.once.repeats.Statement.{statement}
 use Rattle.keys.proofs.once.repeats.Tie as tie
 use Rattle.keys.proofs.once.repeats.Reads as reads

@@ -1,5 +1,4 @@
 use Rattle.keys.proofs.PresentLaws.{has-ways}
-use native.Mathlib.Omega.{arith}
 use borrow.Author.Needs.{needs}
 use Rattle.keys.proofs.present.has.Statement.{statement}
 use Rattle.keys.proofs.present.has.Tie as tie

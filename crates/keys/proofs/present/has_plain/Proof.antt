@@ -1,11 +1,10 @@
 use Rattle.keys.proofs.SoundLaws.{has-turn}
-use mathlib.Core.Path.{_≡_, refl}
+use mathlib.Core.Path.{_≡_}
 use lib.ListN.{length}
-use Prim.Native.Nat.{_+_, _-_, _≤_, _<_}
+use Prim.Native.Nat.{_-_}
 use Rattle.keys.specs.Listed.{hasFrom}
 use Rattle.keys.specs.Look.{Sound}
 use borrow.Author.Needs.{needs}
-use native.Mathlib.Omega.{arith}
 use Rattle.keys.proofs.present.has_plain.Statement.{statement}
 use Rattle.keys.proofs.present.has_plain.Tie as tie
 use Rattle.keys.proofs.present.has_plain.Reads as reads

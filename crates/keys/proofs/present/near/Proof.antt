@@ -1,7 +1,6 @@
 use Rattle.keys.proofs.PresentLaws.{near-turn}
 use Rattle.keys.specs.Table.{Tail}
 use borrow.Author.Needs.{needs}
-use native.Mathlib.Omega.{arith}
 use Rattle.keys.proofs.present.near.Statement.{statement}
 use Rattle.keys.proofs.present.near.Tie as tie
 use Rattle.keys.proofs.present.near.Reads as reads

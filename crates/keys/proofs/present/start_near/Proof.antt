@@ -1,8 +1,7 @@
 use Rattle.keys.proofs.PresentLaws.{half-turn}
-use Prim.Native.Nat.{_+_, _-_, _≤_, _<_}
+use Prim.Native.Nat.{_-_, _≤_}
 use Rattle.keys.specs.Table.{Tail}
 use borrow.Author.Needs.{needs}
-use native.Mathlib.Omega.{arith}
 use Rattle.keys.proofs.present.start_near.Statement.{statement}
 use Rattle.keys.proofs.present.start_near.Tie as tie
 use Rattle.keys.proofs.present.start_near.Reads as reads

@@ -1,5 +1,4 @@
 use Rattle.keys.proofs.SlotLaws.{note-ways}
-use native.Mathlib.Omega.{arith}
 use borrow.Author.Needs.{needs}
 use Rattle.keys.proofs.slots.note.Statement.{statement}
 use Rattle.keys.proofs.slots.note.Tie as tie

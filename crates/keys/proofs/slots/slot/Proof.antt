@@ -1,5 +1,4 @@
 use Rattle.keys.proofs.SlotLaws.{slot-ways}
-use native.Mathlib.Omega.{arith}
 use borrow.Author.Needs.{needs}
 use Rattle.keys.proofs.slots.slot.Statement.{statement}
 use Rattle.keys.proofs.slots.slot.Tie as tie

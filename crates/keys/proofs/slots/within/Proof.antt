@@ -1,5 +1,4 @@
 use Rattle.keys.proofs.SlotLaws.{within-ways}
-use native.Mathlib.Omega.{arith}
 use borrow.Author.Needs.{needs}
 use Rattle.keys.proofs.slots.within.Statement.{statement}
 use Rattle.keys.proofs.slots.within.Tie as tie

@@ -1,11 +1,10 @@
 use Rattle.keys.proofs.TableLaws.{spread-turn}
-use mathlib.Core.Path.{_≡_, refl}
+use mathlib.Core.Path.{_≡_}
 use lib.ListN.{length}
-use Prim.Native.Nat.{_+_, _-_, _≤_, _<_}
+use Prim.Native.Nat.{_-_}
 use Rattle.keys.specs.Table.{Tails}
 use Rattle.keys.proofs.TableLaws.{Passed}
 use borrow.Author.Needs.{needs}
-use native.Mathlib.Omega.{arith}
 use Rattle.keys.proofs.table.spread.Statement.{statement}
 use Rattle.keys.proofs.table.spread.Tie as tie
 use Rattle.keys.proofs.table.spread.Reads as reads

@@ -1,0 +1,94 @@
+-- Number 7 of a record, and the first field of one that number 4 passes. Assumes nothing.
+use mathlib.Core.Path.{_≡_, refl, ap, _∙_}
+use mathlib.Core.Bool.{Bool, true, false}
+use mathlib.Core.Option.{Option, some, none}
+use mathlib.Core.List.{List, [], _∷_}
+use Prim.Native.Nat.{ℕ, _-_}
+use native.Mathlib.Omega.{arith}
+use borrow.Author.Tests.{eqb-true}
+use lib.Dec.{eqb, ltb}
+use Rattle.base.specs.Choice.{pick}
+use Rattle.base.specs.Check.{Check, ok, no, bind, fault, Passed, pass}
+use Rattle.base.specs.Lists.{each, gather}
+use Rattle.base.proofs.CheckLaws.{bind-inv, ok-inj}
+use Rattle.base.specs.Verdict.{verdictOf}
+use Rattle.base.specs.declared.Verdict.{Verdict}
+use Rattle.base.specs.declared.Verdict.the-variants.{Passed as Passes}
+use Rattle.skeleton.specs.File.{Field}
+use Rattle.skeleton.specs.Place.{between, placeAt, fieldsAt}
+use Rattle.skeleton.specs.declared.directory.Shape.{Shape}
+use Rattle.skeleton.specs.declared.place.Place.{Place}
+use Rattle.skeleton.specs.declared.place.Place.the-variants.{At, Done}
+use Rattle.skeleton.proofs.PlaceLaws.{fields-more, fields-done}
+use Rattle.rules.specs.Tags.{IRID, PRID, MRID, FRID}
+use Rattle.rules.specs.ByTag.{firstTag}
+use Rattle.rules.specs.Kind.{tagOf, kindOf, rank}
+use Rattle.rules.specs.Grammar.{ruinByte, asStored, fieldsStand, onKind, number4}
+use Rattle.rules.specs.Content.{number5}
+use Rattle.rules.specs.Associations.{fieldMarks, marks, keysOnce, number7}
+use Rattle.rules.specs.declared.Kind.{Kind}
+use Rattle.rules.specs.declared.Kind.the-variants.{Info, Point, Multi, Feature}
+use Rattle.rules.specs.declared.Mode.{Mode}
+use Rattle.contents.specs.Fit.{allFit}
+use Rattle.contents.specs.Keys.{keysIn, onceFrom}
+use Rattle.contents.proofs.FitLaws.{five-fit, all-any}
+
+-- ---- the record
+
+-- an identifier has no association key
+ident-marks : (k : Kind) (f : Field) → f .tag ≡ tagOf k → fieldMarks 1 f ≡ []
+unfolding fieldMarks tagOf
+ident-marks Info f e = rw e
+ident-marks Point f e = rw e
+ident-marks Multi f e = rw e
+ident-marks Feature f e = rw e
+
+module _ (r : List ℕ) (h : Shape) (m : Mode) (k : Kind) (five : number5 m k (fieldsAt r h 24) ≡ pass) (first : firstTag (fieldsAt r h 24) ≡ tagOf k)
+    (e : Place) (en : e ≡ placeAt r h 24) where
+  pub seven-none : e ≡ Done → Passes ≡ verdictOf (number7 (fieldsAt r h 24))
+  unfolding number7 marks keysOnce verdictOf
+  seven-none x = rw (fields-done r h 24 e en x)
+
+  module _ (tag start end next : ℕ) (x : e ≡ At tag start end next) where
+    pub seven-fit : allFit false (fieldsAt r h next) ≡ true
+    seven-fit =
+        let f : Field = record { tag = tag; body = between r start end } in
+        let all = five-fit m k f (fieldsAt r h next) tt (rw (fields-more r h 24 e en tag start end next x) at five) in
+        all-any (asStored m (ruinByte k (between r start end))) (fieldsAt r h next) all
+
+    pub seven-rest : (v : Verdict) → v ≡ onceFrom r h next 0 → v ≡ verdictOf (number7 (fieldsAt r h 24))
+    unfolding number7 marks onceFrom keysIn gather firstTag
+    seven-rest v y =
+        let f : Field = record { tag = tag; body = between r start end } in
+        let t : tag ≡ tagOf k = rw (fields-more r h 24 e en tag start end next x) at first in
+        rw (fields-more r h 24 e en tag start end next x) (rw (ident-marks k f t) y)
+
+pub ruleset seven-ways = (seven-none, seven-fit, seven-rest)
+
+-- ---- for callers
+
+-- the identifier of each kind
+kind-tag : (t : ℕ) (k : Kind) → kindOf t ≡ some k → t ≡ tagOf k
+unfolding kindOf tagOf
+kind-tag t k e = go (eqb t IRID) (eqb t PRID) (eqb t MRID) (eqb t FRID) refl refl refl refl e
+  where
+    go : (a b c d : Bool) → eqb t IRID ≡ a → eqb t PRID ≡ b → eqb t MRID ≡ c → eqb t FRID ≡ d
+        → pick a (some Info) (pick b (some Point) (pick c (some Multi) (pick d (some Feature) none))) ≡ some k → t ≡ tagOf k
+    go true b c d ea eb ec ed z = let y : Info ≡ k = cc in rw (← y) (eqb-true t IRID ea)
+    go false true c d ea eb ec ed z = let y : Point ≡ k = cc in rw (← y) (eqb-true t PRID eb)
+    go false false true d ea eb ec ed z = let y : Multi ≡ k = cc in rw (← y) (eqb-true t MRID ec)
+    go false false false true ea eb ec ed z = let y : Feature ≡ k = cc in rw (← y) (eqb-true t FRID ed)
+    go false false false false ea eb ec ed z = absurd (let y : _≡_ {A = ℕ} 0 1 = cc in omega arith)
+
+on-kind : {X : Type 0} (o : Option Kind) (go : Kind → Check X) (a : X) → onKind o go ≡ ok a → (k : Kind) × (o ≡ some k) × (go k ≡ ok a)
+on-kind none go a e = absurd (let y : _≡_ {A = ℕ} 0 1 = cc in omega arith)
+on-kind (some k) go a e = (k, refl, e)
+
+pub four-first : (m : Mode) (least : ℕ) (fs : List Field) (k : Kind) → number4 m least fs ≡ ok k → firstTag fs ≡ tagOf k
+unfolding number4 firstTag
+four-first m least [] k e = absurd (let y : _≡_ {A = ℕ} 0 1 = cc in omega arith)
+four-first m least (f ∷ fs) k e = let w = on-kind (kindOf (f .tag)) _ k e in kind-tag (f .tag) k (w .1 ∙ ap some (same-kind (ltb (rank (w .0)) least) (fieldsStand m (w .0) (f .body) fs) (w .0) (w .2)))
+  where
+    same-kind : (b : Bool) (c : Passed) (j : Kind) → pick b (no (fault 4 1 0)) (bind c (λ _. ok j)) ≡ ok k → j ≡ k
+    same-kind true c j z = absurd (let y : _≡_ {A = ℕ} 0 1 = cc in omega arith)
+    same-kind false c j z = let w = bind-inv c (λ _. ok j) k z in ok-inj j k (w .2)
