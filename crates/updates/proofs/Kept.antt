@@ -40,13 +40,13 @@ steps-each Q W makes n us ds rs w q e =
 -- ---- a test of every record
 
 -- it is done where each record passes
-every-done : {R : Type 0} (test : R → Passed) (file n : ℕ) (l : List R) → Each (λ r. test r ≡ pass) l → everyRecord test file n l ≡ done tt
+pub every-done : {R : Type 0} (test : R → Passed) (file n : ℕ) (l : List R) → Each (λ r. test r ≡ pass) l → everyRecord test file n l ≡ done tt
 unfolding everyRecord Each andThen at
 every-done test file n [] e = refl
 every-done test file n (r ∷ l) e = rw (e .0) (every-done test file (n + 1) l (e .1))
 
 -- and there alone
-every-inv : {R : Type 0} (test : R → Passed) (file n : ℕ) (l : List R) → everyRecord test file n l ≡ done tt → Each (λ r. test r ≡ pass) l
+pub every-inv : {R : Type 0} (test : R → Passed) (file n : ℕ) (l : List R) → everyRecord test file n l ≡ done tt → Each (λ r. test r ≡ pass) l
 unfolding everyRecord Each
 every-inv test file n [] e = tt
 every-inv test file n (r ∷ l) e =
@@ -54,13 +54,13 @@ every-inv test file n (r ∷ l) e =
     (at-inv file n (test r) t x, every-inv test file (n + 1) l y)
 
 -- of what is made of each
-each-of : {A B : Type 0} (Q : B → Type 0) (g : A → B) (l : List A) → Each Q (each g l) → Each (λ a. Q (g a)) l
+pub each-of : {A B : Type 0} (Q : B → Type 0) (g : A → B) (l : List A) → Each Q (each g l) → Each (λ a. Q (g a)) l
 unfolding Each each
 each-of Q g [] e = tt
 each-of Q g (x ∷ l) e = (e .0, each-of Q g l (e .1))
 
 -- and the other way round
-of-each : {A B : Type 0} (Q : B → Type 0) (g : A → B) (l : List A) → Each (λ a. Q (g a)) l → Each Q (each g l)
+pub of-each : {A B : Type 0} (Q : B → Type 0) (g : A → B) (l : List A) → Each (λ a. Q (g a)) l → Each Q (each g l)
 unfolding Each each
 of-each Q g [] e = tt
 of-each Q g (x ∷ l) e = (e .0, of-each Q g l (e .1))

@@ -1,0 +1,1 @@
+// What every display holds, with nothing assumed of reading and writing: laws only.

@@ -1,0 +1,16 @@
+pub mod Heads
+pub mod Attributes
+pub mod Associations
+pub mod Coordinates
+pub mod Spatial
+pub mod Idents
+pub mod Room
+pub mod Bodies
+pub mod Again
+pub mod Fields
+pub mod Order
+pub mod Record
+pub mod Dataset
+pub mod Low
+pub mod Bytes
+pub mod Answers

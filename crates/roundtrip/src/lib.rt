@@ -1,0 +1,1 @@
+// What is written of a sound dataset reads again: laws only.
