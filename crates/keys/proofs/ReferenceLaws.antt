@@ -95,11 +95,11 @@ module _ (f : List ℕ) (p : ℕ) (g : FineFrom f p) (l : p < length f) (h : Hea
 
 -- ---- number 11
 
-module _ (f : List ℕ) (start : ℕ) (recs : List Rec) (r : Reads f start recs) where
+module _ (f : List ℕ) (start : ℕ) (recs : List Rec) (numbered : Numbered recs (keysFrom f start)) where
   -- the record that bytes name at p exists where their key stands in the file
   pub named-is : (b : List ℕ) (p : ℕ) (k : List ℕ) → Names b p k → among k (each keyInRules recs) ≡ hasFrom f start (keyAt b p)
   unfolding Numbered hasFrom
-  named-is b p k n = rw (n .number) (r .numbered k (n .ranged))
+  named-is b p k n = rw (n .number) (numbered k (n .ranged))
 
   -- the mark at hand, and those after it
   module _ (m : Mark) (ms : List Mark) (b : List ℕ) (p : ℕ) (n : Names b p (take 2 (m .key))) (t : Bool) (et : t ≡ hasFrom f start (keyAt b p))

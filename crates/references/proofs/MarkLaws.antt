@@ -63,13 +63,10 @@ module _ (f : List ℕ) (start : ℕ) where
   -- the first reference, which stands in the bytes l at p
   module _ (sound : Sound f start) (m : Mark) (ms whole : List Mark) (a : Alike f start (m ∷ ms) whole) (l : List ℕ) (p : ℕ)
       (named : Names l p (take 2 (m .key))) (t : Bool) (et : t ≡ hasFrom f start (keyAt l p)) where
-    reads : (recs : List Rec) → Numbered recs (keysFrom f start) → Reads f start recs
-    reads recs b = record { clean = sound .clean; keyed = sound .keyed; numbered = b }
-
     pub mark-more : t ≡ true → Alike f start ms whole
     unfolding Alike
-    mark-more x recs b = named-more f start recs (reads recs b) m ms l p named t et _ (a recs b) x
+    mark-more x recs b = named-more f start recs b m ms l p named t et _ (a recs b) x
 
     pub mark-loose : t ≡ false → Says f start whole (Refused 11 (m .field) (m .tuple))
     unfolding Alike Says verdictOf
-    mark-loose x recs b = ap verdictOf (named-loose f start recs (reads recs b) m ms l p named t et _ (a recs b) x)
+    mark-loose x recs b = ap verdictOf (named-loose f start recs b m ms l p named t et _ (a recs b) x)

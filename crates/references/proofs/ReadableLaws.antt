@@ -37,7 +37,7 @@ use Rattle.rules.proofs.OutcomeLaws.{andThen-inv, at-inv}
 use Rattle.contents.specs.Fit.{fits, allFit}
 use Rattle.contents.proofs.FormatLaws.{of-inas, of-spas}
 use Rattle.contents.proofs.FitLaws.{five-fit}
-use Rattle.contents.proofs.OnceLaws.{four-first}
+use Rattle.contents.proofs.SevenLaws.{four-first}
 use Rattle.keys.specs.Standing.{outcomeFrom}
 use Rattle.keys.proofs.PassedLaws.{test-later}
 use Rattle.keys.proofs.ReferenceLaws.{unread-done}
