@@ -51,7 +51,7 @@ module _ (f : List ℕ) (n p : ℕ) where
 pub ruleset head-ways = (head-missing, head-first, head-there)
 
 -- a record that is there is one that the skeleton found
-there : (f : List ℕ) (n p : ℕ) (q : Head) → q ≡ headAt f n p → (len base a b : ℕ) → q ≡ Good len base a b → q ≡ recordAt f p
+pub there : (f : List ℕ) (n p : ℕ) (q : Head) → q ≡ headAt f n p → (len base a b : ℕ) → q ≡ Good len base a b → q ≡ recordAt f p
 unfolding headAt
 there f n p q e len base a b x = go (both (ltb 1 n) (leb (length f) p)) e
   where
@@ -135,7 +135,7 @@ pub ruleset csid-ways = (csid-none, csid-first, csid-other)
 
 -- ---- one after the other
 
-behind-is : (c : Outcome ℕ) (p : ℕ) → Behind p ≡ openedBy c → c ≡ done p
+pub behind-is : (c : Outcome ℕ) (p : ℕ) → Behind p ≡ openedBy c → c ≡ done p
 unfolding openedBy
 behind-is (done a) p e = let y : p ≡ a = cc in rw y
 behind-is (refused file n x) p e = absurd (let y : _≡_ {A = ℕ} 0 1 = cc in omega arith)

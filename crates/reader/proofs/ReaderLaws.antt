@@ -1,0 +1,273 @@
+-- Laws of the reader. Assumes nothing.
+use mathlib.Core.Path.{_≡_, refl, sym, _∙_, ap}
+use mathlib.Core.Bool.{Bool, true, false}
+use mathlib.Core.List.{List, [], _∷_, _++_}
+use mathlib.Core.Logic.{_⊎_, inl, inr, ⊎-elim}
+use Prim.Native.Nat.{ℕ, suc, _+_, _-_, _^_, _≤_, _<_}
+use native.Mathlib.Omega.{arith}
+use borrow.Author.Tests.{lt-ltb, le-ltb, leb-true, leb-false}
+use lib.Dec.{ltb, leb}
+use lib.ListN.{length, take, drop, getD}
+use Rattle.base.specs.Choice.{pick}
+use Rattle.base.specs.Check.{Check, ok, no, fault, Passed}
+use Rattle.base.specs.Lists.{each}
+use Rattle.base.specs.Keys.{among}
+use Rattle.base.specs.Walk.{Got, before}
+use Rattle.base.specs.declared.Fault.{Fault}
+use Rattle.base.proofs.ChoiceLaws.{by-test}
+use Rattle.skeleton.specs.File.{Field, recordsFrom, recordsOf}
+use Rattle.skeleton.specs.Place.{between, fieldsAt}
+use Rattle.skeleton.specs.Record.{recordAt}
+use Rattle.skeleton.specs.declared.leader.Head.{Head}
+use Rattle.skeleton.specs.declared.leader.Head.the-variants.{Good, Refused}
+use Rattle.base.proofs.WalkLaws.{by-measure}
+use Rattle.skeleton.proofs.FileLaws.{records-more, records-refused, records-over, records-all}
+use Rattle.skeleton.proofs.RecordLaws.{right, record-falls}
+use Rattle.rules.specs.Associations.{Mark, marks, number11}
+use Rattle.rules.specs.Record.{Rec, keyOf}
+use Rattle.rules.specs.General.{generalRecord}
+use Rattle.rules.specs.Written.{Dataset, count}
+use Rattle.rules.specs.Outcome.{Outcome, done, refused, andThen, at, everyRecord}
+use Rattle.rules.specs.File.{Stored, storedAs, datasetTest, taken, datasetOf, references, readDataset}
+use Rattle.rules.specs.Answers.{refusal, success, notTooLong, readOutcome, readAnswer, read}
+use Rattle.rules.specs.declared.Mode.the-variants.{InDataset}
+use Rattle.rules.proofs.OutcomeLaws.{andThen-inv, done-inj}
+use Rattle.opening.specs.Carried.{headAt, testedBy, carried, beginsCsid, unread, firstTwo, firstThree, openedBy}
+use Rattle.opening.specs.declared.carried.Opened.{Opened}
+use Rattle.opening.specs.declared.carried.Opened.the-variants.{Behind, Stopped as Shut}
+use Rattle.opening.proofs.CarriedLaws.{there, behind-in, behind-is}
+use Rattle.opening.proofs.OpeningLaws.{fromFourth, opened}
+use Rattle.keys.specs.Listed.{keysFrom}
+use Rattle.keys.specs.Standing.{outcomeFrom, referencesFrom, unread as unreadOf}
+use Rattle.keys.proofs.ReferenceLaws.{Reads, taken-reads, unread-done, references-start}
+use Rattle.dataset.specs.Walk.{wholeFrom, walkedBy}
+use Rattle.dataset.specs.declared.walk.Walked.{Walked}
+use Rattle.dataset.specs.declared.walk.Walked.the-variants.{Over, Stopped}
+use Rattle.dataset.proofs.FileLaws.{first-shut, later-stopped, later-over}
+use Rattle.references.specs.Linked.{linkedBy, Answers}
+use Rattle.references.specs.declared.dataset.Linked.{Linked}
+use Rattle.references.specs.declared.dataset.Linked.the-variants.{All, Loose}
+
+-- ---- the fields behind the third record
+
+-- a record that was carried is one more of the file
+carried-more : (file n : ℕ) (test : List Field → Passed) (f : List ℕ) (p e : ℕ) → carried file n test f p ≡ done e
+    → (fs : List Field) × (recordsFrom f p ≡ before fs (recordsFrom f e)) × (p < length f)
+unfolding carried
+carried-more file n test f p e z = by-head (headAt f n p) refl z
+  where
+    by-head : (q : Head) → q ≡ headAt f n p → testedBy file n test f p q ≡ done e
+        → (fs : List Field) × (recordsFrom f p ≡ before fs (recordsFrom f e)) × (p < length f)
+    by-head (Refused k) eq y = absurd (let w : _≡_ {A = ℕ} 0 1 = cc in omega arith)
+    by-head (Good len base a b) eq y =
+        let r = there f n p (Good len base a b) eq len base a b refl in
+        let k = right f p (Good len base a b) r len base a b refl in
+        let h : p < length f = omega arith in
+        let i = andThen-inv (at file n (test (fieldsAt (between f p (p + len)) (record { base = base; a = a; b = b }) 24))) (λ _. done (p + len)) e y in
+        let w : p + len ≡ e = done-inj (p + len) e (i .2) in (
+          fieldsAt (between f p (p + len)) (record { base = base; a = a; b = b }) 24,
+          records-more f p h (Good len base a b) r len base a b refl ∙ ap (λ (m : ℕ). before (fieldsAt (between f p (p + len)) (record { base = base; a = a; b = b }) 24) (recordsFrom f m)) w,
+          h,
+        )
+
+-- the records of a file are the first three, and those from the place behind them on
+pub three-items : (f : List ℕ) (start : ℕ) → firstThree f ≡ done start → drop 3 ((recordsOf f) .items) ≡ (recordsFrom f start) .items
+unfolding firstThree firstTwo
+three-items f start z =
+    let x = andThen-inv (andThen (carried 1 1 unread f 0) (λ p. carried 1 2 (generalRecord InDataset) f p)) (λ q. carried 1 3 beginsCsid f q) start z in
+    let y = andThen-inv (carried 1 1 unread f 0) (λ p. carried 1 2 (generalRecord InDataset) f p) (x .0) (x .1) in
+    let a = carried-more 1 1 unread f 0 (y .0) (y .1) in
+    let b = carried-more 1 2 (generalRecord InDataset) f (y .0) (x .0) (y .2) in
+    let c = carried-more 1 3 beginsCsid f (x .0) start (x .2) in
+    let h : 0 < length f = a .2 in
+    let e : recordsOf f ≡ before (a .0) (before (b .0) (before (c .0) (recordsFrom f start)))
+    = records-all f (λ (w : length f ≡ 0). omega arith) ∙ a .1 ∙ ap (before (a .0)) (b .1 ∙ ap (before (b .0)) (c .1)) in
+    ap (λ (g : Got (List Field)). drop 3 (g .items)) e
+
+-- the place behind them lies in the file
+pub three-in : (f : List ℕ) (start : ℕ) → firstThree f ≡ done start → start ≤ length f
+unfolding firstThree
+three-in f start z =
+    let x = andThen-inv (firstTwo 1 InDataset f) (λ q. carried 1 3 beginsCsid f q) start z in
+    behind-in 1 3 beginsCsid f (x .0) start (x .2)
+
+-- ---- a loose reference is 11 at file 1
+
+unfoldable Eleven : Outcome (Unit {0}) → Type 0
+Eleven (done u) = Unit {0}
+Eleven (refused file n x) = (file ≡ 1) × (x .number ≡ 11)
+
+unfoldable ElevenCheck : Passed → Type 0
+ElevenCheck (ok u) = Unit {0}
+ElevenCheck (no x) = x .number ≡ 11
+
+eleven-marks : (keys : List (List ℕ)) (ms : List Mark) → ElevenCheck (number11 keys ms)
+unfolding number11 ElevenCheck
+eleven-marks keys [] = tt
+eleven-marks keys (m ∷ ms) = go (among (take2 m) keys) (eleven-marks keys ms)
+  where
+    take2 : Mark → List ℕ
+    take2 z = take 2 (z .key)
+
+    go : (t : Bool) → ElevenCheck (number11 keys ms) → ElevenCheck (pick t (number11 keys ms) (no (fault 11 (m .field) (m .tuple))))
+    go true e = e
+    go false e = refl
+
+eleven-every : (keys : List (List ℕ)) (n : ℕ) (fss : List (List Field)) → Eleven (everyRecord (λ fs. number11 keys (marks 1 fs)) 1 n fss)
+unfolding everyRecord Eleven andThen at ElevenCheck
+eleven-every keys n [] = tt
+eleven-every keys n (fs ∷ fss) = go (number11 keys (marks 1 fs)) (eleven-marks keys (marks 1 fs)) (eleven-every keys (n + 1) fss)
+  where
+    go : (c : Passed) → ElevenCheck c → Eleven (everyRecord (λ gs. number11 keys (marks 1 gs)) 1 (n + 1) fss)
+        → Eleven (andThen (at 1 n c) (λ _. everyRecord (λ gs. number11 keys (marks 1 gs)) 1 (n + 1) fss))
+    go (ok u) e ih = ih
+    go (no x) e ih = (refl, e)
+
+eleven-from : (recs : List Rec) (f : List ℕ) (start : ℕ) → Eleven (referencesFrom recs f start 0)
+unfolding referencesFrom
+eleven-from recs f start = eleven-every (each keyOf recs) (0 + 4) ((recordsFrom f start) .items)
+
+-- ---- the whole
+
+-- what the reader does with the records behind the third
+abbrev linked : List ℕ → List Rec → Outcome Dataset
+linked f recs =
+    let s = storedAs ((recordsOf f) .items) recs in
+    andThen (references 1 ((s .dataset) .records) (s .sent)) (λ _. done (s .dataset))
+
+whole : (f : List ℕ) → readDataset f ≡ andThen (andThen (firstThree f) (fromFourth f)) (linked f)
+unfolding readDataset datasetOf andThen
+whole f =
+    rw (opened f) (go (andThen (firstThree f) (fromFourth f)))
+  where
+    go : (c : Outcome (List Rec))
+        → andThen (andThen c (λ recs. done (storedAs ((recordsOf f) .items) recs))) (λ s. andThen (references 1 ((s .dataset) .records) (s .sent)) (λ _. done (s .dataset)))
+        ≡ andThen c (linked f)
+    go (done recs) = refl
+    go (refused file n x) = refl
+
+-- ---- there are fewer records than bytes
+
+le-or-lt : (a b : ℕ) → (a ≤ b) ⊎ (b < a)
+le-or-lt a b = go (leb a b) refl
+  where
+    go : (t : Bool) → leb a b ≡ t → (a ≤ b) ⊎ (b < a)
+    go true e = inl (leb-true a b e)
+    go false e = inr (leb-false a b e)
+
+abbrev Few : List ℕ → ℕ → Type 0
+Few f p = length ((recordsFrom f p) .items) ≤ length f - p
+
+few-by : (f : List ℕ) (p : ℕ) → ((q : ℕ) → length f - q < length f - p → Few f q) → (q : Head) → q ≡ recordAt f p → p < length f → Few f p
+few-by f p ih (Good len base a b) eq h =
+    let d = record-falls f p (Good len base a b) eq len base a b refl in
+    let e = ih (p + len) d in
+    rw (records-more f p h (Good len base a b) eq len base a b refl) (omega arith)
+few-by f p ih (Refused k) eq h = rw (records-refused f p h (Refused k) eq k refl) (omega arith)
+
+few : (f : List ℕ) (p : ℕ) → Few f p
+few f p =
+    by-measure (λ q. length f - q) (Few f) (λ q ih.
+    ⊎-elim (λ (h : length f ≤ q). rw (records-over f q h) (omega arith)) (λ (h : q < length f). few-by f q ih (recordAt f q) refl h) (le-or-lt (length f) q)) p
+
+each-length : {A B : Type 0} (g : A → B) (l : List A) → length (each g l) ≡ length l
+unfolding each
+each-length g [] = refl
+each-length g (x ∷ xs) = ap suc (each-length g xs)
+
+keys-few : (f : List ℕ) (start : ℕ) → length (keysFrom f start) ≤ length f
+unfolding keysFrom
+keys-few f start = let a = few f start in rw (each-length _ ((recordsFrom f start) .items)) (omega arith)
+
+-- ---- the answers
+
+all-is : (c : Outcome (Unit {0})) → All ≡ linkedBy c → c ≡ done tt
+unfolding linkedBy
+all-is (done tt) e = refl
+all-is (refused file n x) e = absurd (let y : _≡_ {A = ℕ} 0 1 = cc in omega arith)
+
+loose-is : (c : Outcome (Unit {0})) → Eleven c → (n i j : ℕ) → Loose n i j ≡ linkedBy c → c ≡ refused 1 n (fault 11 i j)
+unfolding linkedBy Eleven
+loose-is (done u) k n i j e = absurd (let y : _≡_ {A = ℕ} 0 1 = cc in omega arith)
+loose-is (refused file m x) k n i j e =
+    let a : n ≡ m = cc in
+    let b : i ≡ x .field = cc in
+    let c : j ≡ x .tuple = cc in
+    rw (k .0, k .1, a, b, c)
+
+module _ (f : List ℕ) where
+  pub read-long : 16777216 < length f → record { number = 14; file = 1; rec = 0; length = 0; count = 0 } ≡ read f
+  unfolding read readOutcome readAnswer refusal notTooLong andThen
+  read-long h = simp (lt-ltb 16777216 (length f) h)
+
+  module _ (small : length f ≤ 16777216) where
+    read-is : read f ≡ readAnswer (readDataset f)
+    unfolding read readOutcome notTooLong andThen
+    read-is = simp (le-ltb 16777216 (length f) small)
+
+    read-refused : (n : ℕ) (x : Fault) → readDataset f ≡ refused 1 n x → record { number = x .number; file = 1; rec = n; length = 0; count = 0 } ≡ read f
+    unfolding readAnswer refusal
+    read-refused n x e = sym (read-is ∙ ap readAnswer e)
+
+    module _ (q : Opened) (eq : q ≡ openedBy (firstThree f)) where
+      pub read-shut : (k n i j : ℕ) → q ≡ Shut k n i j → record { number = k; file = 1; rec = n; length = 0; count = 0 } ≡ read f
+      unfolding andThen
+      read-shut k n i j x = read-refused n (fault k i j) (whole f ∙ rw (first-shut f k n i j (sym x ∙ eq)))
+
+      pub read-behind : (start : ℕ) → q ≡ Behind start → firstThree f ≡ done start
+      read-behind start x = behind-is (firstThree f) start (sym x ∙ eq)
+
+    module _ (start : ℕ) (three : firstThree f ≡ done start) (w : Walked) (ew : w ≡ walkedBy (length (keysFrom f start)) (wholeFrom f start)) where
+      pub after-stopped : (k n i j : ℕ) → w ≡ Stopped k n i j → record { number = k; file = 1; rec = n; length = 0; count = 0 } ≡ read f
+      unfolding andThen
+      after-stopped k n i j x =
+          read-refused n (fault k i j) (whole f ∙ rw three (rw (later-stopped f start (length (keysFrom f start)) k n i j (sym x ∙ ew))))
+
+      module _ (m : ℕ) (x : w ≡ Over m) where
+        over : (m ≡ length (keysFrom f start)) × (wholeFrom f start ≡ done tt)
+        over = later-over f start m (length (keysFrom f start)) (sym x ∙ ew)
+
+        pub after-passed : outcomeFrom f start 0 [] ≡ done tt
+        after-passed = over .1
+
+        pub after-word : m + 3 < 2 ^ 64
+        after-word = let a = over .0 in let b = keys-few f start in omega arith
+
+        module _ (l : Linked) (el : Answers f start l) where
+          recs : (a : List Rec) × (fromFourth f start ≡ done a)
+          unfolding outcomeFrom
+          recs = unread-done (fromFourth f start) (over .1)
+
+          same : references 1 (recs .0) (drop 3 ((recordsOf f) .items)) ≡ referencesFrom (recs .0) f start 0
+          same = references-start (recs .0) f start (drop 3 ((recordsOf f) .items)) (three-items f start three)
+
+          said : l ≡ linkedBy (references 1 (recs .0) (drop 3 ((recordsOf f) .items)))
+          unfolding Answers
+          said =
+              el (recs .0) ((taken-reads f start (recs .0) (recs .1)) .numbered)
+              ∙ ap linkedBy (sym same)
+
+          dataset-is : readDataset f ≡ linked f (recs .0)
+          unfolding andThen
+          dataset-is = whole f ∙ rw three (rw (recs .1))
+
+          pub after-all : l ≡ All → record { number = 0; file = 0; rec = 0; length = 0; count = m + 3 } ≡ read f
+          unfolding readAnswer success count andThen
+          after-all y =
+              let c = all-is (references 1 (recs .0) (drop 3 ((recordsOf f) .items))) (sym y ∙ said) in
+              let d = taken-reads f start (recs .0) (recs .1) .counted in
+              let o = over .0 in
+              let e : m + 3 ≡ 3 + length (recs .0) = omega arith in
+              let z : readDataset f ≡ done ((storedAs ((recordsOf f) .items) (recs .0)) .dataset) = dataset-is ∙ rw c in
+              rw e (sym (read-is ∙ ap readAnswer z))
+
+          pub after-loose : (n i j : ℕ) → l ≡ Loose n i j → record { number = 11; file = 1; rec = n; length = 0; count = 0 } ≡ read f
+          unfolding andThen
+          after-loose n i j y =
+              let k : Eleven (references 1 (recs .0) (drop 3 ((recordsOf f) .items))) = rw same (eleven-from (recs .0) f start) in
+              let c = loose-is (references 1 (recs .0) (drop 3 ((recordsOf f) .items))) k n i j (sym y ∙ said) in
+              read-refused n (fault 11 i j) (dataset-is ∙ rw c)
+
+pub ruleset read-ways = (read-long, read-shut, read-behind)
+
+pub ruleset after-ways = (after-stopped, after-passed, after-word, after-all, after-loose, three-in)

@@ -1,0 +1,54 @@
+use Rattle.reader.proofs.ReaderLaws.{after-ways}
+use native.Mathlib.Omega.{arith}
+use borrow.Author.Needs.{needs}
+use Rattle.reader.proofs.after_three.Statement.{statement}
+use Rattle.reader.proofs.after_three.Tie as tie
+use Rattle.reader.proofs.after_three.Reads as reads
+use Rattle.reader.proofs.after_three.Lts as lts
+use Rattle.dataset.proofs.walk.later_records.Reads as later-records-reads
+use Rattle.references.proofs.dataset.loose.Reads as loose-reads
+
+later-records-requires : tie.Need-later-records-requires
+later-records-requires c κs = search after-ways
+
+enum-known-m : tie.Need-enum-known-m
+enum-known-m c = search needs
+
+loose-requires : tie.Need-loose-requires
+loose-requires c κs = search after-ways
+
+enum-told : tie.Need-enum-told
+enum-told c = search needs
+
+add-t11 : tie.Need-add-t11
+add-t11 c = search after-ways
+
+enum-known-n : tie.Need-enum-known-n
+enum-known-n c = search needs
+
+enum-known-k : tie.Need-enum-known-k
+enum-known-k c = search needs
+
+returns : tie.Need-returns
+returns c = search after-ways
+
+returns-2 : tie.Need-returns-2
+returns-2 c = search after-ways
+
+returns-3 : tie.Need-returns-3
+returns-3 c = search after-ways
+
+pub after-three-spec : {M : Type 1} → statement M
+after-three-spec =
+    tie.close
+    (tie.spec
+    later-records-requires
+    enum-known-m
+    loose-requires
+    enum-told
+    add-t11
+    enum-known-n
+    enum-known-k
+    returns
+    returns-2
+    returns-3)
