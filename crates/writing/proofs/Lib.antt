@@ -1,0 +1,5 @@
+pub mod HouseLaws
+pub mod JoiningLaws
+pub mod MeasuringLaws
+pub mod PartsLaws
+pub mod WriterLaws
