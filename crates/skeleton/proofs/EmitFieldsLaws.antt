@@ -35,7 +35,8 @@ unfolding contents sizes
 length-contents [] = refl
 length-contents (f ∷ fs) = simp (length-append, length-contents fs) (omega arith)
 
-length-leading : (a b : ℕ) (first : Bool) (len base : ℕ) → length (leading a b first len base) ≡ 24
+-- the leader has 24 bytes
+pub length-leading : (a b : ℕ) (first : Bool) (len base : ℕ) → length (leading a b first len base) ≡ 24
 unfolding leading
 length-leading a b true len base = simp (length-append, length-digits)
 length-leading a b false len base = simp (length-append, length-digits)

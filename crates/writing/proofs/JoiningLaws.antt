@@ -124,7 +124,7 @@ run-start joins r h t p b eb y g =
 -- a field that is no list is alone
 pub run-alone : (joins : Bool) (r : List ℕ) (h : Shape) (t p : ℕ) (b : Bool) → b ≡ isList joins t → not b ≡ true → p ≤ length r
     → Ran joins r h t p (record { size = 0; after = p })
-unfolding joinedAt moreBody moreRest
+unfolding moreBody moreRest
 run-alone joins r h t p b eb y g =
     let l : isList joins t ≡ false = sym eb ∙ not-true b y in
     record { size-is = rw l; rest = rw l; further = omega arith; inside = g; small = omega arith }
@@ -132,7 +132,7 @@ run-alone joins r h t p b eb y g =
 module _ (joins : Bool) (r : List ℕ) (h : Shape) (t p q size : ℕ) (inv : RunsOn joins r h t p q size) where
   -- nothing more
   ran : runBody joins t (fieldsAt r h q) ≡ [] → runRest joins t (fieldsAt r h q) ≡ fieldsAt r h q → Ran joins r h t p (record { size = size; after = q })
-  unfolding joinedAt moreBody moreRest
+  unfolding moreBody moreRest
   ran u v =
       let l = inv .listed in
       let z : length (runBody joins t (fieldsAt r h q)) ≡ 0 = ap length u in
@@ -180,7 +180,7 @@ pub ruleset run-turn = (run-start, run-alone, run-done, run-word, run-stop, run-
 
 module _ (joins : Bool) (r : List ℕ) (h : Shape) (p q : ℕ) (inv : houseAt joins r h q ≡ houseAt joins r h p) (e : Place) (en : e ≡ placeAt r h q) where
   pub next-done : e ≡ NoPlace → Next joins r h p Done
-  unfolding Next houseAt inHouseForm
+  unfolding Next inHouseForm
   next-done x = sym inv ∙ ap (inHouseForm joins) (fields-done r h q e en x)
 
   module _ (tag start end next : ℕ) (x : e ≡ PlaceAt tag start end next) where
@@ -195,7 +195,6 @@ module _ (joins : Bool) (r : List ℕ) (h : Shape) (p q : ℕ) (inv : houseAt jo
       empty-there = ap (emptyList joins tag) (body-at r h q e en tag start end next x) ∙ sym eb
 
       pub next-skips : not b ≡ false → houseAt joins r h next ≡ houseAt joins r h p
-      unfolding houseAt
       next-skips y =
           sym (house-empty joins (fieldAs tag (between r start end)) (fieldsAt r h next) (empty-there ∙ not-false b y))
           ∙ sym (ap (inHouseForm joins) (fields-more r h q e en tag start end next x)) ∙ inv
@@ -207,7 +206,7 @@ module _ (joins : Bool) (r : List ℕ) (h : Shape) (p q : ℕ) (inv : houseAt jo
             let i = ran .inside in let s = ran .small in omega (arith, k .body-in)
 
         pub next-found : p ≤ q → length r ≤ 99999 → Next joins r h p (At tag start end (end - start + run .size) next (run .after))
-        unfolding Next houseAt
+        unfolding Next
         next-found f g =
             let k = held r h q e en tag start end next x in
             let s = ran .small in
@@ -216,7 +215,7 @@ module _ (joins : Bool) (r : List ℕ) (h : Shape) (p q : ℕ) (inv : houseAt jo
             record {
               fields = sym inv ∙ ap (inHouseForm joins) (fields-more r h q e en tag start end next x)
                   ∙ house-first joins (fieldAs tag (between r start end)) (fieldsAt r h next) (empty-there ∙ not-true b y)
-                  ∙ (unfold joinedAt in ap (λ (fs : List Field). fieldAs tag (between r start end ++ moreBody joins tag (fieldsAt r h next)) ∷ inHouseForm joins fs) (sym (ran .rest)));
+                  ∙ ap (λ (fs : List Field). fieldAs tag (between r start end ++ moreBody joins tag (fieldsAt r h next)) ∷ inHouseForm joins fs) (sym (ran .rest));
               size-is = sym (length-append (between r start end) (joinedAt joins r h tag next) ∙ ap (λ (m : ℕ). m + length (joinedAt joins r h tag next)) (body-at r h q e en tag start end next x) ∙ ap (λ (m : ℕ). end - start + m) (sym z));
               body-runs = k .body-runs;
               body-in = omega (arith, k .body-in);

@@ -107,7 +107,7 @@ module _ (joins : Bool) (r : List ℕ) (h : Shape) (s : Sum) (e : Summed (houseA
   length-word = let f = e .few in let b = e .small in omega arith
 
   pub length-is : 25 + 14 * s .fields + s .bytes ≡ writtenLength (inHouseForm joins (fieldsAt r h 24))
-  unfolding writtenLength houseAt
+  unfolding writtenLength
   length-is = omega (arith, e .fields-are, e .bytes-are)
 
 pub ruleset length-ways = (length-product, length-head, length-word, length-is)

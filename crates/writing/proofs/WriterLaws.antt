@@ -19,7 +19,7 @@ use Rattle.skeleton.specs.declared.place.Place.{Place}
 use Rattle.skeleton.specs.declared.place.Place.the-variants.{At as PlaceAt, Done as NoPlace}
 use Rattle.skeleton.proofs.PlaceLaws.{held, place-falls, place-runs}
 use Rattle.skeleton.proofs.EmitDigitsLaws.{length-digits}
-use Rattle.skeleton.proofs.EmitFieldsLaws.{length-entries, length-contents, length-emit}
+use Rattle.skeleton.proofs.EmitFieldsLaws.{length-leading, length-entries, length-contents, length-emit}
 use Rattle.rules.specs.Written.{fieldAs, fieldWidth, writtenLength}
 use Rattle.writing.specs.House.{isList, inHouseForm}
 use Rattle.writing.specs.Runs.{goesOn, runBody, moreBody}
@@ -66,13 +66,13 @@ joins-start joins r h t from out at b eb y = record { listed = sym eb ∙ not-fa
 -- a field that is no list is alone
 pub joins-alone : (joins : Bool) (r : List ℕ) (h : Shape) (t from : ℕ) (out : List ℕ) (at : ℕ) (b : Bool) → b ≡ isList joins t → not b ≡ true
     → Wrote at (joinedAt joins r h t from) out at out
-unfolding joinedAt moreBody
+unfolding moreBody
 joins-alone joins r h t from out at b eb y = let l : isList joins t ≡ false = sym eb ∙ not-true b y in rw l (wrote-none at out)
 
 module _ (joins : Bool) (r : List ℕ) (h : Shape) (t from : ℕ) (out₀ : List ℕ) (at : ℕ) (out : List ℕ) (q p : ℕ) (inv : JoinsAt joins r h t from out₀ at out q p) where
   -- nothing more
   joined : runBody joins t (fieldsAt r h q) ≡ [] → Wrote at (joinedAt joins r h t from) out₀ p out
-  unfolding joinedAt moreBody
+  unfolding moreBody
   joined z =
       let l = inv .listed in
       let n : length (runBody joins t (fieldsAt r h q)) ≡ 0 = ap length z in
@@ -81,7 +81,7 @@ module _ (joins : Bool) (r : List ℕ) (h : Shape) (t from : ℕ) (out₀ : List
 
   -- the room that the caller has
   room : at + length (joinedAt joins r h t from) ≤ length out₀ → at + length (runBody joins t (fieldsAt r h from)) ≤ length out₀
-  unfolding joinedAt moreBody
+  unfolding moreBody
   room g = rw (inv .listed) at g
 
   module _ (e : Place) (en : e ≡ placeAt r h q) where
@@ -255,6 +255,9 @@ module _ (fs : List Field) (s : Sum) (e : Summed fs s) where
   pub total-word : 25 + 14 * s .fields + s .bytes < 2 ^ 64
   total-word = let f = e .few in let b = e .small in omega arith
 
+  pub sizes-small : sizes fs ≤ 9999900000
+  sizes-small = let b = e .small in omega (arith, e .bytes-are)
+
   -- the whole record
   pub wrote-record : {at p₁ p₂ p₃ p₄ : ℕ} {o o₁ o₂ o₃ o₄ : List ℕ} (first : Bool)
       → Wrote at (leading fieldWidth fieldWidth first (25 + 14 * s .fields + s .bytes) (25 + 14 * s .fields)) o p₁ o₁
@@ -271,3 +274,54 @@ module _ (fs : List Field) (s : Sum) (e : Summed fs s) where
       ∙ append-assoc l (entries fieldWidth fieldWidth 0 fs) (30 ∷ contents fs))
       (then w₄ (then w₃ (then w₂ w₁))) in
       (w .next ∙ ap (λ (k : ℕ). at + k) (length-emit fieldWidth fieldWidth first fs), w)
+
+-- the room at each write
+module _ (fs : List Field) (at : ℕ) (o : List ℕ) (g : at + writtenLength fs ≤ length o) where
+  all : at + 25 + 14 * length fs + sizes fs ≤ length o
+  unfolding writtenLength
+  all = omega (arith, g)
+
+  pub leader-room : at + 24 ≤ length o
+  leader-room = omega (arith, all)
+
+  module _ (first : Bool) (total base p₁ : ℕ) (o₁ : List ℕ) (w₁ : Wrote at (leading fieldWidth fieldWidth first total base) o p₁ o₁) where
+    pub directory-room-left : p₁ + 14 * length fs ≤ length o₁
+    directory-room-left = omega (arith, all, w₁ .next, wrote-length w₁, length-leading fieldWidth fieldWidth first total base)
+
+    module _ (p₂ : ℕ) (o₂ : List ℕ) (w₂ : Wrote p₁ (entries fieldWidth fieldWidth 0 fs) o₁ p₂ o₂) where
+      pub mark-room-left : p₂ + 1 ≤ length o₂
+      mark-room-left = omega (
+        arith,
+        all,
+        w₁ .next,
+        wrote-length w₁,
+        length-leading fieldWidth fieldWidth first total base,
+        w₂ .next,
+        wrote-length w₂,
+        length-entries fieldWidth fieldWidth 0 fs,
+      )
+
+      pub fields-room-left : (p₃ : ℕ) (o₃ : List ℕ) → Wrote p₂ (30 ∷ []) o₂ p₃ o₃ → p₃ + sizes fs ≤ length o₃
+      fields-room-left p₃ o₃ w₃ = omega (
+        arith,
+        all,
+        w₁ .next,
+        wrote-length w₁,
+        length-leading fieldWidth fieldWidth first total base,
+        w₂ .next,
+        wrote-length w₂,
+        length-entries fieldWidth fieldWidth 0 fs,
+        w₃ .next,
+        wrote-length w₃,
+      )
+
+pub ruleset record-ways = (
+  base-product,
+  base-word,
+  total-word,
+  sizes-small,
+  leader-room,
+  directory-room-left,
+  mark-room-left,
+  fields-room-left,
+)

@@ -17,11 +17,11 @@ use Rattle.writing.specs.declared.joining.Written.the-variants.{At, Done
 use Rattle.writing.specs.declared.measuring.Sum.{Sum}
 
 -- the fields as they are written, from the entry at p on
-unfoldable pub houseAt : Bool → List ℕ → Shape → ℕ → List Field
+abbrev pub houseAt : Bool → List ℕ → Shape → ℕ → List Field
 houseAt joins r h p = inHouseForm joins (fieldsAt r h p)
 
 -- the bodies that join a field of tag t, from the entry at p on
-unfoldable pub joinedAt : Bool → List ℕ → Shape → ℕ → ℕ → List ℕ
+abbrev pub joinedAt : Bool → List ℕ → Shape → ℕ → ℕ → List ℕ
 joinedAt joins r h t p = moreBody joins t (fieldsAt r h p)
 
 -- e is the length of these bodies, and the place of the first entry behind them; each entry has bytes, and each body fewer than 100,000

@@ -74,10 +74,7 @@ fn run_from(r: &[u8], h: Shape, joins: bool, list: u32, p: usize) -> Run
     let mut q = p;
     let mut size = 0;
     if !is_list(joins, list) {
-        return Run {
-            size: 0,
-            after: p,
-        };
+        return Run { size: 0, after: p };
     }
     loop {
         match place_at(r, h, q) {
@@ -89,19 +86,13 @@ fn run_from(r: &[u8], h: Shape, joins: bool, list: u32, p: usize) -> Run
             } => {
                 let n = end - start;
                 if !goes_on(joins, list, tag, n) {
-                    return Run {
-                        size,
-                        after: q,
-                    };
+                    return Run { size, after: q };
                 }
                 size += n;
                 q = next;
             }
             Place::Done => {
-                return Run {
-                    size,
-                    after: q,
-                };
+                return Run { size, after: q };
             }
         }
     }

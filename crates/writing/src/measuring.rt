@@ -40,10 +40,7 @@ pub fn count_written(r: &[u8], h: Shape, joins: bool) -> Sum
                 q = after;
             }
             Written::Done => {
-                return Sum {
-                    fields,
-                    bytes,
-                };
+                return Sum { fields, bytes };
             }
         }
     }

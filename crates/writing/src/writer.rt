@@ -53,7 +53,15 @@ fn put_directory(r: &[u8], h: Shape, joins: bool, out: &mut [u8], at: usize) -> 
 }
 
 // The bodies that join a field with this tag, from the entry at `from` on.
-fn put_joined(r: &[u8], h: Shape, joins: bool, list: u32, from: usize, out: &mut [u8], at: usize) -> usize
+fn put_joined(
+    r: &[u8],
+    h: Shape,
+    joins: bool,
+    list: u32,
+    from: usize,
+    out: &mut [u8],
+    at: usize,
+) -> usize
     requires { ⌜ Bounded h × (at + length (joinedAt joins (now r) h list from) ≤ length (now out)) ⌝ }
     ensures { λ n. ⌜ Wrote at (joinedAt joins (now (r .entry)) h list from) (now (out .entry)) n (now (out .exit)) ⌝ }
 {
@@ -115,7 +123,14 @@ fn put_fields(r: &[u8], h: Shape, joins: bool, out: &mut [u8], at: usize) -> usi
 }
 
 // A record of the slice r; joins: its lists are joined, else its fields are carried as they are; first: it is the first of its file.
-pub fn write_record(r: &[u8], h: Shape, joins: bool, first: bool, out: &mut [u8], at: usize) -> usize
+pub fn write_record(
+    r: &[u8],
+    h: Shape,
+    joins: bool,
+    first: bool,
+    out: &mut [u8],
+    at: usize,
+) -> usize
     requires { ⌜ Bounded h × (length (now r) ≤ 99999) ⌝ }
     requires { ⌜ at + writtenLength (inHouseForm joins (fieldsAt (now r) h 24)) ≤ length (now out) ⌝ }
     ensures { λ n. ⌜ (n ≡ at + writtenLength (inHouseForm joins (fieldsAt (now (r .entry)) h 24))) × Wrote at (emit fieldWidth fieldWidth first (inHouseForm joins (fieldsAt (now (r .entry)) h 24))) (now (out .entry)) n (now (out .exit)) ⌝ }
