@@ -3,3 +3,5 @@ pub mod JoiningLaws
 pub mod MeasuringLaws
 pub mod PartsLaws
 pub mod WriterLaws
+pub mod SameBytesLaws
+pub mod OrderedLaws
