@@ -5,3 +5,5 @@ pub mod PartsLaws
 pub mod WriterLaws
 pub mod SameBytesLaws
 pub mod OrderedLaws
+pub mod PartLaws
+pub mod WrittenLaws

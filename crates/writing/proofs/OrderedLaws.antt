@@ -130,20 +130,40 @@ module _ (ruin coui : ℕ) (controlled : Bool) where
       let b = split out (any INAS) [] (a .place) (a .others) (a .rest) in
       let z = none-left out (b .place) (b .others) (b .rest) in
       record {
-        foids = []; attrs = a .mine; inass = b .mine; coords = []; spass = [];
+        foids = [];
+        attrs = a .mine;
+        inass = b .mine;
+        coords = [];
+        spass = [];
         is = a .is ∙ ap (λ (gs : List Field). a .mine ++ gs) (b .is ∙ ap (λ (gs : List Field). b .mine ++ gs) z);
-        foid-tags = tt; attr-tags = a .tagged; inas-tags = b .tagged; coord-tags = tt; spas-tags = tt;
-        one-foid = omega arith; one-attr = a .few refl; one-coord = λ x. omega arith;
+        foid-tags = tt;
+        attr-tags = a .tagged;
+        inas-tags = b .tagged;
+        coord-tags = tt;
+        spas-tags = tt;
+        one-foid = omega arith;
+        one-attr = a .few refl;
+        one-coord = λ x. omega arith;
       }
   parted Point i fs e =
       let a = split out (any INAS) (needs C2IT ∷ []) i fs e in
       let b = split out (needs C2IT) [] (a .place) (a .others) (a .rest) in
       let z = none-left out (b .place) (b .others) (b .rest) in
       record {
-        foids = []; attrs = []; inass = a .mine; coords = b .mine; spass = [];
+        foids = [];
+        attrs = [];
+        inass = a .mine;
+        coords = b .mine;
+        spass = [];
         is = a .is ∙ ap (λ (gs : List Field). a .mine ++ gs) (b .is ∙ ap (λ (gs : List Field). b .mine ++ gs) z);
-        foid-tags = tt; attr-tags = tt; inas-tags = a .tagged; coord-tags = b .tagged; spas-tags = tt;
-        one-foid = omega arith; one-attr = omega arith; one-coord = λ x. b .few refl;
+        foid-tags = tt;
+        attr-tags = tt;
+        inas-tags = a .tagged;
+        coord-tags = b .tagged;
+        spas-tags = tt;
+        one-foid = omega arith;
+        one-attr = omega arith;
+        one-coord = λ x. b .few refl;
       }
   parted Multi i fs e =
       let a = split out (any INAS) (once COCC ∷ any C2IL ∷ []) i fs e in
@@ -152,11 +172,21 @@ module _ (ruin coui : ℕ) (controlled : Bool) where
       let z = none-left out (c .place) (c .others) (c .rest) in
       let n = no-cocc (b .mine) (b .tagged) (b .allowed) in
       record {
-        foids = []; attrs = []; inass = a .mine; coords = c .mine; spass = [];
+        foids = [];
+        attrs = [];
+        inass = a .mine;
+        coords = c .mine;
+        spass = [];
         is = a .is ∙ ap (λ (gs : List Field). a .mine ++ gs)
             (b .is ∙ ap (λ (gs : List Field). gs ++ b .others) n ∙ c .is ∙ ap (λ (gs : List Field). c .mine ++ gs) z);
-        foid-tags = tt; attr-tags = tt; inas-tags = a .tagged; coord-tags = c .tagged; spas-tags = tt;
-        one-foid = omega arith; one-attr = omega arith; one-coord = λ x. absurd (let z : _≡_ {A = ℕ} 0 1 = cc in omega arith);
+        foid-tags = tt;
+        attr-tags = tt;
+        inas-tags = a .tagged;
+        coord-tags = c .tagged;
+        spas-tags = tt;
+        one-foid = omega arith;
+        one-attr = omega arith;
+        one-coord = λ x. absurd (let z : _≡_ {A = ℕ} 0 1 = cc in omega arith);
       }
   parted Feature i fs e =
       let a = split out (needs FOID) (once ATTR ∷ any INAS ∷ any SPAS ∷ []) i fs e in
@@ -165,9 +195,19 @@ module _ (ruin coui : ℕ) (controlled : Bool) where
       let d = split out (any SPAS) [] (c .place) (c .others) (c .rest) in
       let z = none-left out (d .place) (d .others) (d .rest) in
       record {
-        foids = a .mine; attrs = b .mine; inass = c .mine; coords = []; spass = d .mine;
+        foids = a .mine;
+        attrs = b .mine;
+        inass = c .mine;
+        coords = [];
+        spass = d .mine;
         is = a .is ∙ ap (λ (gs : List Field). a .mine ++ gs) (b .is ∙ ap (λ (gs : List Field). b .mine ++ gs)
             (c .is ∙ ap (λ (gs : List Field). c .mine ++ gs) (d .is ∙ ap (λ (gs : List Field). d .mine ++ gs) z ∙ append-nil (d .mine))));
-        foid-tags = a .tagged; attr-tags = b .tagged; inas-tags = c .tagged; coord-tags = tt; spas-tags = d .tagged;
-        one-foid = a .few refl; one-attr = b .few refl; one-coord = λ x. omega arith;
+        foid-tags = a .tagged;
+        attr-tags = b .tagged;
+        inas-tags = c .tagged;
+        coord-tags = tt;
+        spas-tags = d .tagged;
+        one-foid = a .few refl;
+        one-attr = b .few refl;
+        one-coord = λ x. omega arith;
       }

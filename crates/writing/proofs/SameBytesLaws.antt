@@ -7,7 +7,7 @@ use mathlib.Core.List.{List, [], _∷_, _++_, append-assoc}
 use native.Mathlib.Omega.{arith}
 use lib.Dec.{eqb, leb}
 use lib.ListN.{length, getD, take, drop, take-append-drop}
-use lib.Seq.{take-all, getD-drop}
+use lib.Seq.{take-all}
 use borrow.Author.Tests.{eqb-true, ne-eqb, leb-true}
 use Rattle.base.specs.Choice.{pick, both}
 use Rattle.base.specs.Check.{Check, ok, no}
@@ -25,7 +25,7 @@ use Rattle.fields.specs.declared.Sub.{Sub}
 use Rattle.fields.specs.declared.Sub.the-variants.{B11, B12, B14, Among, Raw, Text, Fixed}
 use Rattle.fields.specs.declared.Format.{Format}
 use Rattle.fields.specs.declared.Format.the-variants.{Irid, IridNew, Prid, PridNew, Mrid, MridNew, Frid, FridNew, Foid, AttrNew, InasNew, Spas, SpasNew, C2it, C2il}
-use Rattle.fields.proofs.ByteLaws.{bytes-drop}
+use Rattle.fields.proofs.ByteLaws.{le1, bytes-drop}
 use Rattle.fields.proofs.SizeLaws.{num-some, sizes-cons}
 use Rattle.fields.proofs.TupleLaws.{First, tuples-end, tuples-ind}
 use Rattle.fields.proofs.FieldLaws.{filled, fill-list, list-fill, fill-head, head-length, head-tuple}
@@ -105,7 +105,7 @@ head-again h b vs g e q =
     ap (puts h) (q ∙ pinned-same h b (length b) n) ∙ puts-values h b (length b) g n ∙ take-all (length b) b (omega arith)
 
 -- the identifier of a record of kind k: RCNM, RCID, the code if there is one, RVER, 1
-pub identVals : Kind → List ℕ → List ℕ
+unfoldable pub identVals : Kind → List ℕ → List ℕ
 identVals k b =
     let id = identOf k b in
     let with-code : List ℕ = rcnm k ∷ id .rcid ∷ id .code ∷ id .rver ∷ 1 ∷ [] in
@@ -168,20 +168,14 @@ unfolding headOf attrTree endingAt
 attr-again b f g e q = tree-again b f g (fill-list (tupleOf AttrNew) b e) q
 
 -- an INAS that is inserted is no other
-new-byte : (l : List ℕ) → le 1 l ≡ 1 → eqb (getD l 0 0) 2 ≡ false
-unfolding le
-new-byte [] e = absurd (omega arith)
-new-byte (x ∷ l) e = ne-eqb x 2 (λ z. omega arith)
-
 inas-new : (b : List ℕ) → fill (headOf InasNew) (tupleOf InasNew) b ≡ true → inasFormat false b ≡ InasNew
 unfolding inasFormat headOf pin pinned values
 inas-new b e =
     let r = filled (headOf InasNew) (tupleOf InasNew) b e in
     let n = head-number (headOf InasNew) (tupleOf InasNew) b e 4 9 1 refl refl in
     let p = pinned-same (headOf InasNew) b (r .bytes) (r .taken) in
-    let one : le 1 (drop 9 b) ≡ 1 = sym (n .1) ∙ sym (ap (λ (vs : List Val). numAt vs 4) p) in
-    let two : eqb (getD b 9 0) 2 ≡ false = ap (λ (x : ℕ). eqb x 2) (sym (getD-drop 9 b 0 0)) ∙ new-byte (drop 9 b) one in
-    rw two
+    let one : getD b 9 0 ≡ 1 = sym (le1 b 9 (n .0)) ∙ sym (n .1) ∙ sym (ap (λ (vs : List Val). numAt vs 4) p) in
+    rw (ne-eqb (getD b 9 0) 2 (λ z. omega arith))
 
 -- the values of the head of an INAS of this format, of which the instruction is insert
 inasVals : Format → List ℕ → List Val
@@ -223,7 +217,7 @@ pub data Lists (t : List Sub) : List (List ℕ) → Type 0 where
   none : Lists t []
   one : {b : List ℕ} {bs : List (List ℕ)} → Bytes b → (tuples t b) .ending ≡ 0 → Lists t bs → Lists t (b ∷ bs)
 
-each-append : {A B : Type 0} (f : A → B) (xs ys : List A) → each f (xs ++ ys) ≡ each f xs ++ each f ys
+pub each-append : {A B : Type 0} (f : A → B) (xs ys : List A) → each f (xs ++ ys) ≡ each f xs ++ each f ys
 unfolding each
 each-append f [] ys = refl
 each-append f (x ∷ xs) ys = ap (λ zs. f x ∷ zs) (each-append f xs ys)
