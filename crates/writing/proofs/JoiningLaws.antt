@@ -114,7 +114,7 @@ pub record RunsOn (joins : Bool) (r : List ℕ) (h : Shape) (t p q size : ℕ) :
   pub rest : runRest joins t (fieldsAt r h q) ≡ runRest joins t (fieldsAt r h p)
   pub further : p ≤ q
   pub inside : q ≤ length r
-  pub small : size + 100000 * p ≤ 100000 * q
+  pub small : size + 16777217 * p ≤ 16777217 * q
 
 pub run-start : (joins : Bool) (r : List ℕ) (h : Shape) (t p : ℕ) (b : Bool) → b ≡ isList joins t → not b ≡ false → p ≤ length r
     → RunsOn joins r h t p p 0
@@ -149,14 +149,14 @@ module _ (joins : Bool) (r : List ℕ) (h : Shape) (t p q size : ℕ) (inv : Run
     run-done x = let n = run-none joins t r h q e en x in ran (n .0) (n .1)
 
     module _ (tag start end next : ℕ) (x : e ≡ PlaceAt tag start end next) where
-      pub run-word : length r ≤ 99999 → size + (end - start) < 2 ^ 64
+      pub run-word : length r ≤ 16777216 → size + (end - start) < 2 ^ 64
       run-word g = let k = held r h q e en tag start end next x in let s = inv .small in let i = inv .inside in omega arith
 
       module _ (b : Bool) (eb : b ≡ goesOn joins t tag (end - start)) where
         pub run-stop : not b ≡ true → Ran joins r h t p (record { size = size; after = q })
         run-stop y = let n = run-ends r h q e en tag start end next x joins t b eb (not-true b y) in ran (n .0) (n .1)
 
-        pub run-again : not b ≡ false → length r ≤ 99999 → RunsOn joins r h t p next (size + (end - start))
+        pub run-again : not b ≡ false → length r ≤ 16777216 → RunsOn joins r h t p next (size + (end - start))
         run-again y g =
             let k = held r h q e en tag start end next x in
             let n = run-more r h q e en tag start end next x joins t b eb (not-false b y) in
@@ -200,12 +200,12 @@ module _ (joins : Bool) (r : List ℕ) (h : Shape) (p q : ℕ) (inv : houseAt jo
           ∙ sym (ap (inHouseForm joins) (fields-more r h q e en tag start end next x)) ∙ inv
 
       module _ (y : not b ≡ true) (run : Run) (ran : Ran joins r h tag next run) where
-        pub next-word : length r ≤ 99999 → end - start + run .size < 2 ^ 64
+        pub next-word : length r ≤ 16777216 → end - start + run .size < 2 ^ 64
         next-word g =
             let k = held r h q e en tag start end next x in
             let i = ran .inside in let s = ran .small in omega (arith, k .body-in)
 
-        pub next-found : p ≤ q → length r ≤ 99999 → Next joins r h p (At tag start end (end - start + run .size) next (run .after))
+        pub next-found : p ≤ q → length r ≤ 16777216 → Next joins r h p (At tag start end (end - start + run .size) next (run .after))
         unfolding Next
         next-found f g =
             let k = held r h q e en tag start end next x in

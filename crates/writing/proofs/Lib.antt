@@ -7,3 +7,4 @@ pub mod SameBytesLaws
 pub mod OrderedLaws
 pub mod PartLaws
 pub mod WrittenLaws
+pub mod BytesLaws

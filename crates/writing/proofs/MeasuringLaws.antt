@@ -33,11 +33,11 @@ module _ (joins : Bool) (r : List ℕ) (h : Shape) (q : ℕ) (e : Written) (en :
     pub found-falls : length r - after < length r - q
     found-falls = let f = found in let i = f .inside in let k = f .further in omega arith
 
-    pub found-size : length r ≤ 99999 → size + 1 ≤ 9999900000
+    pub found-size : length r ≤ 16777216 → size + 1 ≤ 281474993487872
     found-size g = let f = found in let i = f .inside in let s = f .small in omega arith
 
     -- the word that holds its size and its 1E
-    pub found-word : length r ≤ 99999 → size + 1 < 2 ^ 64
+    pub found-word : length r ≤ 16777216 → size + 1 < 2 ^ 64
     found-word g = let s = found-size g in omega arith
 
     -- it is one field more
@@ -56,14 +56,14 @@ pub record CountedAt (joins : Bool) (r : List ℕ) (h : Shape) (q fields bytes :
   pub count : fields + length (houseAt joins r h q) ≡ length (houseAt joins r h 24)
   pub size : bytes + sizes (houseAt joins r h q) ≡ sizes (houseAt joins r h 24)
   pub few : fields + 24 ≤ q
-  pub small : bytes + 100000 * 24 ≤ 100000 * q
+  pub small : bytes + 16777217 * 24 ≤ 16777217 * q
   pub inside : q ≤ length r + 24
 
 pub counted-start : (joins : Bool) (r : List ℕ) (h : Shape) → CountedAt joins r h 24 0 0
 counted-start joins r h = record { count = zero-add _; size = zero-add _; few = omega arith; small = omega arith; inside = omega arith }
 
 module _ (joins : Bool) (r : List ℕ) (h : Shape) (q fields bytes : ℕ) (inv : CountedAt joins r h q fields bytes) (e : Written) (en : Next joins r h q e)
-    (g : length r ≤ 99999) where
+    (g : length r ≤ 16777216) where
   pub counted-done : e ≡ Done → Summed (houseAt joins r h 24) (record { fields = fields; bytes = bytes })
   unfolding sizes
   counted-done x =

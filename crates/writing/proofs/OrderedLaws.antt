@@ -11,6 +11,7 @@ use lib.ListN.{length}
 use Rattle.base.specs.Choice.{pick}
 use Rattle.base.specs.Check.{Check, ok, no, fault, pass, Passed}
 use Rattle.skeleton.specs.File.{Field}
+use Rattle.fields.specs.Valid.{Bytes}
 use Rattle.rules.specs.Tags.{FOID, ATTR, INAS, SPAS, COCC, C2IT, C2IL}
 use Rattle.rules.specs.Kind.{Row, once, needs, any, rowsOf}
 use Rattle.rules.specs.Grammar.{rowsAfter, onRows, inOrder, forbidden}
@@ -27,6 +28,10 @@ Every P (f ∷ fs) = P f × Every P fs
 -- each has this tag
 abbrev pub Tagged : ℕ → List Field → Type 0
 Tagged t fs = Every (λ (f : Field). f .tag ≡ t) fs
+
+-- the bodies are bytes
+abbrev pub BodiesBytes : List Field → Type 0
+BodiesBytes fs = Every (λ (f : Field). Bytes (f .body)) fs
 
 -- a refusal did not pass
 pub not-passed {ℓ} : {X : Type ℓ} {n i j : ℕ} → no (fault n i j) ≡ pass → X

@@ -30,7 +30,7 @@ use Rattle.rules.specs.Content.{formatOf, inasFormat, filled, stands, allStand}
 use Rattle.rules.specs.Trees.{attrTree, inasTree, treeStands, treesStand}
 use Rattle.rules.specs.Record.{foidOf, standing, assocOf}
 use Rattle.rules.specs.Written.{fieldAs, listField, nums, treeBytes, assocField}
-use Rattle.writing.proofs.OrderedLaws.{Every, Tagged, not-passed}
+use Rattle.writing.proofs.OrderedLaws.{Every, Tagged, BodiesBytes, not-passed}
 use Rattle.writing.proofs.SameBytesLaws.{foid-again, attr-again, inas-again, Lists, none, one, point-list}
 
 -- ---- fields that have passed 5 and 6
@@ -59,7 +59,7 @@ in-field i (ok a) e = refl
 in-field i (no x) e = not-passed e
 
 -- all fields after the identifier
-pub all-right : (i j : ℕ) (fs : List Field) → Every (λ (f : Field). Bytes (f .body)) fs → allStand true i fs ≡ pass → treesStand true j fs ≡ pass → Every Right fs
+pub all-right : (i j : ℕ) (fs : List Field) → BodiesBytes fs → allStand true i fs ≡ pass → treesStand true j fs ≡ pass → Every Right fs
 unfolding allStand treesStand
 all-right i j [] g e t = tt
 all-right i j (f ∷ fs) g e t =

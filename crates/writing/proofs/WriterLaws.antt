@@ -144,7 +144,7 @@ module _ (joins : Bool) (r : List ℕ) (h : Shape) (out₀ : List ℕ) (at : ℕ
     pub directory-room : at + 14 * length (houseAt joins r h 24) ≤ length out₀ → p + 14 ≤ length out
     directory-room g = omega (arith, inv .count, inv .long, found-count joins r h q e en tag start end size next after x)
 
-    pub directory-word : sizes (houseAt joins r h 24) ≤ 9999900000 → pos + (size + 1) < 2 ^ 64
+    pub directory-word : sizes (houseAt joins r h 24) ≤ 281474993487872 → pos + (size + 1) < 2 ^ 64
     directory-word g = let b = found-bytes joins r h q e en tag start end size next after x in let s = inv .size in omega arith
 
     -- the entry there, and those behind it
@@ -255,7 +255,7 @@ module _ (fs : List Field) (s : Sum) (e : Summed fs s) where
   pub total-word : 25 + 14 * s .fields + s .bytes < 2 ^ 64
   total-word = let f = e .few in let b = e .small in omega arith
 
-  pub sizes-small : sizes fs ≤ 9999900000
+  pub sizes-small : sizes fs ≤ 281474993487872
   sizes-small = let b = e .small in omega (arith, e .bytes-are)
 
   -- the whole record

@@ -34,7 +34,7 @@ use Rattle.rules.specs.declared.Kind.the-variants.{Info, Point, Multi, Feature}
 use Rattle.rules.specs.declared.Mode.the-variants.{InDataset}
 use Rattle.writing.specs.House.{isList, listBefore, inHouseForm}
 use Rattle.writing.proofs.HouseLaws.{house-plain, house-list}
-use Rattle.writing.proofs.OrderedLaws.{Every, Tagged, not-passed, Parted, parted}
+use Rattle.writing.proofs.OrderedLaws.{Every, Tagged, BodiesBytes, not-passed, Parted, parted}
 use Rattle.writing.proofs.SameBytesLaws.{identVals, ident-again, Lists, coords-again, spatials-again, each-append}
 use Rattle.writing.proofs.PartLaws.{Right, stands-fill, all-right, every-append, foid-part, attr-part, inas-part, coord-lists, point-lists, point-part, spatial-lists}
 
@@ -345,7 +345,7 @@ order-inv k b fs e = bind-inv (inOrder (forbidden InDataset (ruinByte k b) (coui
 -- ---- the law
 
 -- a record of a dataset that has passed 4, 5 and 6
-pub written-passed : (least : ℕ) (fs : List Field) (k : Kind) → Every (λ (f : Field). Bytes (f .body)) fs → number4 InDataset least fs ≡ ok k
+pub written-passed : (least : ℕ) (fs : List Field) (k : Kind) → BodiesBytes fs → number4 InDataset least fs ≡ ok k
     → number5 InDataset k fs ≡ pass → number6 InDataset k fs ≡ pass → writtenFields (recOf k fs) ≡ inHouseForm true fs
 unfolding number4 number5 number6 insertOnly asStored
 written-passed least [] k g e₄ e₅ e₆ = not-kind e₄
@@ -362,7 +362,7 @@ written-passed least (f ∷ fs) k g e₄ e₅ e₆ =
     ∙ sym (house-plain true f fs plain)
 
 -- a record of a dataset that the rules take is written as the house form of its fields
-pub written-house : (least : ℕ) (earlier : List (List ℕ)) (fs : List Field) (r : Rec) → Every (λ (f : Field). Bytes (f .body)) fs
+pub written-house : (least : ℕ) (earlier : List (List ℕ)) (fs : List Field) (r : Rec) → BodiesBytes fs
     → datasetRecord least earlier fs ≡ ok r → writtenFields r ≡ inHouseForm true fs
 unfolding datasetRecord
 written-house least earlier fs r g e =

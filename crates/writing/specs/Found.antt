@@ -24,13 +24,13 @@ houseAt joins r h p = inHouseForm joins (fieldsAt r h p)
 abbrev pub joinedAt : Bool → List ℕ → Shape → ℕ → ℕ → List ℕ
 joinedAt joins r h t p = moreBody joins t (fieldsAt r h p)
 
--- e is the length of these bodies, and the place of the first entry behind them; each entry has bytes, and each body fewer than 100,000
+-- e is the length of these bodies, and the place of the first entry behind them; so small, since each entry has bytes and no body is longer than a file (16,777,216)
 pub record Ran (joins : Bool) (r : List ℕ) (h : Shape) (t p : ℕ) (e : Run) : Type 0 where
   pub size-is : e .size ≡ length (joinedAt joins r h t p)
   pub rest : fieldsAt r h (e .after) ≡ moreRest joins t (fieldsAt r h p)
   pub further : p ≤ e .after
   pub inside : e .after ≤ length r
-  pub small : e .size + 100000 * p ≤ 100000 * e .after
+  pub small : e .size + 16777217 * p ≤ 16777217 * e .after
 
 -- a field that is written is found at p: its first body, those that join it, and those behind it
 pub record Found (joins : Bool) (r : List ℕ) (h : Shape) (p tag start end size next after : ℕ) : Type 0 where
@@ -40,7 +40,7 @@ pub record Found (joins : Bool) (r : List ℕ) (h : Shape) (p tag start end size
   pub body-in : end ≤ length r
   pub further : p < after
   pub inside : after ≤ length r
-  pub small : size + 1 + 100000 * p ≤ 100000 * after
+  pub small : size + 1 + 16777217 * p ≤ 16777217 * after
 
 -- e is the next field that is written, or that there is none
 unfoldable pub Next : Bool → List ℕ → Shape → ℕ → Written → Type 0
@@ -51,5 +51,5 @@ Next joins r h p Done = houseAt joins r h p ≡ []
 pub record Summed (fs : List Field) (e : Sum) : Type 0 where
   pub fields-are : e .fields ≡ length fs
   pub bytes-are : e .bytes ≡ sizes fs
-  pub few : e .fields ≤ 99999
-  pub small : e .bytes ≤ 9999900000
+  pub few : e .fields ≤ 16777216
+  pub small : e .bytes ≤ 281474993487872

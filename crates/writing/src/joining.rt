@@ -68,7 +68,7 @@ pub fn goes_on(joins: bool, list: u32, tag: u32, n: usize) -> bool
 
 // The bodies that join a field, from the entry at p on.
 fn run_from(r: &[u8], h: Shape, joins: bool, list: u32, p: usize) -> Run
-    requires { ⌜ Bounded h × (length (now r) ≤ 99999) × (p ≤ length (now r)) ⌝ }
+    requires { ⌜ Bounded h × (length (now r) ≤ 16777216) × (p ≤ length (now r)) ⌝ }
     ensures { λ e. ⌜ Ran joins (now (r .entry)) h list p e ⌝ }
 {
     let mut q = p;
@@ -100,7 +100,7 @@ fn run_from(r: &[u8], h: Shape, joins: bool, list: u32, p: usize) -> Run
 
 // The first field that is written, from the entry at p on.
 pub fn next_written(r: &[u8], h: Shape, joins: bool, p: usize) -> Written
-    requires { ⌜ Bounded h × (length (now r) ≤ 99999) ⌝ }
+    requires { ⌜ Bounded h × (length (now r) ≤ 16777216) ⌝ }
     ensures { λ e. ⌜ Next joins (now (r .entry)) h p e ⌝ }
 {
     let mut q = p;

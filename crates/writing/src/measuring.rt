@@ -19,7 +19,7 @@ pub struct Sum {
 
 // The fields of a record as they are written, counted.
 pub fn count_written(r: &[u8], h: Shape, joins: bool) -> Sum
-    requires { ⌜ Bounded h × (length (now r) ≤ 99999) ⌝ }
+    requires { ⌜ Bounded h × (length (now r) ≤ 16777216) ⌝ }
     ensures { λ e. ⌜ Summed (houseAt joins (now (r .entry)) h 24) e ⌝ }
 {
     let mut q = 24;
@@ -48,7 +48,7 @@ pub fn count_written(r: &[u8], h: Shape, joins: bool) -> Sum
 
 // The length of a record as it is written; joins: its lists are joined, else its fields are carried as they are.
 pub fn written_length(r: &[u8], h: Shape, joins: bool) -> usize
-    requires { ⌜ Bounded h × (length (now r) ≤ 99999) ⌝ }
+    requires { ⌜ Bounded h × (length (now r) ≤ 16777216) ⌝ }
     ensures { λ n. ⌜ n ≡ writtenLength (inHouseForm joins (fieldsAt (now (r .entry)) h 24)) ⌝ }
 {
     let s = count_written(r, h, joins);

@@ -24,8 +24,8 @@ ghost use Rattle.writing.specs.Found.{houseAt, joinedAt};
 
 // The directory, without the 1E that ends it.
 fn put_directory(r: &[u8], h: Shape, joins: bool, out: &mut [u8], at: usize) -> usize
-    requires { ⌜ Bounded h × (length (now r) ≤ 99999) ⌝ }
-    requires { ⌜ (at + 14 * length (houseAt joins (now r) h 24) ≤ length (now out)) × (sizes (houseAt joins (now r) h 24) ≤ 9999900000) ⌝ }
+    requires { ⌜ Bounded h × (length (now r) ≤ 16777216) ⌝ }
+    requires { ⌜ (at + 14 * length (houseAt joins (now r) h 24) ≤ length (now out)) × (sizes (houseAt joins (now r) h 24) ≤ 281474993487872) ⌝ }
     ensures { λ n. ⌜ Wrote at (entries fieldWidth fieldWidth 0 (houseAt joins (now (r .entry)) h 24)) (now (out .entry)) n (now (out .exit)) ⌝ }
 {
     let mut q = 24;
@@ -94,7 +94,7 @@ fn put_joined(
 
 // The fields, each with its 1E.
 fn put_fields(r: &[u8], h: Shape, joins: bool, out: &mut [u8], at: usize) -> usize
-    requires { ⌜ Bounded h × (length (now r) ≤ 99999) ⌝ }
+    requires { ⌜ Bounded h × (length (now r) ≤ 16777216) ⌝ }
     requires { ⌜ at + sizes (houseAt joins (now r) h 24) ≤ length (now out) ⌝ }
     ensures { λ n. ⌜ Wrote at (contents (houseAt joins (now (r .entry)) h 24)) (now (out .entry)) n (now (out .exit)) ⌝ }
 {
@@ -131,7 +131,7 @@ pub fn write_record(
     out: &mut [u8],
     at: usize,
 ) -> usize
-    requires { ⌜ Bounded h × (length (now r) ≤ 99999) ⌝ }
+    requires { ⌜ Bounded h × (length (now r) ≤ 16777216) ⌝ }
     requires { ⌜ at + writtenLength (inHouseForm joins (fieldsAt (now r) h 24)) ≤ length (now out) ⌝ }
     ensures { λ n. ⌜ (n ≡ at + writtenLength (inHouseForm joins (fieldsAt (now (r .entry)) h 24))) × Wrote at (emit fieldWidth fieldWidth first (inHouseForm joins (fieldsAt (now (r .entry)) h 24))) (now (out .entry)) n (now (out .exit)) ⌝ }
 {
