@@ -11,7 +11,6 @@ use Rattle.skeleton.specs.Emit.{sizes}
 use Rattle.skeleton.specs.Place.{between, fieldsAt}
 use Rattle.skeleton.specs.declared.directory.Shape.{Shape}
 use Rattle.rules.specs.Written.{fieldAs, writtenLength}
-use Rattle.writing.specs.House.{inHouseForm}
 use Rattle.writing.specs.Found.{houseAt, joinedAt, Found, Next, Summed}
 use Rattle.writing.specs.declared.joining.Written.{Written}
 use Rattle.writing.specs.declared.joining.Written.the-variants.{At, Done}
@@ -96,7 +95,8 @@ pub ruleset count-turn = (counted-start, counted-done, counted-word, counted-byt
 
 -- ---- `written_length`
 
-module _ (joins : Bool) (r : List ℕ) (h : Shape) (s : Sum) (e : Summed (houseAt joins r h 24) s) where
+-- the fields fs, counted in s
+module _ (fs : List Field) (s : Sum) (e : Summed fs s) where
   pub length-product : 14 * s .fields < 2 ^ 64
   length-product = let f = e .few in omega arith
 
@@ -106,7 +106,7 @@ module _ (joins : Bool) (r : List ℕ) (h : Shape) (s : Sum) (e : Summed (houseA
   pub length-word : 25 + 14 * s .fields + s .bytes < 2 ^ 64
   length-word = let f = e .few in let b = e .small in omega arith
 
-  pub length-is : 25 + 14 * s .fields + s .bytes ≡ writtenLength (inHouseForm joins (fieldsAt r h 24))
+  pub length-is : 25 + 14 * s .fields + s .bytes ≡ writtenLength fs
   unfolding writtenLength
   length-is = omega (arith, e .fields-are, e .bytes-are)
 

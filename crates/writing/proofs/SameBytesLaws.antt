@@ -3,7 +3,7 @@ use Prim.Native.Nat.{ℕ, zero, suc, _+_, _*_, _≤_, _<_}
 use mathlib.Core.Path.{_≡_, refl, sym, ap, ap₂, _∙_}
 use mathlib.Core.Bool.{Bool, true, false}
 use mathlib.Core.Option.{some}
-use mathlib.Core.List.{List, [], _∷_, _++_, append-assoc}
+use mathlib.Core.List.{List, [], _∷_, _++_}
 use native.Mathlib.Omega.{arith}
 use lib.Dec.{eqb, leb}
 use lib.ListN.{length, getD, take, drop, take-append-drop}
@@ -32,6 +32,7 @@ use Rattle.fields.proofs.FieldLaws.{filled, fill-list, list-fill, fill-head, he
 use Rattle.fields.proofs.ValueLaws.{values-first, head-number}
 use Rattle.fields.proofs.EncodeLaws.{puts-values, put-many}
 use Rattle.fields.proofs.WiderLaws.{format-wider, spas}
+use Rattle.sequence.proofs.Gather.{gather-append}
 use Rattle.forest.specs.Forest.{Forest, Tup, tuplesOf}
 use Rattle.forest.specs.Rule.{treeOf}
 use Rattle.forest.proofs.TreeLaws.{tree-sound}
@@ -221,11 +222,6 @@ pub each-append : {A B : Type 0} (f : A → B) (xs ys : List A) → each f (xs +
 unfolding each
 each-append f [] ys = refl
 each-append f (x ∷ xs) ys = ap (λ zs. f x ∷ zs) (each-append f xs ys)
-
-gather-append : {A B : Type 0} (f : A → List B) (xs ys : List A) → gather f (xs ++ ys) ≡ gather f xs ++ gather f ys
-unfolding gather
-gather-append f [] ys = refl
-gather-append f (x ∷ xs) ys = ap (λ zs. f x ++ zs) (gather-append f xs ys) ∙ sym (append-assoc (f x) (gather f xs) (gather f ys))
 
 -- what is made of each tuple is its values: the lists one after the other are written as their bodies one after the other
 pub lists-again : (t : List Sub) (w : List Val → List Val) → ((l : List ℕ) (n : ℕ) → sizes t l ≡ some n → w (values t l) ≡ values t l)

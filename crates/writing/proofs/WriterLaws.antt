@@ -29,7 +29,7 @@ use Rattle.writing.specs.declared.joining.Written.{Written}
 use Rattle.writing.specs.declared.joining.Written.the-variants.{At, Done}
 use Rattle.writing.specs.declared.measuring.Sum.{Sum}
 use Rattle.writing.proofs.JoiningLaws.{body-at, body-length, run-more, run-ends, run-none}
-use Rattle.writing.proofs.MeasuringLaws.{nothing, found, found-falls, found-word, found-count, found-bytes}
+use Rattle.writing.proofs.MeasuringLaws.{nothing, found, found-falls, found-word, found-count, found-bytes, length-product, length-head, length-word}
 use Rattle.writing.proofs.PartsLaws.{wrote-as}
 
 -- ---- one write of several
@@ -246,15 +246,6 @@ pub ruleset fields-turn = (fields-start, fields-done, fields-runs, fields-in, fi
 
 -- the fields fs, counted in s, in a slice with room for them
 module _ (fs : List Field) (s : Sum) (e : Summed fs s) where
-  pub base-product : 14 * s .fields < 2 ^ 64
-  base-product = let f = e .few in omega arith
-
-  pub base-word : 25 + 14 * s .fields < 2 ^ 64
-  base-word = let f = e .few in omega arith
-
-  pub total-word : 25 + 14 * s .fields + s .bytes < 2 ^ 64
-  total-word = let f = e .few in let b = e .small in omega arith
-
   pub sizes-small : sizes fs ≤ 281474993487872
   sizes-small = let b = e .small in omega (arith, e .bytes-are)
 
@@ -316,9 +307,9 @@ module _ (fs : List Field) (at : ℕ) (o : List ℕ) (g : at + writtenLength fs 
       )
 
 pub ruleset record-ways = (
-  base-product,
-  base-word,
-  total-word,
+  length-product,
+  length-head,
+  length-word,
   sizes-small,
   leader-room,
   directory-room-left,
