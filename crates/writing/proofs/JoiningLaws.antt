@@ -8,19 +8,17 @@ use native.Mathlib.Omega.{arith}
 use borrow.Author.Tests.{eq-eqb, ne-eqb, not-true, not-false}
 use lib.Dec.{eqb}
 use lib.ListN.{length, length-append, length-take, length-drop}
-use Rattle.base.specs.Choice.{pick, both, either}
 use Rattle.skeleton.specs.File.{Field}
 use Rattle.skeleton.specs.Place.{between, placeAt, fieldsAt}
 use Rattle.skeleton.specs.declared.directory.Shape.{Shape}
 use Rattle.skeleton.specs.declared.place.Place.{Place}
 use Rattle.skeleton.specs.declared.place.Place.the-variants.{At as PlaceAt, Done as NoPlace}
-use Rattle.skeleton.proofs.PlaceLaws.{Held, held, place-falls, place-runs, fields-more, fields-done}
+use Rattle.skeleton.proofs.PlaceLaws.{held, place-falls, place-runs, fields-more, fields-done}
 use Rattle.rules.specs.Written.{fieldAs}
 use Rattle.writing.specs.House.{isList, inHouseForm}
 use Rattle.writing.specs.Runs.{emptyList, goesOn, runBody, runRest, moreBody, moreRest}
-use Rattle.writing.specs.Found.{houseAt, joinedAt, Ran, Found, Next}
+use Rattle.writing.specs.Found.{houseAt, joinedAt, Ran, Next}
 use Rattle.writing.specs.declared.joining.Run.{Run}
-use Rattle.writing.specs.declared.joining.Written.{Written}
 use Rattle.writing.specs.declared.joining.Written.the-variants.{At, Done}
 use Rattle.writing.proofs.HouseLaws.{house-empty, house-first}
 

@@ -1,17 +1,16 @@
 -- Laws of the count of the fields that are written. Assumes nothing.
 use Prim.Native.Nat.{ℕ, _+_, _-_, _*_, _^_, _≤_, _<_}
-use mathlib.Core.Path.{_≡_, refl, sym, ap, _∙_}
+use mathlib.Core.Path.{_≡_, sym, ap, _∙_}
 use mathlib.Core.Bool.{Bool}
-use mathlib.Core.List.{List, [], _∷_, _++_}
+use mathlib.Core.List.{List, []}
 use native.Mathlib.Nat.{zero-add}
 use native.Mathlib.Omega.{arith}
 use lib.ListN.{length}
 use Rattle.skeleton.specs.File.{Field}
 use Rattle.skeleton.specs.Emit.{sizes}
-use Rattle.skeleton.specs.Place.{between, fieldsAt}
 use Rattle.skeleton.specs.declared.directory.Shape.{Shape}
-use Rattle.rules.specs.Written.{fieldAs, writtenLength}
-use Rattle.writing.specs.Found.{houseAt, joinedAt, Found, Next, Summed}
+use Rattle.rules.specs.Written.{writtenLength}
+use Rattle.writing.specs.Found.{houseAt, Found, Next, Summed}
 use Rattle.writing.specs.declared.joining.Written.{Written}
 use Rattle.writing.specs.declared.joining.Written.the-variants.{At, Done}
 use Rattle.writing.specs.declared.measuring.Sum.{Sum}

@@ -9,7 +9,7 @@ use borrow.Author.Tests.{eqb-true, eqb-false}
 use lib.Dec.{eqb}
 use lib.ListN.{length}
 use Rattle.base.specs.Choice.{pick}
-use Rattle.base.specs.Check.{Check, ok, no, fault, pass, Passed}
+use Rattle.base.specs.Check.{no, fault, pass}
 use Rattle.skeleton.specs.File.{Field}
 use Rattle.fields.specs.Valid.{Bytes}
 use Rattle.rules.specs.Tags.{FOID, ATTR, INAS, SPAS, COCC, C2IT, C2IL}

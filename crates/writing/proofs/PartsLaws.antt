@@ -1,10 +1,9 @@
 -- Laws of the leader and of the directory's entries as they are written. Assumes nothing.
-use Prim.Native.Nat.{ℕ, zero, suc, _+_, _/_, _%_}
+use Prim.Native.Nat.{ℕ, zero, suc, _/_, _%_}
 use native.Mathlib.Nat.{add-comm}
-use mathlib.Core.Path.{_≡_, refl, sym, ap, ap₂, _∙_, subst}
+use mathlib.Core.Path.{_≡_, refl, ap₂, _∙_, subst}
 use mathlib.Core.Bool.{Bool, true, false}
 use mathlib.Core.List.{List, [], _∷_, _++_, append-assoc}
-use native.Mathlib.Omega.{arith}
 use Rattle.base.specs.Text.{ascii}
 use Rattle.memory.specs.Put.{part}
 use Rattle.memory.specs.Digits.{digits, decimal}
@@ -12,7 +11,7 @@ use Rattle.memory.specs.Wrote.{Wrote}
 use Rattle.memory.proofs.DigitLaws.{decimal-snoc}
 use Rattle.memory.proofs.WroteLaws.{then}
 use Rattle.skeleton.specs.Digits.{inDigits}
-use Rattle.skeleton.specs.Emit.{tagBytes, middle, marks, leading}
+use Rattle.skeleton.specs.Emit.{tagBytes, middle, leading}
 use Rattle.rules.specs.Written.{fieldWidth}
 use Rattle.writing.specs.Parts.{entryBytes, lastOfLeader}
 

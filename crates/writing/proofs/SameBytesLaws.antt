@@ -1,5 +1,5 @@
 -- What is read of a field of a dataset is written as the very bytes that it was read from. Assumes nothing.
-use Prim.Native.Nat.{ℕ, zero, suc, _+_, _*_, _≤_, _<_}
+use Prim.Native.Nat.{ℕ, _≤_, _<_}
 use mathlib.Core.Path.{_≡_, refl, sym, ap, ap₂, _∙_}
 use mathlib.Core.Bool.{Bool, true, false}
 use mathlib.Core.Option.{some}
@@ -9,13 +9,13 @@ use lib.Dec.{eqb, leb}
 use lib.ListN.{length, getD, take, drop, take-append-drop}
 use lib.Seq.{take-all}
 use borrow.Author.Tests.{eqb-true, ne-eqb, leb-true}
-use Rattle.base.specs.Choice.{pick, both}
-use Rattle.base.specs.Check.{Check, ok, no}
+use Rattle.base.specs.Choice.{pick}
+use Rattle.base.specs.Check.{Check, ok}
 use Rattle.base.specs.Lists.{each, gather}
 use Rattle.base.specs.Walk.{Got}
 use Rattle.base.proofs.ChoiceLaws.{both-hold}
 use Rattle.fields.specs.Bytes.{le}
-use Rattle.fields.specs.Sizes.{numSize, size, sizes, inRange}
+use Rattle.fields.specs.Sizes.{size, sizes, inRange}
 use Rattle.fields.specs.Table.{headOf, tupleOf}
 use Rattle.fields.specs.Values.{Val, num, value, values, numAt, puts, putAll}
 use Rattle.fields.specs.Valid.{Bytes}
@@ -24,7 +24,7 @@ use Rattle.fields.specs.Places.{endingAt}
 use Rattle.fields.specs.declared.Sub.{Sub}
 use Rattle.fields.specs.declared.Sub.the-variants.{B11, B12, B14, Among, Raw, Text, Fixed}
 use Rattle.fields.specs.declared.Format.{Format}
-use Rattle.fields.specs.declared.Format.the-variants.{Irid, IridNew, Prid, PridNew, Mrid, MridNew, Frid, FridNew, Foid, AttrNew, InasNew, Spas, SpasNew, C2it, C2il}
+use Rattle.fields.specs.declared.Format.the-variants.{IridNew, PridNew, MridNew, FridNew, Foid, AttrNew, InasNew, Spas, SpasNew, C2it, C2il}
 use Rattle.fields.proofs.ByteLaws.{le1, bytes-drop}
 use Rattle.fields.proofs.SizeLaws.{num-some, sizes-cons}
 use Rattle.fields.proofs.TupleLaws.{First, tuples-end, tuples-ind}
@@ -33,7 +33,7 @@ use Rattle.fields.proofs.ValueLaws.{values-first, head-number}
 use Rattle.fields.proofs.EncodeLaws.{puts-values, put-many}
 use Rattle.fields.proofs.WiderLaws.{format-wider, spas}
 use Rattle.sequence.proofs.Gather.{gather-append}
-use Rattle.forest.specs.Forest.{Forest, Tup, tuplesOf}
+use Rattle.forest.specs.Forest.{Forest, Tup}
 use Rattle.forest.specs.Rule.{treeOf}
 use Rattle.forest.proofs.TreeLaws.{tree-sound}
 use Rattle.rules.specs.Kind.{rcnm, coded}
@@ -41,7 +41,7 @@ use Rattle.rules.specs.Coordinates.{Coord, coordOf, coordsIn}
 use Rattle.rules.specs.Content.{identFormat, inasFormat}
 use Rattle.rules.specs.Trees.{tupOf, attrTree, inasTree}
 use Rattle.rules.specs.Associations.{inasKey, spasKey}
-use Rattle.rules.specs.Record.{identOf, foidOf, standing, Spatial, spatialOf, assocOf}
+use Rattle.rules.specs.Record.{identOf, foidOf, standing, spatialOf, assocOf}
 use Rattle.rules.specs.Written.{nums, tupVals, treeBytes, assocField, fieldAs, coordVals, spatialVals}
 use Rattle.rules.specs.Tags.{INAS}
 use Rattle.rules.specs.declared.Kind.{Kind}

@@ -3,13 +3,13 @@ use Prim.Native.Nat.{ℕ, _+_, _-_, _*_, _^_, _≤_, _<_}
 use mathlib.Core.Path.{_≡_, refl, sym, ap, ap₂, _∙_}
 use mathlib.Core.Bool.{Bool, true, false, not}
 use mathlib.Core.List.{List, [], _∷_, _++_, append-assoc}
-use native.Mathlib.Nat.{zero-add, add-zero}
+use native.Mathlib.Nat.{zero-add}
 use native.Mathlib.Omega.{arith}
 use borrow.Author.Tests.{not-true, not-false}
 use lib.ListN.{length, length-append}
 use Rattle.memory.specs.Put.{part, put}
 use Rattle.memory.specs.Wrote.{Wrote}
-use Rattle.memory.proofs.PutLaws.{put-put, put-nil, length-put}
+use Rattle.memory.proofs.PutLaws.{put-put, put-nil}
 use Rattle.memory.proofs.WroteLaws.{then, wrote-none, wrote-length}
 use Rattle.skeleton.specs.File.{Field}
 use Rattle.skeleton.specs.Emit.{sizes, lengthOf, baseOf, leading, entries, contents, emit}
@@ -20,8 +20,8 @@ use Rattle.skeleton.specs.declared.place.Place.the-variants.{At as PlaceAt, Don
 use Rattle.skeleton.proofs.PlaceLaws.{held, place-falls, place-runs}
 use Rattle.skeleton.proofs.EmitDigitsLaws.{length-digits}
 use Rattle.skeleton.proofs.EmitFieldsLaws.{length-leading, length-entries, length-contents, length-emit}
-use Rattle.rules.specs.Written.{fieldAs, fieldWidth, writtenLength}
-use Rattle.writing.specs.House.{isList, inHouseForm}
+use Rattle.rules.specs.Written.{fieldWidth, writtenLength}
+use Rattle.writing.specs.House.{isList}
 use Rattle.writing.specs.Runs.{goesOn, runBody, moreBody}
 use Rattle.writing.specs.Parts.{entryBytes}
 use Rattle.writing.specs.Found.{houseAt, joinedAt, Found, Next, Summed}

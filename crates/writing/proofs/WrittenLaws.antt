@@ -1,15 +1,15 @@
 -- The written form of a record of a dataset is the house form of its fields. Assumes nothing.
-use Prim.Native.Nat.{ℕ, zero, suc, _+_, _-_, _≤_, _<_}
+use Prim.Native.Nat.{ℕ}
 use mathlib.Core.Path.{_≡_, refl, sym, ap, ap₂, _∙_}
 use mathlib.Core.Bool.{Bool, true, false}
 use mathlib.Core.Option.{Option, some, none}
-use mathlib.Core.List.{List, [], _∷_, _++_, append-nil}
+use mathlib.Core.List.{List, [], _∷_, _++_}
 use native.Mathlib.Omega.{arith}
-use borrow.Author.Tests.{eq-eqb, ne-eqb, eqb-true}
+use borrow.Author.Tests.{eqb-true}
 use lib.Dec.{eqb, ltb}
-use lib.ListN.{length, getD}
-use Rattle.base.specs.Choice.{pick, both, either}
-use Rattle.base.specs.Check.{Check, ok, no, bind, fault, pass}
+use lib.ListN.{getD}
+use Rattle.base.specs.Choice.{pick, both}
+use Rattle.base.specs.Check.{ok, no, bind, fault, pass}
 use Rattle.base.specs.Lists.{each, gather}
 use Rattle.base.specs.Keys.{among}
 use Rattle.base.proofs.CheckLaws.{bind-inv, ok-inj}
@@ -21,164 +21,24 @@ use Rattle.fields.specs.Content.{many, fill}
 use Rattle.fields.specs.declared.Format.the-variants.{Foid, Spas, SpasNew, C2il}
 use Rattle.rules.specs.Tags.{IRID, PRID, MRID, FRID, FOID, ATTR, INAS, SPAS, COCC, C2IT, C2IL}
 use Rattle.rules.specs.ByTag.{withTag, bodyOf, bodies, front, has}
-use Rattle.rules.specs.Kind.{kindOf, tagOf, rank, rowsOf, coded}
-use Rattle.rules.specs.Grammar.{inOrder, forbidden, ruinByte, couiByte, asStored, complete, fieldsStand, onKind, number4}
-use Rattle.rules.specs.Content.{identFormat, insertOnly, stands, allStand, counted, number5}
-use Rattle.rules.specs.Trees.{attrTree, treesStand, number6}
+use Rattle.rules.specs.Kind.{kindOf, tagOf, rank, rowsOf}
+use Rattle.rules.specs.Grammar.{inOrder, forbidden, ruinByte, couiByte, asStored, fieldsStand, onKind, number4}
+use Rattle.rules.specs.Content.{identFormat, insertOnly, stands, allStand, number5}
+use Rattle.rules.specs.Trees.{attrTree, number6}
 use Rattle.rules.specs.Coordinates.{coordsIn}
 use Rattle.rules.specs.Associations.{number7}
-use Rattle.rules.specs.Record.{Rec, identOf, foidOf, standing, assocOf, spatialOf, partsOf, recOf, keyOf, datasetRecord}
+use Rattle.rules.specs.Record.{Rec, foidOf, standing, assocOf, spatialOf, partsOf, recOf, keyOf, datasetRecord}
 use Rattle.rules.specs.Written.{fieldAs, listField, identBytes, nums, treeBytes, assocField, coordVals, spatialVals, coordTag, partFields, writtenFields}
 use Rattle.rules.specs.declared.Kind.{Kind}
 use Rattle.rules.specs.declared.Kind.the-variants.{Info, Point, Multi, Feature}
 use Rattle.rules.specs.declared.Mode.the-variants.{InDataset}
-use Rattle.writing.specs.House.{isList, listBefore, inHouseForm}
-use Rattle.writing.proofs.HouseLaws.{house-plain, house-list}
-use Rattle.writing.proofs.OrderedLaws.{Every, Tagged, BodiesBytes, not-passed, Parted, parted}
+use Rattle.writing.specs.House.{isList, inHouseForm}
+use Rattle.writing.proofs.HouseLaws.{house-plain}
+use Rattle.writing.proofs.OrderedLaws.{Every, Tagged, BodiesBytes, Parted, parted}
 use Rattle.writing.proofs.SameBytesLaws.{identVals, ident-again, Lists, coords-again, spatials-again, each-append}
-use Rattle.writing.proofs.PartLaws.{Right, stands-fill, all-right, every-append, foid-part, attr-part, inas-part, coord-lists, point-lists, point-part, spatial-lists}
-
--- ---- fields by their tags
-
-with-append : (t : ℕ) (xs ys : List Field) → withTag t (xs ++ ys) ≡ withTag t xs ++ withTag t ys
-unfolding withTag
-with-append t [] ys = refl
-with-append t (f ∷ xs) ys = go (eqb (f .tag) t) (with-append t xs ys)
-  where
-    go : (u : Bool) → withTag t (xs ++ ys) ≡ withTag t xs ++ withTag t ys
-        → pick u (f ∷ withTag t (xs ++ ys)) (withTag t (xs ++ ys)) ≡ pick u (f ∷ withTag t xs) (withTag t xs) ++ withTag t ys
-    go true ih = ap (λ (gs : List Field). f ∷ gs) ih
-    go false ih = ih
-
--- fields of one tag are all of that tag, and none of another
-with-tagged : (t u : ℕ) (xs : List Field) → Tagged u xs → withTag t xs ≡ pick (eqb u t) xs []
-unfolding withTag
-with-tagged t u [] h = go (eqb u t)
-  where
-    go : (b : Bool) → _≡_ {A = List Field} [] (pick b [] [])
-    go true = refl
-    go false = refl
-with-tagged t u (f ∷ xs) h = go (eqb u t) (ap (λ (w : ℕ). eqb w t) (h .0)) (with-tagged t u xs (h .1))
-  where
-    go : (b : Bool) → eqb (f .tag) t ≡ b → withTag t xs ≡ pick b xs [] → pick (eqb (f .tag) t) (f ∷ withTag t xs) (withTag t xs) ≡ pick b (f ∷ xs) []
-    go true e ih = rw (e, ih)
-    go false e ih = rw (e, ih)
-
--- the same with others behind them
-with-more : (t u : ℕ) (xs ys : List Field) {zs : List Field} → Tagged u xs → withTag t ys ≡ zs → withTag t (xs ++ ys) ≡ pick (eqb u t) xs [] ++ zs
-with-more t u xs ys h e = with-append t xs ys ∙ ap₂ (λ (a b : List Field). a ++ b) (with-tagged t u xs h) e
-
--- the tag of a kind's coordinates is one of two
-other-coord : (k : Kind) (t : ℕ) → eqb C2IT t ≡ false → eqb C2IL t ≡ false → eqb (coordTag k) t ≡ false
-unfolding coordTag
-other-coord Info t p l = l
-other-coord Point t p l = p
-other-coord Multi t p l = l
-other-coord Feature t p l = l
-
-module _ (k : Kind) (fs : List Field) (p : Parted k fs) where
-  with-parts : (t : ℕ) → withTag t fs ≡ pick (eqb FOID t) (p .foids) [] ++ (pick (eqb ATTR t) (p .attrs) [] ++ (pick (eqb INAS t) (p .inass) []
-      ++ (pick (eqb (coordTag k) t) (p .coords) [] ++ pick (eqb SPAS t) (p .spass) [])))
-  with-parts t =
-      ap (withTag t) (p .is)
-      ∙ with-more t FOID (p .foids) _ (p .foid-tags) (with-more t ATTR (p .attrs) _ (p .attr-tags) (with-more t INAS (p .inass) _ (p .inas-tags)
-      (with-more t (coordTag k) (p .coords) _ (p .coord-tags) (with-tagged t SPAS (p .spass) (p .spas-tags)))))
-
-  pub with-foid : withTag FOID fs ≡ p .foids
-  with-foid = with-parts FOID ∙ rw (other-coord k FOID refl refl) (append-nil (p .foids))
-
-  pub with-attr : withTag ATTR fs ≡ p .attrs
-  with-attr = with-parts ATTR ∙ rw (other-coord k ATTR refl refl) (append-nil (p .attrs))
-
-  pub with-inas : withTag INAS fs ≡ p .inass
-  with-inas = with-parts INAS ∙ rw (other-coord k INAS refl refl) (append-nil (p .inass))
-
-  pub with-spas : withTag SPAS fs ≡ p .spass
-  with-spas = with-parts SPAS ∙ rw (other-coord k SPAS refl refl)
-
--- both tags of coordinates together
-both-coords : (k : Kind) (xs : List Field) → (pick (eqb (coordTag k) C2IT) xs [] ++ []) ++ (pick (eqb (coordTag k) C2IL) xs [] ++ []) ≡ xs
-unfolding coordTag
-both-coords Info xs = append-nil xs
-both-coords Point xs = append-nil (xs ++ []) ∙ append-nil xs
-both-coords Multi xs = append-nil xs
-both-coords Feature xs = append-nil xs
-
-with-coords : (k : Kind) (fs : List Field) (p : Parted k fs) → withTag C2IT fs ++ withTag C2IL fs ≡ p .coords
-with-coords k fs p = ap₂ (λ (x y : List Field). x ++ y) (with-parts k fs p C2IT) (with-parts k fs p C2IL) ∙ both-coords k (p .coords)
-
--- ---- the house form part by part
-
--- fields of a tag that is no list's
-house-plains : (t : ℕ) (xs ys : List Field) → isList true t ≡ false → Tagged t xs → inHouseForm true (xs ++ ys) ≡ xs ++ inHouseForm true ys
-house-plains t [] ys l h = refl
-house-plains t (f ∷ xs) ys l h =
-    house-plain true f (xs ++ ys) (ap (isList true) (h .0) ∙ l) ∙ ap (λ (gs : List Field). f ∷ gs) (house-plains t xs ys l (h .1))
-
--- the first of them, if there is one, has another tag
-abbrev Apart : ℕ → List Field → Type 0
-Apart t [] = Unit {0}
-Apart t (g ∷ gs) = eqb t (g .tag) ≡ false
-
--- a list before a list of the same tag, and others
-list-joins : (t : ℕ) (b c : List ℕ) (gs : List Field) → Apart t gs → listBefore t b (listField t c ++ gs) ≡ listField t (b ++ c) ++ gs
-unfolding listBefore listField
-list-joins t [] c gs a = refl
-list-joins t (x ∷ b) (y ∷ c) gs a = rw (eq-eqb t t refl)
-list-joins t (x ∷ b) [] [] a = ap (λ (l : List ℕ). fieldAs t (x ∷ l) ∷ []) (sym (append-nil b))
-list-joins t (x ∷ b) [] (g ∷ gs) a = rw a (ap (λ (l : List ℕ). fieldAs t (x ∷ l) ∷ g ∷ gs) (sym (append-nil b)))
-
--- lists of one tag are one, and where they are empty none
-house-lists : (t : ℕ) (xs ys : List Field) → isList true t ≡ true → Tagged t xs → Apart t (inHouseForm true ys)
-    → inHouseForm true (xs ++ ys) ≡ listField t (gather bodyOf xs) ++ inHouseForm true ys
-unfolding gather
-house-lists t [] ys l h a = unfold listField in refl
-house-lists t (f ∷ xs) ys l h a =
-    house-list true f (xs ++ ys) (ap (isList true) (h .0) ∙ l)
-    ∙ ap₂ (λ (u : ℕ) (gs : List Field). listBefore u (f .body) gs) (h .0) (house-lists t xs ys l (h .1) a)
-    ∙ list-joins t (f .body) (gather bodyOf xs) (inHouseForm true ys) a
-
-apart-tagged : (t u : ℕ) (xs ys : List Field) → eqb t u ≡ false → Tagged u xs → Apart t ys → Apart t (xs ++ ys)
-apart-tagged t u [] ys n h a = a
-apart-tagged t u (f ∷ xs) ys n h a = ap (eqb t) (h .0) ∙ n
-
-apart-list : (t u : ℕ) (b : List ℕ) (ys : List Field) → eqb t u ≡ false → Apart t ys → Apart t (listField u b ++ ys)
-unfolding listField
-apart-list t u [] ys n a = a
-apart-list t u (x ∷ b) ys n a = n
-
-apart-alone : (t u : ℕ) (b : List ℕ) → eqb t u ≡ false → Apart t (listField u b)
-unfolding listField
-apart-alone t u [] n = tt
-apart-alone t u (x ∷ b) n = n
-
-house-spas : (xs : List Field) → Tagged SPAS xs → inHouseForm true xs ≡ listField SPAS (gather bodyOf xs)
-unfolding isList inHouseForm
-house-spas xs h = ap (inHouseForm true) (sym (append-nil xs)) ∙ house-lists SPAS xs [] refl h tt ∙ append-nil (listField SPAS (gather bodyOf xs))
-
--- a list of coordinates, and what follows it
-house-c2il : (xs ys : List Field) → Tagged C2IL xs → Tagged SPAS ys
-    → inHouseForm true (xs ++ ys) ≡ listField C2IL (gather bodyOf xs) ++ listField SPAS (gather bodyOf ys)
-unfolding isList
-house-c2il xs ys h t =
-    let a : Apart C2IL (inHouseForm true ys) = rw (house-spas ys t) (apart-alone C2IL SPAS (gather bodyOf ys) refl) in
-    house-lists C2IL xs ys refl h a ∙ ap (λ (gs : List Field). listField C2IL (gather bodyOf xs) ++ gs) (house-spas ys t)
-
-house-coords : (k : Kind) (xs ys : List Field) → Tagged (coordTag k) xs → Tagged SPAS ys → Every Right xs → (k ≡ Point → length xs ≤ 1)
-    → inHouseForm true (xs ++ ys) ≡ listField (coordTag k) (gather bodyOf xs) ++ listField SPAS (gather bodyOf ys)
-unfolding coordTag isList
-house-coords Info xs ys h t r o = house-c2il xs ys h t
-house-coords Point xs ys h t r o =
-    house-plains C2IT xs ys refl h ∙ ap₂ (λ (a b : List Field). a ++ b) (point-part xs h r (o refl)) (house-spas ys t)
-house-coords Multi xs ys h t r o = house-c2il xs ys h t
-house-coords Feature xs ys h t r o = house-c2il xs ys h t
-
-attr-coord : (k : Kind) → eqb ATTR (coordTag k) ≡ false
-unfolding coordTag
-attr-coord Info = refl
-attr-coord Point = refl
-attr-coord Multi = refl
-attr-coord Feature = refl
+use Rattle.writing.proofs.RecordPartLaws.{Right, stands-fill, all-right, every-append, foid-part, attr-part, inas-part, coord-lists, point-lists, spatial-lists}
+use Rattle.writing.proofs.TagLaws.{with-foid, with-attr, with-inas, with-spas, with-coords}
+use Rattle.writing.proofs.HousePartLaws.{Apart, house-plains, house-lists, apart-tagged, apart-list, apart-alone, house-coords, attr-coord}
 
 -- ---- both forms of a record in parts
 

@@ -1,13 +1,11 @@
 -- The parts of a record of a dataset that has passed 5 and 6: what is written of each is what was read. Assumes nothing.
 use Prim.Native.Nat.{ℕ, _+_, _≤_, _<_}
 use mathlib.Core.Path.{_≡_, refl, sym, ap, ap₂, _∙_, subst}
-use mathlib.Core.Bool.{Bool, true, false, not}
+use mathlib.Core.Bool.{true, not}
 use mathlib.Core.List.{List, [], _∷_, _++_, append-nil}
 use native.Mathlib.Omega.{arith}
-use lib.Dec.{eqb}
 use lib.ListN.{length, getD}
-use Rattle.base.specs.Choice.{pick}
-use Rattle.base.specs.Check.{Check, ok, no, bind, fault, inField, passed, pass, Passed}
+use Rattle.base.specs.Check.{Check, ok, no, bind, inField, passed, pass, Passed}
 use Rattle.base.specs.Lists.{each, gather, empty}
 use Rattle.base.specs.Walk.{walk, steps}
 use Rattle.base.proofs.CheckLaws.{bind-inv}
@@ -18,7 +16,7 @@ use Rattle.fields.specs.Valid.{Bytes}
 use Rattle.fields.specs.Content.{tuples, tupleStep, many, tallyField, fill}
 use Rattle.fields.specs.Places.{endingAt}
 use Rattle.fields.specs.declared.Format.{Format}
-use Rattle.fields.specs.declared.Format.the-variants.{Foid, AttrNew, InasNew, SpasNew, C2it, C2il}
+use Rattle.fields.specs.declared.Format.the-variants.{Foid, SpasNew, C2il}
 use Rattle.fields.specs.declared.Tally.{Tally}
 use Rattle.fields.specs.declared.Tally.the-variants.{Whole, Short}
 use Rattle.fields.proofs.FieldLaws.{count-fill, fill-list, head-length}
