@@ -5,8 +5,8 @@ pub mod PartsLaws
 pub mod WriterLaws
 pub mod SameBytesLaws
 pub mod OrderedLaws
+pub mod BytesLaws
 pub mod RecordPartLaws
 pub mod TagLaws
 pub mod HousePartLaws
 pub mod WrittenLaws
-pub mod BytesLaws

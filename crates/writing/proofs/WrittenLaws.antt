@@ -14,6 +14,8 @@ use Rattle.base.specs.Lists.{each, gather}
 use Rattle.base.specs.Keys.{among}
 use Rattle.base.proofs.CheckLaws.{bind-inv, ok-inj}
 use Rattle.skeleton.specs.File.{Field}
+use Rattle.skeleton.specs.Place.{fieldsAt}
+use Rattle.skeleton.specs.declared.directory.Shape.{Shape}
 use Rattle.fields.specs.Table.{headOf, tupleOf}
 use Rattle.fields.specs.Values.{puts, putAll}
 use Rattle.fields.specs.Valid.{Bytes}
@@ -37,6 +39,7 @@ use Rattle.writing.proofs.HouseLaws.{house-plain}
 use Rattle.writing.proofs.OrderedLaws.{Every, Tagged, BodiesBytes, Parted, parted}
 use Rattle.writing.proofs.SameBytesLaws.{identVals, ident-again, Lists, coords-again, spatials-again, each-append}
 use Rattle.writing.proofs.RecordPartLaws.{Right, stands-fill, all-right, every-append, foid-part, attr-part, inas-part, coord-lists, point-lists, spatial-lists}
+use Rattle.writing.proofs.BytesLaws.{bytes-fields}
 use Rattle.writing.proofs.TagLaws.{with-foid, with-attr, with-inas, with-spas, with-coords}
 use Rattle.writing.proofs.HousePartLaws.{Apart, house-plains, house-lists, apart-tagged, apart-list, apart-alone, house-coords, attr-coord}
 
@@ -235,3 +238,8 @@ written-house least earlier fs r g e =
     go : (t : Bool) (s : Rec) → pick t (no (fault 7 1 0)) (bind (number7 fs) (λ _. ok s)) ≡ ok r → s ≡ r
     go true s x = absurd (let z : _≡_ {A = ℕ} 0 1 = cc in omega arith)
     go false s x = let d = bind-inv (number7 fs) (λ _. ok s) r x in ok-inj s r (d .2)
+
+-- the same of the fields of a record's bytes
+pub written-slice : (r : List ℕ) (h : Shape) (least : ℕ) (earlier : List (List ℕ)) (x : Rec) → Bytes r → datasetRecord least earlier (fieldsAt r h 24) ≡ ok x
+    → inHouseForm true (fieldsAt r h 24) ≡ writtenFields x
+written-slice r h least earlier x g e = sym (written-house least earlier (fieldsAt r h 24) x (bytes-fields r h 24 g) e)
