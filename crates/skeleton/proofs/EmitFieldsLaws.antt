@@ -23,17 +23,20 @@ use Rattle.skeleton.proofs.OffsetLaws.{byte-off, drop-off, length-off, 
 
 -- ---- lengths
 
-length-entries : (a b pos : ℕ) (fs : List Field) → length (entries a b pos fs) ≡ (4 + a + b) * length fs
+-- so many bytes are the entries
+pub length-entries : (a b pos : ℕ) (fs : List Field) → length (entries a b pos fs) ≡ (4 + a + b) * length fs
 unfolding entries
 length-entries a b pos [] = omega arith
 length-entries a b pos (f ∷ fs) = simp (length-append, length-digits, length-entries a b (pos + size f) fs) (omega arith)
 
-length-contents : (fs : List Field) → length (contents fs) ≡ sizes fs
+-- and so many the fields
+pub length-contents : (fs : List Field) → length (contents fs) ≡ sizes fs
 unfolding contents sizes
 length-contents [] = refl
 length-contents (f ∷ fs) = simp (length-append, length-contents fs) (omega arith)
 
-length-leading : (a b : ℕ) (first : Bool) (len base : ℕ) → length (leading a b first len base) ≡ 24
+-- the leader has 24 bytes
+pub length-leading : (a b : ℕ) (first : Bool) (len base : ℕ) → length (leading a b first len base) ≡ 24
 unfolding leading
 length-leading a b true len base = simp (length-append, length-digits)
 length-leading a b false len base = simp (length-append, length-digits)

@@ -1,0 +1,12 @@
+pub mod HouseLaws
+pub mod JoiningLaws
+pub mod MeasuringLaws
+pub mod PartsLaws
+pub mod WriterLaws
+pub mod SameBytesLaws
+pub mod OrderedLaws
+pub mod BytesLaws
+pub mod RecordPartLaws
+pub mod TagLaws
+pub mod HousePartLaws
+pub mod WrittenLaws

@@ -1,0 +1,45 @@
+use Rattle.writing.proofs.PartsLaws.{last-first, last-other}
+use native.Mathlib.Omega.{arith}
+use borrow.Author.Needs.{needs}
+use Rattle.writing.proofs.parts.put_last.Statement.{statement}
+use Rattle.writing.proofs.parts.put_last.Tie as tie
+use Rattle.writing.proofs.parts.put_last.Reads as reads
+use Rattle.writing.proofs.parts.put_last.Lts as lts
+use Rattle.memory.proofs.put_part.Reads as put-part-reads
+
+slice-aggregate-put-part : tie.Need-slice-aggregate-put-part
+slice-aggregate-put-part c = search needs
+
+put-part-requires : tie.Need-put-part-requires
+put-part-requires c κs = search needs
+
+same-length : tie.Need-same-length
+same-length c = search needs
+
+returns : tie.Need-returns
+returns c = search (last-first, arith)
+
+slice-aggregate-put-part-2 : tie.Need-slice-aggregate-put-part-2
+slice-aggregate-put-part-2 c = search needs
+
+put-part-requires-2 : tie.Need-put-part-requires-2
+put-part-requires-2 c κs = search needs
+
+same-length-2 : tie.Need-same-length-2
+same-length-2 c = search needs
+
+returns-2 : tie.Need-returns-2
+returns-2 c = search (last-other, arith)
+
+pub put-last-spec : {M : Type 1} → statement M
+put-last-spec =
+    tie.close
+    (tie.spec
+    slice-aggregate-put-part
+    put-part-requires
+    same-length
+    returns
+    slice-aggregate-put-part-2
+    put-part-requires-2
+    same-length-2
+    returns-2)

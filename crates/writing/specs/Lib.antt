@@ -1,0 +1,4 @@
+pub mod House
+pub mod Runs
+pub mod Parts
+pub mod Found
