@@ -1,15 +1,14 @@
 -- Laws of number 11 of a dataset, record after record. Assumes nothing.
 use mathlib.Core.Path.{_≡_, refl, sym, ap, ap₂, _∙_}
 use mathlib.Core.List.{List, []}
-use mathlib.Core.Bool.{Bool, true}
+use mathlib.Core.Bool.{true}
 use Prim.Native.Nat.{ℕ, _+_, _-_, _^_, _≤_, _<_}
 use native.Mathlib.Omega.{arith}
 use lib.ListN.{length, drop, replicate}
-use Rattle.base.specs.Check.{ok, no, fault, Passed, pass}
-use Rattle.base.specs.Choice.{both}
+use Rattle.base.specs.Check.{ok, no, Passed}
 use Rattle.base.specs.Lists.{each}
 use Rattle.base.specs.Verdict.{verdictOf}
-use Rattle.base.specs.Walk.{Got, before}
+use Rattle.base.specs.Walk.{Got}
 use Rattle.base.specs.declared.Fault.{Fault}
 use Rattle.base.specs.declared.Verdict.{Verdict}
 use Rattle.base.specs.declared.Verdict.the-variants.{Passed as Through, Refused}
@@ -25,7 +24,7 @@ use Rattle.skeleton.proofs.FileLaws.{records-more}
 use Rattle.skeleton.proofs.AgainLaws.{again, again-not, records-some}
 use Rattle.rules.specs.Associations.{marks, number11}
 use Rattle.rules.specs.Record.{Rec, keyOf}
-use Rattle.rules.specs.Outcome.{Outcome, done, refused}
+use Rattle.rules.specs.Outcome.{done}
 use Rattle.rules.specs.File.{references}
 use Rattle.contents.proofs.VerdictLaws.{says-pass}
 use Rattle.keys.specs.Listed.{keysFrom}

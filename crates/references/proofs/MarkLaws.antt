@@ -5,7 +5,7 @@ use mathlib.Core.Bool.{Bool, true, false}
 use Prim.Native.Nat.{ℕ}
 use lib.ListN.{take}
 use Rattle.base.specs.Choice.{pick}
-use Rattle.base.specs.Check.{Check, ok, no, bind, fault, Passed, pass}
+use Rattle.base.specs.Check.{no, bind, fault}
 use Rattle.base.specs.Keys.{among}
 use Rattle.base.specs.Lists.{each}
 use Rattle.base.specs.Verdict.{verdictOf}

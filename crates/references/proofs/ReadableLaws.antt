@@ -1,15 +1,15 @@
 -- In a dataset that has passed 1 to 7 every reference can be read. Assumes nothing.
-use mathlib.Core.Path.{_≡_, refl, sym, ap, _∙_}
+use mathlib.Core.Path.{_≡_, refl, sym, _∙_}
 use mathlib.Core.List.{List, [], _∷_, _++_}
 use mathlib.Core.Bool.{Bool, true, false}
-use Prim.Native.Nat.{ℕ, _+_, _≤_, _<_}
+use Prim.Native.Nat.{ℕ, _+_, _≤_}
 use native.Mathlib.Omega.{arith}
-use borrow.Author.Tests.{eq-eqb, ne-eqb, eqb-true, eqb-false}
+use borrow.Author.Tests.{eq-eqb, ne-eqb, eqb-true}
 use lib.Dec.{eqb}
-use Rattle.base.specs.Choice.{pick, both}
-use Rattle.base.specs.Check.{Check, ok, no, bind}
+use Rattle.base.specs.Choice.{pick}
+use Rattle.base.specs.Check.{ok}
 use Rattle.base.specs.Lists.{each}
-use Rattle.base.specs.Walk.{Got, before}
+use Rattle.base.specs.Walk.{Got}
 use Rattle.base.proofs.CheckLaws.{bind-inv}
 use Rattle.base.proofs.ChoiceLaws.{both-hold}
 use Rattle.fields.specs.Table.{headOf, tupleOf}
@@ -28,7 +28,7 @@ use Rattle.rules.specs.Kind.{tagOf}
 use Rattle.rules.specs.Grammar.{asStored, number4}
 use Rattle.rules.specs.Content.{inasFormat, formatOf, number5}
 use Rattle.rules.specs.Record.{Rec, keyOf, datasetRecord}
-use Rattle.rules.specs.Outcome.{Outcome, done, andThen, at}
+use Rattle.rules.specs.Outcome.{done, at}
 use Rattle.rules.specs.File.{lastRank, datasetTest, through, taken}
 use Rattle.rules.specs.declared.Kind.{Kind}
 use Rattle.rules.specs.declared.Kind.the-variants.{Info, Point, Multi, Feature}

@@ -1,13 +1,11 @@
 -- Laws of the references of one record: tuple by tuple, field by field. Assumes nothing.
-use mathlib.Core.Path.{_≡_, refl, sym, ap, _∙_}
+use mathlib.Core.Path.{_≡_, ap, _∙_}
 use mathlib.Core.List.{List, [], _∷_, _++_}
 use mathlib.Core.Bool.{Bool, true, false, not}
 use Prim.Native.Nat.{ℕ, _+_, _-_, _^_, _≤_, _<_}
 use native.Mathlib.Omega.{arith}
 use borrow.Author.Tests.{eq-eqb, ne-eqb, not-true, not-false}
 use lib.ListN.{length, take, drop, length-take, length-drop}
-use lib.Dec.{eqb}
-use Rattle.base.specs.Choice.{pick}
 use Rattle.base.specs.Walk.{Got}
 use Rattle.base.specs.declared.Verdict.{Verdict}
 use Rattle.base.specs.declared.Verdict.the-variants.{Passed as Through, Refused}
