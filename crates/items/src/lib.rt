@@ -1,0 +1,1 @@
+// The working form of a record's attributes in lent memory.
