@@ -1,0 +1,1 @@
+// Associations in lent memory, as references to their bytes.
