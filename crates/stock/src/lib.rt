@@ -1,0 +1,1 @@
+// The records of a dataset as a walk over its bytes finds them: laws only.
