@@ -1,1 +1,2 @@
 pub mod StockLaws
+pub mod FilledLaws
