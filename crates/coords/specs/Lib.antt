@@ -1,0 +1,2 @@
+pub mod Tuples
+pub mod Placing
