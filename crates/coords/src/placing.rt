@@ -24,8 +24,8 @@ pub enum Placed {
 
 // The tuples of all C2IL fields (0x4332494c) of the record r are put before number i, from 0, of the n in l; how many there are then.
 pub fn put_sent(r: &[u8], h: Shape, l: &mut [u8], n: usize, i: usize) -> usize
-    requires { ⌜ Bounded h × EvenLists (fieldsAt (now r) h 24) × (8 * n + sizes (fieldsAt (now r) h 24) ≤ length (now l)) × (i ≤ n) ⌝ }
-    ensures { λ m. ⌜ (8 * m ≤ length (now (l .entry)))
+    requires { ⌜ Bounded h × EvenLists (fieldsAt (now r) h 24) × (8 * n + sizes (fieldsAt (now r) h 24) ≤ length (now l)) × (i ≤ n) × (length (now l) < 524288) ⌝ }
+    ensures { λ m. ⌜ (8 * m ≤ length (now (l .exit)))
         × (tuplesOf (now (l .exit)) m ≡ take i (tuplesOf (now (l .entry)) n) ++ (sent (fieldsAt (now (r .entry)) h 24) ++ drop i (tuplesOf (now (l .entry)) n))) ⌝ }
 {
     let mut q = 24;
@@ -62,7 +62,7 @@ pub fn place_tuples(
     l: &mut [u8],
     n: usize,
 ) -> Placed
-    requires { ⌜ Bounded h × EvenLists (fieldsAt (now r) h 24) × (8 * n + sizes (fieldsAt (now r) h 24) ≤ length (now l)) × (0 < index) × (index < 65536) × (count < 65536) ⌝ }
+    requires { ⌜ Bounded h × EvenLists (fieldsAt (now r) h 24) × (8 * n + sizes (fieldsAt (now r) h 24) ≤ length (now l)) × (length (now l) < 524288) × (0 < index) × (index < 65536) × (count < 65536) ⌝ }
     ensures { λ e. ⌜ PlacedAs (placed (record { instruction = instruction; index = index; count = count }) (sent (fieldsAt (now (r .entry)) h 24)) (tuplesOf (now (l .entry)) n)) (now (l .exit)) e ⌝ }
 {
     let i = index - 1;
