@@ -1,21 +1,18 @@
 -- Laws of a body that joins those in cells, or leaves them. Assumes nothing.
 use Prim.Native.Nat.{ℕ, suc, _+_, _-_, _*_, _≤_, _<_}
-use mathlib.Core.Path.{_≡_, refl, sym, ap, _∙_}
-use mathlib.Core.Bool.{Bool, true, false}
+use mathlib.Core.Path.{_≡_, sym, ap, _∙_}
+use mathlib.Core.Bool.{Bool}
 use mathlib.Core.List.{List, [], _∷_, _++_}
 use native.Mathlib.Omega.{arith}
 use lib.ListN.{length, take, drop}
 use Rattle.memory.specs.Splice.{splicedIn}
-use Rattle.base.specs.Choice.{pick}
-use Rattle.base.specs.Check.{Check, ok, bind, refuse}
-use Rattle.base.specs.Keys.{same, among, join, leave}
-use Rattle.base.specs.Lists.{each}
+use Rattle.base.specs.Check.{ok}
+use Rattle.base.specs.Keys.{join, leave}
 use Rattle.skeleton.specs.Place.{between}
 use Rattle.items.specs.Items.{source}
 use Rattle.cells.specs.Cells.{bodiesOf}
-use Rattle.cells.specs.Keys.{keyIn, keySize, firstWith, Every, Long}
+use Rattle.cells.specs.Keys.{keyIn, keySize, firstWith}
 use Rattle.cells.specs.Acts.{Acts}
-use Rattle.cells.specs.declared.acting.Acted.{Acted}
 use Rattle.cells.specs.declared.acting.Acted.the-variants.{Refused, Now}
 use Rattle.cells.proofs.CellLaws.{length-bodies, bodies-closed}
 use Rattle.cells.proofs.KeyLaws.{key-part}

@@ -5,18 +5,21 @@ use mathlib.Core.Bool.{Bool, true, false}
 use mathlib.Core.List.{List, [], _∷_, _++_}
 use native.Mathlib.Nat.{zero-add, sub-zero}
 use native.Mathlib.Omega.{arith}
-use lib.ListN.{length, getD, take, drop, length-take, length-drop}
+use lib.ListN.{length, take, drop, length-take, length-drop, List·getD-eq-default}
+use lib.Seq.{getD-take}
 use lib.Dec.{eqb}
 use borrow.Author.Tests.{eq-eqb, ne-eqb}
 use Rattle.base.specs.Choice.{pick}
-use Rattle.base.specs.Check.{Check, ok, bind, refuse}
-use Rattle.base.specs.Keys.{same, among, join, leave}
+use Rattle.base.specs.Check.{ok, bind, refuse}
+use Rattle.base.specs.Keys.{same, among, leave}
 use Rattle.base.specs.Lists.{each}
+use Rattle.fields.specs.Valid.{Bytes}
+use Rattle.fields.proofs.ByteLaws.{bytes-drop}
 use Rattle.fields.proofs.TupleLaws.{split}
 use Rattle.items.specs.Items.{source}
-use Rattle.cells.specs.Cells.{u24, startOf, sliceOf, sizeOf, bodyAt, bodiesFrom, bodiesOf}
+use Rattle.cells.specs.Cells.{u24, startOf, sliceOf, sizeOf, bodyAt, bodiesFrom}
 use Rattle.cells.specs.Keys.{keyIn, keySize, firstWith, Every, Long}
-use Rattle.cells.proofs.CellLaws.{length-bodies, bodies-more}
+use Rattle.cells.proofs.CellLaws.{bodies-more}
 use Rattle.cells.proofs.KeyLaws.{key-part, key-least, same-comm}
 
 -- ---- each of some bodies
@@ -35,6 +38,27 @@ every-append P (x ∷ xs) ys p q = (p .0, every-append P xs ys (p .1) q)
 pub every-map : (P Q : List ℕ → Type 0) → ((b : List ℕ) → P b → Q b) → (bs : List (List ℕ)) → Every P bs → Every Q bs
 every-map P Q f [] p = tt
 every-map P Q f (b ∷ bs) p = (f b (p .0), every-map P Q f bs (p .1))
+
+-- the bodies are bytes, as the slices are
+bytes-take : (n : ℕ) (l : List ℕ) → Bytes l → Bytes (take n l)
+bytes-take n l h k =
+    split (suc k) n (λ g. rw (getD-take n l k 0 g) (h k))
+    (λ g. rw (List·getD-eq-default (take n l) 0 {n = k} (omega (arith, length-take n l))) (omega arith))
+
+bytes-source : (x : ℕ) (d u : List ℕ) → Bytes d → Bytes u → Bytes (source x d u)
+unfolding source
+bytes-source x d u p q = go (eqb x 0)
+  where
+    go : (t : Bool) → Bytes (pick t d u)
+    go true = p
+    go false = q
+
+pub bodies-bytes : (d u c : List ℕ) → Bytes d → Bytes u → (m i : ℕ) → Every Bytes (bodiesFrom d u c i m)
+unfolding bodiesFrom bodyAt
+bodies-bytes d u c p q zero i = tt
+bodies-bytes d u c p q (suc m) i =
+    let src : List ℕ = source (sliceOf c i) d u in
+    (bytes-take (startOf c i + sizeOf c i - startOf c i) (drop (startOf c i) src) (bytes-drop src (startOf c i) (bytes-source (sliceOf c i) d u p q)), bodies-bytes d u c p q m (i + 1))
 
 -- ---- the key of the body of a cell, in the slice that it names
 

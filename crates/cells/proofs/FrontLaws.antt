@@ -2,22 +2,22 @@
 -- Assumes nothing.
 use Prim.Native.Nat.{ℕ, zero, suc, _+_, _-_, _≤_, _<_}
 use mathlib.Core.Path.{_≡_, refl, sym, ap, ap₂, _∙_}
-use mathlib.Core.Bool.{Bool, true}
-use mathlib.Core.Option.{Option, some}
+use mathlib.Core.Bool.{true}
+use mathlib.Core.Option.{some}
 use mathlib.Core.List.{List, [], _∷_, _++_}
 use native.Mathlib.Nat.{sub-zero, zero-sub, suc-sub-suc}
 use native.Mathlib.Omega.{arith}
-use borrow.Author.Tests.{le-leb, eqb-true}
-use lib.ListN.{length, getD, take, drop, length-take, length-drop}
+use borrow.Author.Tests.{le-leb}
+use lib.ListN.{length, take, drop, length-take, length-drop}
 use lib.Seq.{take-nil}
 use Rattle.base.specs.Walk.{Got, before}
 use Rattle.base.proofs.ChoiceLaws.{both-hold}
 use Rattle.fields.specs.Bytes.{le}
 use Rattle.fields.specs.Table.{link, insert}
 use Rattle.fields.specs.Sizes.{inRange, numSize, size, sizes}
-use Rattle.fields.specs.Values.{Val, num, value, values, numOf, numAt, width}
+use Rattle.fields.specs.Values.{Val, num, value, values, numAt, width}
 use Rattle.fields.specs.Valid.{allows}
-use Rattle.fields.specs.Content.{tuples, fill}
+use Rattle.fields.specs.Content.{fill}
 use Rattle.fields.specs.Places.{endingAt}
 use Rattle.fields.specs.declared.Sub.{Sub}
 use Rattle.fields.proofs.SizeLaws.{isNum, allNum, some-inj, num-size, num-some, sizes-cons, sizes-join}

@@ -1,15 +1,15 @@
 -- Laws of INAS fields in cells. Assumes nothing.
-use Prim.Native.Nat.{ℕ, _+_, _-_, _*_, _≤_, _<_}
-use mathlib.Core.Path.{_≡_, refl, sym, ap, _∙_}
-use mathlib.Core.Bool.{Bool, true, false, not}
-use mathlib.Core.List.{List, [], _∷_, _++_}
+use Prim.Native.Nat.{ℕ, _+_, _-_, _≤_, _<_}
+use mathlib.Core.Path.{_≡_, refl, sym, _∙_}
+use mathlib.Core.Bool.{Bool, true, false}
+use mathlib.Core.List.{List, [], _∷_}
 use native.Mathlib.Omega.{arith}
 use borrow.Author.Tests.{eq-eqb, ne-eqb}
-use lib.ListN.{length, getD, take, drop, length-take, length-drop}
+use lib.ListN.{length, getD, drop, length-take, length-drop}
 use lib.Seq.{getD-take, getD-drop}
 use lib.Dec.{eqb}
 use Rattle.base.specs.Choice.{pick, both}
-use Rattle.base.specs.Check.{Check, ok, bind, refuse}
+use Rattle.base.specs.Check.{ok, bind}
 use Rattle.base.specs.Keys.{join, leave}
 use Rattle.base.specs.Lists.{each}
 use Rattle.skeleton.specs.Place.{between}
@@ -22,15 +22,15 @@ use Rattle.fields.specs.declared.Format.the-variants.{InasNew, InasGone}
 use Rattle.fields.proofs.ValueLaws.{isNumber, lies, head-number}
 use Rattle.rules.specs.Content.{inasFormat}
 use Rattle.rules.specs.Associations.{inasKey}
-use Rattle.rules.specs.Record.{Assoc, assocOf}
+use Rattle.rules.specs.Record.{assocOf}
 use Rattle.rules.specs.Modify.{assocKey, actInas}
 use Rattle.cells.specs.Cells.{bodiesOf}
-use Rattle.cells.specs.Keys.{keyIn, keySize, Every, Long, InasBody}
-use Rattle.cells.specs.Acts.{actOn, Acts, InasNow, InasActs}
+use Rattle.cells.specs.Keys.{keyIn, Every, Long, InasBody}
+use Rattle.cells.specs.Acts.{actOn, Acts, InasActs}
 use Rattle.cells.specs.declared.acting.Acted.{Acted}
 use Rattle.cells.specs.declared.acting.Acted.the-variants.{Refused, Now}
 use Rattle.cells.proofs.FindLaws.{every-map}
-use Rattle.cells.proofs.LiftLaws.{join-key, leave-key, join-each, leave-each}
+use Rattle.cells.proofs.LiftLaws.{joins-by, leaves-by, act-each}
 
 -- ---- the key of an INAS, inserted or deleted
 
@@ -86,13 +86,8 @@ stored-long bs p = every-map InasBody (Long 9) (λ b e. omega (arith, inas-bytes
 
 acts-each : (b : List ℕ) (bs : List (List ℕ))
     → actInas b (each assocOf bs) ≡ bind (actOn inasKey (eqb (getD b 9 0) 1) 0 b bs) (λ ys. ok (each assocOf ys))
-unfolding actInas actOn assocOf
-acts-each b bs = go (eqb (getD b 9 0) 1)
-  where
-    go : (t : Bool) → pick t (join assocKey 0 (assocOf b) (each assocOf bs)) (leave assocKey 0 (inasKey b) (each assocOf bs))
-        ≡ bind (pick t (join inasKey 0 b bs) (leave inasKey 0 (inasKey b) bs)) (λ ys. ok (each assocOf ys))
-    go true = join-each assocOf assocKey 0 b bs
-    go false = leave-each assocOf assocKey 0 (inasKey b) bs
+unfolding actInas assocOf
+acts-each b bs = act-each assocOf assocKey 0 (eqb (getD b 9 0) 1) b bs
 
 -- the code's answer for the bodies is that for what they say
 answered : (b : List ℕ) (bs : List (List ℕ)) (d u c : List ℕ) (most n : ℕ) → most ≤ n + 1 → (r : Acted)
@@ -127,19 +122,17 @@ module _ (d u c : List ℕ) (at end n : ℕ) (g : at ≤ end) (l : end ≤ lengt
   tenth = getD-take (end - at) (drop at u) 9 0 (omega (arith, inas-end)) ∙ getD-drop at u 9 0
 
   module _ (right : Every InasBody (bodiesOf d u c n)) (e : List ℕ) (r : Acted) where
+    key-is : keyIn true body ≡ inasKey body
+    key-is = inas-key (eqb (getD body 9 0) 2) body by-format
+
     pub inas-joins : getD u (at + 9) 0 ≡ 1 → Acts (join (keyIn true) 0 body (bodiesOf d u c n)) d u e (n + 1) r → InasActs body (bodiesOf d u c n) d u e n r
-    unfolding actOn
     inas-joins x a =
-        let one : eqb (getD body 9 0) 1 ≡ true = eq-eqb (getD body 9 0) 1 (tenth ∙ x) in
-        let k = join-key (keyIn true) inasKey 0 body (bodiesOf d u c n) (inas-key (eqb (getD body 9 0) 2) body by-format) (stored-keys (bodiesOf d u c n) right) in
-        answered body (bodiesOf d u c n) d u e (n + 1) n (omega arith) r (rw one (rw k at a))
+        answered body (bodiesOf d u c n) d u e (n + 1) n (omega arith) r
+        (joins-by (keyIn true) inasKey 0 body (bodiesOf d u c n) key-is (stored-keys (bodiesOf d u c n) right) d u e (n + 1) r _ (eq-eqb (getD body 9 0) 1 (tenth ∙ x)) a)
 
     pub inas-leaves : (getD u (at + 9) 0 ≡ 1 → ⊥) → Acts (leave (keyIn true) 0 (keyIn true body) (bodiesOf d u c n)) d u e n r → InasActs body (bodiesOf d u c n) d u e n r
-    unfolding actOn
     inas-leaves x a =
-        let other : eqb (getD body 9 0) 1 ≡ false = ne-eqb (getD body 9 0) 1 (λ y. x (sym tenth ∙ y)) in
-        let k = leave-key (keyIn true) inasKey 0 (keyIn true body) (bodiesOf d u c n) (stored-keys (bodiesOf d u c n) right) in
-        let same : keyIn true body ≡ inasKey body = inas-key (eqb (getD body 9 0) 2) body by-format in
-        answered body (bodiesOf d u c n) d u e n n (omega arith) r (rw other (rw (k, same) at a))
+        answered body (bodiesOf d u c n) d u e n n (omega arith) r
+        (leaves-by (keyIn true) inasKey 0 body (bodiesOf d u c n) key-is (stored-keys (bodiesOf d u c n) right) d u e n r _ (ne-eqb (getD body 9 0) 1 (λ y. x (sym tenth ∙ y))) a)
 
 pub ruleset inas-ways = (inas-inside, inas-read, inas-joins, inas-leaves, stored-long, arith)

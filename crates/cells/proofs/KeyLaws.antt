@@ -1,12 +1,12 @@
 -- Laws of the keys that bodies begin with. Assumes nothing.
-use Prim.Native.Nat.{ℕ, zero, suc, _+_, _*_, _≤_, _<_}
+use Prim.Native.Nat.{ℕ, zero, suc, _+_, _*_, _≤_}
 use mathlib.Core.Path.{_≡_, refl, sym, ap, _∙_}
 use mathlib.Core.Bool.{Bool, true, false, not}
 use mathlib.Core.List.{List, [], _∷_}
 use native.Mathlib.Nat.{not-suc-le-zero, le-of-suc-le-suc}
 use native.Mathlib.Omega.{arith}
 use borrow.Author.Tests.{eq-eqb, ne-eqb, not-true, not-false}
-use lib.ListN.{length, take, drop}
+use lib.ListN.{take, drop}
 use lib.Seq.{drop-drop}
 use lib.Dec.{eqb}
 use Rattle.base.specs.Choice.{both}
@@ -43,14 +43,12 @@ key-part false m l h = rw (le-take 1 m l (omega arith), le-part 1 4 m l (omega a
 module _ (a b : List ℕ) (i j : ℕ) (x y : ℕ) (ex : x ≡ le 1 (drop i a)) (ey : y ≡ le 1 (drop j b)) where
   pub first-differs : (inas : Bool) → (x ≡ y → ⊥) → false ≡ same (keyIn inas (drop i a)) (keyIn inas (drop j b))
   unfolding keyIn same
-  first-differs true n = simp (← ex, ← ey, ne-eqb x y n)
-  first-differs false n = simp (← ex, ← ey, ne-eqb x y n)
+  first-differs inas n = simp (← ex, ← ey, ne-eqb x y n)
 
   module _ (e : x ≡ y) (z w : ℕ) (ez : z ≡ le 4 (drop (i + 1) a)) (ew : w ≡ le 4 (drop (j + 1) b)) where
     pub second-differs : (inas : Bool) → (z ≡ w → ⊥) → false ≡ same (keyIn inas (drop i a)) (keyIn inas (drop j b))
     unfolding keyIn same
-    second-differs true n = simp (drop-drop, ← ex, ← ey, eq-eqb x y e, ← ez, ← ew, ne-eqb z w n)
-    second-differs false n = simp (drop-drop, ← ex, ← ey, eq-eqb x y e, ← ez, ← ew, ne-eqb z w n)
+    second-differs inas n = simp (drop-drop, ← ex, ← ey, eq-eqb x y e, ← ez, ← ew, ne-eqb z w n)
 
     module _ (f : z ≡ w) where
       pub short-same : (inas : Bool) → not inas ≡ true → true ≡ same (keyIn inas (drop i a)) (keyIn inas (drop j b))

@@ -1,6 +1,6 @@
 -- Joining and leaving by keys that are alike, and what things made of bodies do where the bodies do it. Assumes nothing.
 use Prim.Native.Nat.{ℕ}
-use mathlib.Core.Path.{_≡_, refl, sym, ap, _∙_, subst}
+use mathlib.Core.Path.{_≡_, refl, sym, ap, subst}
 use mathlib.Core.Bool.{Bool, true, false}
 use mathlib.Core.List.{List, [], _∷_, _++_}
 use native.Mathlib.Omega.{arith}
@@ -10,7 +10,8 @@ use Rattle.base.specs.Keys.{same, among, join, leave}
 use Rattle.base.specs.Lists.{each}
 use Rattle.base.proofs.CheckLaws.{bind-inv, ok-inj}
 use Rattle.cells.specs.Keys.{Every}
-use Rattle.cells.specs.Acts.{actOn}
+use Rattle.cells.specs.Acts.{actOn, Acts}
+use Rattle.cells.specs.declared.acting.Acted.{Acted}
 use Rattle.cells.proofs.FindLaws.{every-append}
 
 -- ---- keys that are alike
@@ -25,14 +26,24 @@ module _ (key other : List ℕ → List ℕ) (j : ℕ) where
   each-key [] p = refl
   each-key (b ∷ bs) p = rw (p .0, each-key bs (p .1))
 
-  pub join-key : (b : List ℕ) (bs : List (List ℕ)) → Alike b → Every Alike bs → join key j b bs ≡ join other j b bs
+  join-key : (b : List ℕ) (bs : List (List ℕ)) → Alike b → Every Alike bs → join key j b bs ≡ join other j b bs
   unfolding join
   join-key b bs e p = rw (e, each-key bs p)
 
-  pub leave-key : (k : List ℕ) (bs : List (List ℕ)) → Every Alike bs → leave key j k bs ≡ leave other j k bs
+  leave-key : (k : List ℕ) (bs : List (List ℕ)) → Every Alike bs → leave key j k bs ≡ leave other j k bs
   unfolding leave
   leave-key k [] p = refl
   leave-key k (b ∷ bs) p = rw (p .0, leave-key k bs (p .1))
+
+  -- what the code answers by one key it answers by the other
+  module _ (b : List ℕ) (bs : List (List ℕ)) (e : Alike b) (p : Every Alike bs) (d u c : List ℕ) (most : ℕ) (r : Acted) (t : Bool) where
+    pub joins-by : t ≡ true → Acts (join key j b bs) d u c most r → Acts (actOn other t j b bs) d u c most r
+    unfolding actOn
+    joins-by x a = rw x (rw (join-key b bs e p) at a)
+
+    pub leaves-by : t ≡ false → Acts (leave key j (key b) bs) d u c most r → Acts (actOn other t j b bs) d u c most r
+    unfolding actOn
+    leaves-by x a = rw x (rw (leave-key (key b) bs p, e) at a)
 
 -- ---- things made of bodies
 
@@ -51,7 +62,7 @@ module _ {A : Type 0} (f : List ℕ → A) (key : A → List ℕ) (j : ℕ) wher
   each-append [] cs = refl
   each-append (b ∷ bs) cs = ap (λ (xs : List A). f b ∷ xs) (each-append bs cs)
 
-  pub join-each : (b : List ℕ) (bs : List (List ℕ)) → join key j (f b) (each f bs) ≡ made (join (λ (x : List ℕ). key (f x)) j b bs)
+  join-each : (b : List ℕ) (bs : List (List ℕ)) → join key j (f b) (each f bs) ≡ made (join (λ (x : List ℕ). key (f x)) j b bs)
   unfolding join bind each
   join-each b bs = rw (each-each bs) (go (among (key (f b)) (each (λ (x : List ℕ). key (f x)) bs)))
     where
@@ -59,7 +70,7 @@ module _ {A : Type 0} (f : List ℕ → A) (key : A → List ℕ) (j : ℕ) wher
       go true = refl
       go false = ap ok (sym (each-append bs (b ∷ [])))
 
-  pub leave-each : (k : List ℕ) (bs : List (List ℕ)) → leave key j k (each f bs) ≡ made (leave (λ (x : List ℕ). key (f x)) j k bs)
+  leave-each : (k : List ℕ) (bs : List (List ℕ)) → leave key j k (each f bs) ≡ made (leave (λ (x : List ℕ). key (f x)) j k bs)
   unfolding leave bind each
   leave-each k [] = refl
   leave-each k (b ∷ bs) = go (same (key (f b)) k) (leave key j k (each f bs)) (leave (λ (x : List ℕ). key (f x)) j k bs) (leave-each k bs)
@@ -72,6 +83,13 @@ module _ {A : Type 0} (f : List ℕ → A) (key : A → List ℕ) (j : ℕ) wher
           → pick t (ok (each f bs)) (bind x (λ ys. ok (f b ∷ ys))) ≡ made (pick t (ok bs) (bind y (λ ys. ok (b ∷ ys))))
       go true x y e = refl
       go false x y e = later x y e
+
+  -- both, as a field does it
+  pub act-each : (t : Bool) (b : List ℕ) (bs : List (List ℕ))
+      → pick t (join key j (f b) (each f bs)) (leave key j (key (f b)) (each f bs)) ≡ made (actOn (λ (x : List ℕ). key (f x)) t j b bs)
+  unfolding actOn
+  act-each true b bs = join-each b bs
+  act-each false b bs = leave-each (key (f b)) bs
 
 -- ---- what holds of each body, and of one that joins, holds of each afterwards
 

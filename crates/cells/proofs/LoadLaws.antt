@@ -1,19 +1,18 @@
 -- Laws of loading the tuples of a stored SPAS into cells. Assumes nothing.
 use Prim.Native.Nat.{ℕ, zero, suc, _+_, _-_, _*_, _/_, _%_, _≤_, _<_}
-use mathlib.Core.Path.{_≡_, refl, sym, ap, ap₂, _∙_}
+use mathlib.Core.Path.{_≡_, refl, sym, ap, _∙_}
 use mathlib.Core.Bool.{true}
 use mathlib.Core.List.{List, [], _∷_, _++_, append-assoc, append-nil}
-use native.Mathlib.Numerals.{add-one}
 use native.Mathlib.Omega.{arith}
-use lib.ListN.{length, take, drop}
+use lib.ListN.{length}
 use lib.Seq.{take-add, drop-drop}
 use Rattle.base.specs.Lists.{each, gather}
 use Rattle.skeleton.specs.Place.{between}
 use Rattle.fields.specs.Table.{headOf, tupleOf}
-use Rattle.fields.specs.Values.{Val}
 use Rattle.fields.specs.Content.{tuples, many, fill}
 use Rattle.fields.specs.Places.{endingAt}
 use Rattle.fields.specs.declared.Format.the-variants.{Spas, SpasNew}
+use Rattle.fields.specs.declared.Sub.{Sub}
 use Rattle.fields.proofs.FieldLaws.{fill-list}
 use Rattle.rules.specs.Record.{Spatial, spatialOf}
 use Rattle.rules.specs.Modify.{spatialKey}
@@ -23,7 +22,7 @@ use Rattle.cells.specs.Keys.{Every, SpasBody}
 use Rattle.cells.specs.Acts.{SpasLoaded}
 use Rattle.cells.proofs.FindLaws.{every-append}
 use Rattle.cells.proofs.LiftLaws.{each-append}
-use Rattle.cells.proofs.TupleLaws.{Step, step, step-fill, no-tuple}
+use Rattle.cells.proofs.TupleLaws.{step, step-fill, no-tuple}
 
 -- ---- tuples one after the other
 
@@ -64,14 +63,10 @@ unfolding gather
 gather-append [] cs = refl
 gather-append (b ∷ bs) cs = rw (gather-append bs cs, append-assoc)
 
--- a SPAS that its tuples fill
-listed-spas : (b : List ℕ) → fill (headOf Spas) (tupleOf Spas) b ≡ true → (tuples (tupleOf Spas) b) .ending ≡ 0
-unfolding headOf endingAt
-listed-spas b e = fill-list (tupleOf Spas) b e
-
-listed-new : (b : List ℕ) → fill (headOf SpasNew) (tupleOf SpasNew) b ≡ true → (tuples (tupleOf SpasNew) b) .ending ≡ 0
-unfolding headOf endingAt
-listed-new b e = fill-list (tupleOf SpasNew) b e
+-- tuples fill the bytes
+listed : (t : List Sub) (b : List ℕ) → fill [] t b ≡ true → (tuples t b) .ending ≡ 0
+unfolding endingAt
+listed t b e = fill-list t b e
 
 -- ---- the loop: of the tuples from at to end those before p are loaded, and there are m cells
 
@@ -135,6 +130,7 @@ module _ (at end x : ℕ) (c₀ : List ℕ) (n : ℕ) (c : List ℕ) (p m : ℕ)
     ends = omega (arith, s .place, s .more, s .within, load-count)
 
     pub load-done : (d u : List ℕ) → SpasLoaded d u at end x c₀ n c m
+    unfolding headOf
     load-done d u =
         let k : ℕ = (end - at) / 15 in
         let src : List ℕ = source x d u in
@@ -143,8 +139,8 @@ module _ (at end x : ℕ) (c₀ : List ℕ) (n : ℕ) (c : List ℕ) (p m : ℕ)
         record {
           bodies = is;
           bytes = λ l. rw is (gather-append old (tupleBodies src at k) ∙ ap (λ (b : List ℕ). gather (λ (y : List ℕ). y) old ++ b) (tuples-bytes src k at end ends));
-          is = λ e l. rw is (each-append spatialIn spatialKey 0 old (tupleBodies src at k) ∙ ap (λ (b : List Spatial). each spatialIn old ++ b) (tuples-say src end l k at ends (listed-spas (between src at end) e)));
-          right = λ e l q. rw is (every-append SpasBody old (tupleBodies src at k) q (tuples-right src end l k at ends (listed-new (between src at end) e)));
+          is = λ e l. rw is (each-append spatialIn spatialKey 0 old (tupleBodies src at k) ∙ ap (λ (b : List Spatial). each spatialIn old ++ b) (tuples-say src end l k at ends (listed (tupleOf Spas) (between src at end) e)));
+          right = λ e l q. rw is (every-append SpasBody old (tupleBodies src at k) q (tuples-right src end l k at ends (listed (tupleOf SpasNew) (between src at end) e)));
         }
 
 pub ruleset load-turns = (load-start, load-inside, load-room, load-turn, load-count, load-done, arith)

@@ -6,18 +6,16 @@ use mathlib.Core.Option.{some}
 use mathlib.Core.List.{List, [], _∷_}
 use native.Mathlib.Omega.{arith}
 use borrow.Author.Tests.{eq-eqb, ne-eqb, eqb-true}
-use lib.ListN.{length, getD, take, drop, length-take, length-drop}
+use lib.ListN.{length, getD, drop}
 use lib.Seq.{getD-take, getD-drop}
 use lib.Dec.{eqb}
-use Rattle.base.specs.Choice.{pick}
-use Rattle.base.specs.Check.{Check, ok, bind, refuse}
+use Rattle.base.specs.Check.{Check, ok, bind}
 use Rattle.base.specs.Keys.{join, leave}
 use Rattle.base.specs.Lists.{each}
 use Rattle.skeleton.specs.Place.{between}
 use Rattle.fields.specs.Bytes.{le}
 use Rattle.fields.specs.Table.{headOf, tupleOf}
-use Rattle.fields.specs.Sizes.{sizes}
-use Rattle.fields.specs.Values.{Val, values, numAt}
+use Rattle.fields.specs.Values.{values, numAt}
 use Rattle.fields.specs.Content.{tuples, many, fill}
 use Rattle.fields.specs.Places.{endingAt}
 use Rattle.fields.specs.declared.Format.the-variants.{Spas, SpasNew}
@@ -28,17 +26,17 @@ use Rattle.fields.proofs.TupleLaws.{Next}
 use Rattle.fields.proofs.FieldLaws.{fill-list}
 use Rattle.fields.proofs.EvenLaws.{even-next}
 use Rattle.fields.proofs.ValueLaws.{tuple-number}
-use Rattle.fields.proofs.WiderLaws.{Wide, spas, format-wider}
+use Rattle.fields.proofs.WiderLaws.{spas, format-wider}
 use Rattle.rules.specs.Associations.{spasKey}
 use Rattle.rules.specs.Record.{Spatial, spatialOf}
 use Rattle.rules.specs.Modify.{spatialKey, actSpas}
 use Rattle.cells.specs.Cells.{bodiesOf, spatialIn}
-use Rattle.cells.specs.Keys.{keyIn, keySize, Every, Long, SpasBody}
+use Rattle.cells.specs.Keys.{keyIn, Every, Long, SpasBody}
 use Rattle.cells.specs.Acts.{actOn, Acts, actTuple, SpasNow, SpasActs}
 use Rattle.cells.specs.declared.acting.Acted.{Acted}
 use Rattle.cells.specs.declared.acting.Acted.the-variants.{Refused, Now}
 use Rattle.cells.proofs.FindLaws.{every-map}
-use Rattle.cells.proofs.LiftLaws.{join-key, leave-key, join-each, leave-each, acted-every}
+use Rattle.cells.proofs.LiftLaws.{joins-by, leaves-by, act-each, acted-every}
 use Rattle.cells.proofs.FrontLaws.{last-insert, one-tuple}
 use Rattle.cells.proofs.TupleLaws.{Step, length-between, step, step-fill, no-tuple}
 
@@ -89,13 +87,8 @@ abbrev inserts : List ℕ → Bool
 inserts b = eqb (numAt (values (tupleOf Spas) b) 5) 1
 
 acts-each : (j : ℕ) (b : List ℕ) (bs : List (List ℕ)) → actTuple j b (each spatialIn bs) ≡ bind (actOn keyOf (inserts b) j b bs) (λ ys. ok (each spatialIn ys))
-unfolding actTuple actOn
-acts-each j b bs = go (inserts b)
-  where
-    go : (t : Bool) → pick t (join spatialKey j (spatialIn b) (each spatialIn bs)) (leave spatialKey j (keyOf b) (each spatialIn bs))
-        ≡ bind (pick t (join keyOf j b bs) (leave keyOf j (keyOf b) bs)) (λ ys. ok (each spatialIn ys))
-    go true = join-each spatialIn spatialKey j b bs
-    go false = leave-each spatialIn spatialKey j (keyOf b) bs
+unfolding actTuple
+acts-each j b bs = act-each spatialIn spatialKey j (inserts b) b bs
 
 -- the code's answer for the bodies is that for what they say
 answered : (j : ℕ) (b : List ℕ) (bs : List (List ℕ)) (d u c : List ℕ) (most n : ℕ) → most ≤ n + 1 → Every SpasBody bs → (inserts b ≡ true → SpasBody b) → (r : Acted)
@@ -122,20 +115,15 @@ module _ (d u c : List ℕ) (p j n : ℕ) (l : p + 15 ≤ length u) (filled : fi
 
   pub tuple-joins : getD u (p + 14) 0 ≡ 1 → Acts (join (keyIn false) j body (bodiesOf d u c n)) d u e (n + 1) r
       → SpasActs (actTuple j body (each spatialIn (bodiesOf d u c n))) d u e (n + 1) r
-  unfolding actOn
   tuple-joins x a =
-      let one : inserts body ≡ true = eq-eqb (numAt (values (tupleOf Spas) body) 5) 1 (last ∙ x) in
-      let k = join-key (keyIn false) keyOf j body (bodiesOf d u c n) (tuple-key body size filled) (stored-keys (bodiesOf d u c n) right) in
-      answered j body (bodiesOf d u c n) d u e (n + 1) n (omega arith) right stored r (rw one (rw k at a))
+      answered j body (bodiesOf d u c n) d u e (n + 1) n (omega arith) right stored r
+      (joins-by (keyIn false) keyOf j body (bodiesOf d u c n) (tuple-key body size filled) (stored-keys (bodiesOf d u c n) right) d u e (n + 1) r _ (eq-eqb _ 1 (last ∙ x)) a)
 
   pub tuple-leaves : (getD u (p + 14) 0 ≡ 1 → ⊥) → Acts (leave (keyIn false) j (keyIn false body) (bodiesOf d u c n)) d u e n r
       → SpasActs (actTuple j body (each spatialIn (bodiesOf d u c n))) d u e (n + 1) r
-  unfolding actOn
   tuple-leaves x a =
-      let other : inserts body ≡ false = ne-eqb (numAt (values (tupleOf Spas) body) 5) 1 (λ y. x (sym last ∙ y)) in
-      let k = leave-key (keyIn false) keyOf j (keyIn false body) (bodiesOf d u c n) (stored-keys (bodiesOf d u c n) right) in
-      let same : keyIn false body ≡ keyOf body = tuple-key body size filled in
-      answered j body (bodiesOf d u c n) d u e n n (omega arith) right stored r (rw other (rw (k, same) at a))
+      answered j body (bodiesOf d u c n) d u e n n (omega arith) right stored r
+      (leaves-by (keyIn false) keyOf j body (bodiesOf d u c n) (tuple-key body size filled) (stored-keys (bodiesOf d u c n) right) d u e n r _ (ne-eqb _ 1 (λ y. x (sym last ∙ y))) a)
 
 pub ruleset tuple-ways = (tuple-joins, tuple-leaves, stored-long, arith)
 

@@ -1,11 +1,11 @@
 -- The tuples of a SPAS from p to end of some bytes, one by one: each is 15 bytes. Assumes nothing.
-use Prim.Native.Nat.{ℕ, zero, suc, _+_, _-_, _*_, _/_, _%_, _≤_, _<_}
+use Prim.Native.Nat.{ℕ, _+_, _-_, _*_, _%_, _≤_, _<_}
 use mathlib.Core.Path.{_≡_, refl, sym, ap, ap₂, _∙_}
-use mathlib.Core.Bool.{Bool, true}
-use mathlib.Core.Option.{Option, some}
-use mathlib.Core.List.{List, [], _∷_, _++_}
+use mathlib.Core.Bool.{true}
+use mathlib.Core.Option.{some}
+use mathlib.Core.List.{List, [], _∷_}
 use native.Mathlib.Omega.{arith}
-use lib.ListN.{length, getD, take, drop, length-take, length-drop}
+use lib.ListN.{length, take, drop, length-take, length-drop}
 use lib.Seq.{take-take, drop-drop}
 use Rattle.base.specs.Walk.{Got}
 use Rattle.skeleton.specs.Place.{between}
@@ -13,12 +13,10 @@ use Rattle.fields.specs.Table.{headOf, tupleOf}
 use Rattle.fields.specs.Sizes.{sizes}
 use Rattle.fields.specs.Values.{Val, values}
 use Rattle.fields.specs.Content.{tuples, many, fill}
-use Rattle.fields.specs.Places.{endingAt}
 use Rattle.fields.specs.declared.Format.the-variants.{Spas, SpasNew}
 use Rattle.fields.specs.declared.Sub.{Sub}
 use Rattle.fields.proofs.SizeLaws.{allNum, widths, num-widths, sizes-bound}
-use Rattle.fields.proofs.TupleLaws.{First, tuples-end, first-tuple}
-use Rattle.fields.proofs.FieldLaws.{fill-list}
+use Rattle.fields.proofs.TupleLaws.{tuples-end, first-tuple}
 use Rattle.fields.proofs.EvenLaws.{fill-even}
 use Rattle.cells.proofs.FrontLaws.{drop-take, sizes-front, one-tuple}
 
@@ -65,7 +63,17 @@ module _ (t : List Sub) (even : allNum t ≡ true) (wide : widths t ≡ 15) (s :
       let size : length (between s p (p + 15)) ≡ 15 = length-between s p (p + 15) (omega arith) ∙ omega arith in
       (size, one-tuple t (between s p (p + 15)) (omega arith) (x .taken ∙ ap some (sym size)))
 
--- the bytes are so many tuples
-pub spas-even : (b : List ℕ) → fill (headOf Spas) (tupleOf Spas) b ≡ true → length b % 15 ≡ 0
-unfolding headOf tupleOf
-spas-even b e = omega (arith, fill-even (tupleOf Spas) refl b e)
+-- a SPAS from at to end is so many tuples, as a modify sends it or as it is stored
+even-part : (t : List Sub) → allNum t ≡ true → widths t ≡ 15 → (s : List ℕ) (at end : ℕ) → end ≤ length s → fill [] t (between s at end) ≡ true → (end - at) % 15 ≡ 0
+even-part t even wide s at end l e =
+    let whole : length (between s at end) ≡ 15 * length (many t (between s at end)) = rw wide at (fill-even t even (between s at end) e) in
+    omega (arith, length-between s at end l)
+
+module _ (s : List ℕ) (at end : ℕ) (l : end ≤ length s) where
+  pub sent-even : fill (headOf Spas) (tupleOf Spas) (between s at end) ≡ true → (end - at) % 15 ≡ 0
+  unfolding headOf tupleOf
+  sent-even e = even-part (tupleOf Spas) refl refl s at end l e
+
+  pub stored-even : fill (headOf SpasNew) (tupleOf SpasNew) (between s at end) ≡ true → (end - at) % 15 ≡ 0
+  unfolding headOf tupleOf
+  stored-even e = even-part (tupleOf SpasNew) refl refl s at end l e

@@ -16,7 +16,7 @@ use Rattle.fields.specs.Content.{fill, many}
 use Rattle.fields.specs.declared.Format.the-variants.{Spas, SpasNew}
 use Rattle.rules.specs.Associations.{inasKey}
 use Rattle.rules.specs.Record.{Spatial, assocOf, spatialOf}
-use Rattle.rules.specs.Modify.{actInas, actSpas, spatialKey}
+use Rattle.rules.specs.Modify.{actInas, spatialKey}
 use Rattle.items.specs.Items.{source}
 use Rattle.cells.specs.Cells.{bodiesOf, spatialIn, tupleBodies}
 use Rattle.cells.specs.Keys.{Every, SpasBody}

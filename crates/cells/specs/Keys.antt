@@ -13,10 +13,9 @@ use Rattle.fields.specs.declared.Format.the-variants.{InasNew, SpasNew}
 
 -- ---- keys
 
--- the key that a body begins with: of an INAS (inas) RRNM, RRID, NIAC, NARC; of a tuple of a SPAS RRNM, RRID
+-- the key that a body begins with: RRNM and RRID, and, of an INAS, NIAC and NARC
 unfoldable pub keyIn : Bool → List ℕ → List ℕ
-keyIn true b = le 1 b ∷ le 4 (drop 1 b) ∷ le 2 (drop 5 b) ∷ le 2 (drop 7 b) ∷ []
-keyIn false b = le 1 b ∷ le 4 (drop 1 b) ∷ []
+keyIn inas b = le 1 b ∷ le 4 (drop 1 b) ∷ pick inas (le 2 (drop 5 b) ∷ le 2 (drop 7 b) ∷ []) []
 
 -- how many bytes the key takes
 abbrev pub keySize : Bool → ℕ

@@ -2,9 +2,8 @@
 use crate::cell::add;
 use crate::search::find;
 use memory::close_gap;
-ghost use mathlib.Core.Path.{_≡_};
 ghost use Prim.Native.Nat.{_+_, _-_, _*_, _≤_, _<_};
-ghost use lib.ListN.{length, drop};
+ghost use lib.ListN.{length};
 ghost use Rattle.base.specs.Keys.{join, leave};
 ghost use Rattle.skeleton.specs.Place.{between};
 ghost use Rattle.cells.specs.Cells.{bodiesOf};

@@ -1,12 +1,8 @@
+-- `join_cells` meets its contract. Assumes nothing.
 use Rattle.cells.proofs.ActLaws.{act-ways}
-use native.Mathlib.Omega.{arith}
 use borrow.Author.Needs.{needs}
 use Rattle.cells.proofs.acting.join_cells.Statement.{statement}
 use Rattle.cells.proofs.acting.join_cells.Tie as tie
-use Rattle.cells.proofs.acting.join_cells.Reads as reads
-use Rattle.cells.proofs.acting.join_cells.Lts as lts
-use Rattle.cells.proofs.cell.add.Reads as add-reads
-use Rattle.cells.proofs.search.find.Reads as find-reads
 
 find-requires : tie.Need-find-requires
 find-requires c κs = search needs

@@ -1,11 +1,8 @@
+-- `add` meets its contract. Assumes nothing.
 use Rattle.cells.proofs.CellLaws.{added}
-use native.Mathlib.Omega.{arith}
 use borrow.Author.Needs.{needs}
 use Rattle.cells.proofs.cell.add.Statement.{statement}
 use Rattle.cells.proofs.cell.add.Tie as tie
-use Rattle.cells.proofs.cell.add.Reads as reads
-use Rattle.cells.proofs.cell.add.Lts as lts
-use Rattle.cells.proofs.cell.put_cell.Reads as put-cell-reads
 
 sub-put-cell : tie.Need-sub-put-cell
 sub-put-cell c = search needs

@@ -1,3 +1,4 @@
+-- `put_cell` meets its contract. Assumes nothing.
 use native.Mathlib.Numerals.{towards-suc}
 use lib.ListN.{length-set}
 use Rattle.memory.specs.Put.{put}
@@ -6,8 +7,6 @@ use native.Mathlib.Omega.{arith}
 use borrow.Author.Needs.{needs}
 use Rattle.cells.proofs.cell.put_cell.Statement.{statement}
 use Rattle.cells.proofs.cell.put_cell.Tie as tie
-use Rattle.cells.proofs.cell.put_cell.Reads as reads
-use Rattle.cells.proofs.cell.put_cell.Lts as lts
 
 mul-k : tie.Need-mul-k
 mul-k c = search needs

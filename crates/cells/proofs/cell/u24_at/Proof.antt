@@ -1,12 +1,8 @@
+-- `u24_at` meets its contract. Assumes nothing.
 use Rattle.cells.proofs.CellLaws.{number-ways}
-use native.Mathlib.Omega.{arith}
 use borrow.Author.Needs.{needs}
 use Rattle.cells.proofs.cell.u24_at.Statement.{statement}
 use Rattle.cells.proofs.cell.u24_at.Tie as tie
-use Rattle.cells.proofs.cell.u24_at.Reads as reads
-use Rattle.cells.proofs.cell.u24_at.Lts as lts
-use Rattle.fields.proofs.le16.Reads as le16-reads
-use Rattle.fields.proofs.le8.Reads as le8-reads
 
 le16-requires : tie.Need-le16-requires
 le16-requires c κs = search needs

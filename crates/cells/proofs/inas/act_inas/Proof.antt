@@ -1,12 +1,9 @@
+-- `act_inas` meets its contract. Assumes nothing.
 use Rattle.cells.proofs.InasLaws.{inas-ways}
 use native.Mathlib.Omega.{arith}
 use borrow.Author.Needs.{needs}
 use Rattle.cells.proofs.inas.act_inas.Statement.{statement}
 use Rattle.cells.proofs.inas.act_inas.Tie as tie
-use Rattle.cells.proofs.inas.act_inas.Reads as reads
-use Rattle.cells.proofs.inas.act_inas.Lts as lts
-use Rattle.cells.proofs.acting.join_cells.Reads as join-cells-reads
-use Rattle.cells.proofs.acting.leave_cells.Reads as leave-cells-reads
 
 add-if1 : tie.Need-add-if1
 add-if1 c = search needs

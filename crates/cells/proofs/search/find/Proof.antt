@@ -1,16 +1,13 @@
+-- `find` meets its contract. Assumes nothing.
 use Rattle.cells.proofs.FindLaws.{search-turn}
 use mathlib.Core.Path.{_≡_}
 use Prim.Native.Nat.{_+_, _-_, _≤_}
 use lib.ListN.{drop}
 use Rattle.cells.specs.Cells.{bodiesFrom}
 use Rattle.cells.specs.Keys.{keyIn, firstWith}
-use borrow.Author.Needs.{needs}
 use native.Mathlib.Omega.{arith}
 use Rattle.cells.proofs.search.find.Statement.{statement}
 use Rattle.cells.proofs.search.find.Tie as tie
-use Rattle.cells.proofs.search.find.Reads as reads
-use Rattle.cells.proofs.search.find.Lts as lts
-use Rattle.cells.proofs.search.has_key.Reads as has-key-reads
 
 abbrev Inv-loop : tie.InvT-loop
 Inv-loop d u c n at inas i₀ i = (i ≤ n) × (i + firstWith (keyIn inas) (keyIn inas (drop at u)) (bodiesFrom d u c i (n - i)) ≡ firstWith (keyIn inas) (keyIn inas (drop at u)) (bodiesFrom d u c 0 n))

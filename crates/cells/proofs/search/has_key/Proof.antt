@@ -1,12 +1,8 @@
+-- `has_key` meets its contract. Assumes nothing.
 use Rattle.cells.proofs.FindLaws.{cell-ways}
-use native.Mathlib.Omega.{arith}
 use borrow.Author.Needs.{needs}
 use Rattle.cells.proofs.search.has_key.Statement.{statement}
 use Rattle.cells.proofs.search.has_key.Tie as tie
-use Rattle.cells.proofs.search.has_key.Reads as reads
-use Rattle.cells.proofs.search.has_key.Lts as lts
-use Rattle.cells.proofs.cell.u24_at.Reads as u24-at-reads
-use Rattle.cells.proofs.search.same_key.Reads as same-key-reads
 
 mul-u24-at : tie.Need-mul-u24-at
 mul-u24-at c = search needs

@@ -1,13 +1,8 @@
+-- `same_key` meets its contract. Assumes nothing.
 use Rattle.cells.proofs.KeyLaws.{key-ways}
-use native.Mathlib.Omega.{arith}
 use borrow.Author.Needs.{needs}
 use Rattle.cells.proofs.search.same_key.Statement.{statement}
 use Rattle.cells.proofs.search.same_key.Tie as tie
-use Rattle.cells.proofs.search.same_key.Reads as reads
-use Rattle.cells.proofs.search.same_key.Lts as lts
-use Rattle.fields.proofs.le16.Reads as le16-reads
-use Rattle.fields.proofs.le32.Reads as le32-reads
-use Rattle.fields.proofs.le8.Reads as le8-reads
 
 le8-requires : tie.Need-le8-requires
 le8-requires c κs = search key-ways

@@ -1,12 +1,9 @@
+-- `act_spas` meets its contract. Assumes nothing.
 use Rattle.cells.proofs.SpasLaws.{SpasAt, spas-turns}
 use Prim.Native.Nat.{_-_}
 use borrow.Author.Needs.{needs}
-use native.Mathlib.Omega.{arith}
 use Rattle.cells.proofs.spas.act_spas.Statement.{statement}
 use Rattle.cells.proofs.spas.act_spas.Tie as tie
-use Rattle.cells.proofs.spas.act_spas.Reads as reads
-use Rattle.cells.proofs.spas.act_spas.Lts as lts
-use Rattle.cells.proofs.spas.act_tuple.Reads as act-tuple-reads
 
 abbrev Inv-loop : tie.InvT-loop
 Inv-loop d u at end c₀ n p₀ j₀ m₀ c p j m = SpasAt d u at end c₀ n c p j m

@@ -1,12 +1,8 @@
+-- `load_spas` meets its contract. Assumes nothing.
 use Rattle.cells.proofs.LoadLaws.{LoadAt, load-turns}
 use Prim.Native.Nat.{_-_}
-use borrow.Author.Needs.{needs}
-use native.Mathlib.Omega.{arith}
 use Rattle.cells.proofs.spas.load_spas.Statement.{statement}
 use Rattle.cells.proofs.spas.load_spas.Tie as tie
-use Rattle.cells.proofs.spas.load_spas.Reads as reads
-use Rattle.cells.proofs.spas.load_spas.Lts as lts
-use Rattle.cells.proofs.cell.add.Reads as add-reads
 
 abbrev Inv-loop : tie.InvT-loop
 Inv-loop at end x c₀ n p₀ m₀ c p m = LoadAt at end x c₀ n c p m
