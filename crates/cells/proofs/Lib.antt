@@ -1,0 +1,10 @@
+pub mod CellLaws
+pub mod KeyLaws
+pub mod FindLaws
+pub mod ActLaws
+pub mod LiftLaws
+pub mod InasLaws
+pub mod FrontLaws
+pub mod TupleLaws
+pub mod SpasLaws
+pub mod LoadLaws

@@ -1,6 +1,6 @@
 -- A record's associations in lent memory: cell i is the 7 bytes from 7 i on, where a body stands: an offset of three bytes, which of two slices it is in
 -- (0 the dataset d, else the update u), and a length of three bytes. A body is an INAS field, or one tuple of a SPAS. Bodies are never moved.
-use mathlib.Core.List.{List, [], _∷_}
+use mathlib.Core.List.{List, [], _∷_, _++_}
 use Prim.Native.Nat.{ℕ, zero, suc, _+_, _*_, _/_, _%_}
 use lib.ListN.{getD}
 use Rattle.skeleton.specs.Place.{between}
@@ -43,6 +43,15 @@ bodiesOf d u c n = bodiesFrom d u c 0 n
 unfoldable pub threeBytes : ℕ → List ℕ
 threeBytes n = n % 256 ∷ n / 256 % 256 ∷ n / 65536 % 256 ∷ []
 
+-- the bytes of a cell: offset, slice, length
+unfoldable pub cellBytes : ℕ → ℕ → ℕ → List ℕ
+cellBytes at x n = threeBytes at ++ (x ∷ threeBytes n)
+
 -- the spatial association that one tuple of a SPAS is
 abbrev pub spatialIn : List ℕ → Spatial
 spatialIn b = spatialOf (values (tupleOf Spas) b)
+
+-- k tuples of a SPAS one after the other, from an offset on
+unfoldable pub tupleBodies : List ℕ → ℕ → ℕ → List (List ℕ)
+tupleBodies s at zero = []
+tupleBodies s at (suc k) = between s at (at + 15) ∷ tupleBodies s (at + 15) k

@@ -1,1 +1,3 @@
 pub mod Cells
+pub mod Keys
+pub mod Acts

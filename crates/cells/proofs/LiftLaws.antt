@@ -1,0 +1,122 @@
+-- Joining and leaving by keys that are alike, and what things made of bodies do where the bodies do it. Assumes nothing.
+use Prim.Native.Nat.{ℕ}
+use mathlib.Core.Path.{_≡_, refl, sym, ap, subst}
+use mathlib.Core.Bool.{Bool, true, false}
+use mathlib.Core.List.{List, [], _∷_, _++_}
+use native.Mathlib.Omega.{arith}
+use Rattle.base.specs.Choice.{pick}
+use Rattle.base.specs.Check.{Check, ok, no, bind, refuse}
+use Rattle.base.specs.Keys.{same, among, join, leave}
+use Rattle.base.specs.Lists.{each}
+use Rattle.base.proofs.CheckLaws.{bind-inv, ok-inj}
+use Rattle.cells.specs.Keys.{Every}
+use Rattle.cells.specs.Acts.{actOn, Acts}
+use Rattle.cells.specs.declared.acting.Acted.{Acted}
+use Rattle.cells.proofs.FindLaws.{every-append}
+
+-- ---- keys that are alike
+
+module _ (key other : List ℕ → List ℕ) (j : ℕ) where
+  -- two keys of a body are the same
+  abbrev Alike : List ℕ → Type 0
+  Alike b = key b ≡ other b
+
+  each-key : (bs : List (List ℕ)) → Every Alike bs → each key bs ≡ each other bs
+  unfolding each
+  each-key [] p = refl
+  each-key (b ∷ bs) p = rw (p .0, each-key bs (p .1))
+
+  join-key : (b : List ℕ) (bs : List (List ℕ)) → Alike b → Every Alike bs → join key j b bs ≡ join other j b bs
+  unfolding join
+  join-key b bs e p = rw (e, each-key bs p)
+
+  leave-key : (k : List ℕ) (bs : List (List ℕ)) → Every Alike bs → leave key j k bs ≡ leave other j k bs
+  unfolding leave
+  leave-key k [] p = refl
+  leave-key k (b ∷ bs) p = rw (p .0, leave-key k bs (p .1))
+
+  -- what the code answers by one key it answers by the other
+  module _ (b : List ℕ) (bs : List (List ℕ)) (e : Alike b) (p : Every Alike bs) (d u c : List ℕ) (most : ℕ) (r : Acted) (t : Bool) where
+    pub joins-by : t ≡ true → Acts (join key j b bs) d u c most r → Acts (actOn other t j b bs) d u c most r
+    unfolding actOn
+    joins-by x a = rw x (rw (join-key b bs e p) at a)
+
+    pub leaves-by : t ≡ false → Acts (leave key j (key b) bs) d u c most r → Acts (actOn other t j b bs) d u c most r
+    unfolding actOn
+    leaves-by x a = rw x (rw (leave-key (key b) bs p, e) at a)
+
+-- ---- things made of bodies
+
+module _ {A : Type 0} (f : List ℕ → A) (key : A → List ℕ) (j : ℕ) where
+  -- what f makes of each, where there is a result
+  abbrev made : Check (List (List ℕ)) → Check (List A)
+  made x = bind x (λ ys. ok (each f ys))
+
+  each-each : (bs : List (List ℕ)) → each key (each f bs) ≡ each (λ (b : List ℕ). key (f b)) bs
+  unfolding each
+  each-each [] = refl
+  each-each (b ∷ bs) = ap (λ (ks : List (List ℕ)). key (f b) ∷ ks) (each-each bs)
+
+  pub each-append : (bs cs : List (List ℕ)) → each f (bs ++ cs) ≡ each f bs ++ each f cs
+  unfolding each
+  each-append [] cs = refl
+  each-append (b ∷ bs) cs = ap (λ (xs : List A). f b ∷ xs) (each-append bs cs)
+
+  join-each : (b : List ℕ) (bs : List (List ℕ)) → join key j (f b) (each f bs) ≡ made (join (λ (x : List ℕ). key (f x)) j b bs)
+  unfolding join bind each
+  join-each b bs = rw (each-each bs) (go (among (key (f b)) (each (λ (x : List ℕ). key (f x)) bs)))
+    where
+      go : (t : Bool) → pick t (refuse 7 j) (ok (each f bs ++ (f b ∷ []))) ≡ made (pick t (refuse 7 j) (ok (bs ++ (b ∷ []))))
+      go true = refl
+      go false = ap ok (sym (each-append bs (b ∷ [])))
+
+  leave-each : (k : List ℕ) (bs : List (List ℕ)) → leave key j k (each f bs) ≡ made (leave (λ (x : List ℕ). key (f x)) j k bs)
+  unfolding leave bind each
+  leave-each k [] = refl
+  leave-each k (b ∷ bs) = go (same (key (f b)) k) (leave key j k (each f bs)) (leave (λ (x : List ℕ). key (f x)) j k bs) (leave-each k bs)
+    where
+      later : (x : Check (List A)) (y : Check (List (List ℕ))) → x ≡ made y → bind x (λ ys. ok (f b ∷ ys)) ≡ made (bind y (λ ys. ok (b ∷ ys)))
+      later x (ok ys) e = rw e
+      later x (no z) e = rw e
+
+      go : (t : Bool) (x : Check (List A)) (y : Check (List (List ℕ))) → x ≡ made y
+          → pick t (ok (each f bs)) (bind x (λ ys. ok (f b ∷ ys))) ≡ made (pick t (ok bs) (bind y (λ ys. ok (b ∷ ys))))
+      go true x y e = refl
+      go false x y e = later x y e
+
+  -- both, as a field does it
+  pub act-each : (t : Bool) (b : List ℕ) (bs : List (List ℕ))
+      → pick t (join key j (f b) (each f bs)) (leave key j (key (f b)) (each f bs)) ≡ made (actOn (λ (x : List ℕ). key (f x)) t j b bs)
+  unfolding actOn
+  act-each true b bs = join-each b bs
+  act-each false b bs = leave-each (key (f b)) bs
+
+-- ---- what holds of each body, and of one that joins, holds of each afterwards
+
+module _ (P : List ℕ → Type 0) (key : List ℕ → List ℕ) (j : ℕ) where
+  join-every : (b : List ℕ) (bs cs : List (List ℕ)) → P b → Every P bs → join key j b bs ≡ ok cs → Every P cs
+  unfolding join
+  join-every b bs cs p q e = go (among (key b) (each key bs)) e
+    where
+      go : (t : Bool) → pick t (refuse 7 j) (ok (bs ++ (b ∷ []))) ≡ ok cs → Every P cs
+      go true x = absurd (let z : _≡_ {A = ℕ} 0 1 = cc in omega arith)
+      go false x = let s : bs ++ (b ∷ []) ≡ cs = cc in rw s at (every-append P bs (b ∷ []) q (p, tt))
+
+  leave-every : (k : List ℕ) (bs cs : List (List ℕ)) → Every P bs → leave key j k bs ≡ ok cs → Every P cs
+  unfolding leave
+  leave-every k [] cs q e = absurd (let z : _≡_ {A = ℕ} 0 1 = cc in omega arith)
+  leave-every k (b ∷ bs) cs q e = go (same (key b) k) (leave key j k bs) (λ ys x. leave-every k bs ys (q .1) x) e
+    where
+      go : (t : Bool) (m : Check (List (List ℕ))) → ((ys : List (List ℕ)) → m ≡ ok ys → Every P ys)
+          → pick t (ok bs) (bind m (λ ys. ok (b ∷ ys))) ≡ ok cs → Every P cs
+      go true m ih x = let s : bs ≡ cs = cc in rw s at (q .1)
+      go false m ih x =
+          let r = bind-inv m (λ (ys : List (List ℕ)). ok (b ∷ ys)) cs x in
+          let s : b ∷ r .0 ≡ cs = ok-inj (b ∷ r .0) cs (r .2) in
+          let every : Every P (b ∷ r .0) = (q .0, ih (r .0) (r .1)) in
+          subst (Every P) s every
+
+  pub acted-every : (inserted : Bool) (b : List ℕ) (bs cs : List (List ℕ)) → Every P bs → (inserted ≡ true → P b) → actOn key inserted j b bs ≡ ok cs → Every P cs
+  unfolding actOn
+  acted-every true b bs cs q p e = join-every b bs cs (p refl) q e
+  acted-every false b bs cs q p e = leave-every (key b) bs cs q e
