@@ -4,11 +4,17 @@ use mathlib.Core.List.{List, [], _∷_, _++_}
 use Prim.Native.Nat.{ℕ, zero, suc, _+_, _-_, _*_, _/_, _%_, _≤_, _<_}
 use native.Mathlib.Nat.{sub-eq-zero-of-le, add-zero}
 use native.Mathlib.Omega.{arith}
-use lib.ListN.{length, getD}
+use mathlib.Core.Bool.{Bool, true, false}
+use lib.ListN.{length, getD, drop}
+use lib.Dec.{eqb}
+use borrow.Author.Tests.{eq-eqb, ne-eqb}
+use Rattle.base.specs.Choice.{pick, both}
+use Rattle.fields.specs.Bytes.{le}
+use Rattle.fields.proofs.ByteLaws.{le2}
 use Rattle.memory.specs.Put.{put}
 use Rattle.memory.proofs.PutLaws.{getD-put-below, getD-put-above, getD-put-in}
-use Rattle.forest.specs.Flat.{Item, item}
-use Rattle.items.specs.Items.{u16, textFrom, depthOf, codeOf, offsetOf, sourceOf, source, valueOf, itemAt, itemsFrom, its, refBytes, itemBytes, under, Same}
+use Rattle.forest.specs.Flat.{Item, item, named}
+use Rattle.items.specs.Items.{u16, textFrom, depthOf, codeOf, offsetOf, sourceOf, source, valueOf, itemAt, itemsFrom, its, refBytes, itemBytes, under, twinAt, Same}
 
 -- no items
 pub its-end : (s u w : List ℕ) (i n : ℕ) → n ≤ i → its s u w i n ≡ []
@@ -193,3 +199,45 @@ pub under-suc : (w : List ℕ) (p : ℕ) → (p ≡ 0 → ⊥) → under w p ≡
 unfolding under
 under-suc w zero e = absurd (e refl)
 under-suc w (suc p) e = let f : p ≡ suc p - 1 = omega arith in ap (λ (j : ℕ). depthOf w j + 1) f
+
+-- ---- numbers and twins
+
+-- a number read as the code does
+pub number-is : (w : List ℕ) (at : ℕ) (n r : ℕ) → at + 2 ≤ length w → n ≡ le 2 (drop at w) → r ≡ n → r ≡ u16 w at
+unfolding u16
+number-is w at n r h e f = f ∙ e ∙ le2 w at h
+
+-- the item has the depth and the code
+pub twin-both : (w : List ℕ) (i d c : ℕ) → depthOf w i ≡ d → codeOf w i ≡ c → twinAt w i d c ≡ 1
+unfolding twinAt
+twin-both w i d c e f = rw (eq-eqb (depthOf w i) d e, eq-eqb (codeOf w i) c f)
+
+-- it has another depth
+pub twin-depth : (w : List ℕ) (i d c : ℕ) → (depthOf w i ≡ d → ⊥) → twinAt w i d c ≡ 0
+unfolding twinAt
+twin-depth w i d c e = rw (ne-eqb (depthOf w i) d e)
+
+-- it has another code
+pub twin-code : (w : List ℕ) (i d c : ℕ) → depthOf w i ≡ d → (codeOf w i ≡ c → ⊥) → twinAt w i d c ≡ 0
+unfolding twinAt
+twin-code w i d c e f = rw (eq-eqb (depthOf w i) d e, ne-eqb (codeOf w i) c f)
+
+-- it counts at most once
+pub twin-once : (w : List ℕ) (i d c : ℕ) → twinAt w i d c ≤ 1
+unfolding twinAt
+twin-once w i d c = go (eqb (depthOf w i) d) (eqb (codeOf w i) c)
+  where
+    go : (s t : Bool) → pick s (pick t 1 0) 0 ≤ 1
+    go true true = omega arith
+    go true false = omega arith
+    go false t = omega arith
+
+-- and is what a list of items has
+pub twin-is : (s u w : List ℕ) (i d c : ℕ) → named d c (itemAt s u w i) ≡ eqb (twinAt w i d c) 1
+unfolding named twinAt itemAt
+twin-is s u w i d c = go (eqb (depthOf w i) d) (eqb (codeOf w i) c)
+  where
+    go : (x y : Bool) → both x y ≡ eqb (pick x (pick y 1 0) 0) 1
+    go true true = refl
+    go true false = refl
+    go false y = refl
