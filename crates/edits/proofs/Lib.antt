@@ -1,0 +1,4 @@
+pub mod SearchLaws
+pub mod DeedLaws
+pub mod ReadLaws
+pub mod LinkLaws

@@ -1,0 +1,25 @@
+use mathlib.Core.Path.{_≡_, refl, sym, ap, _∙_}
+use Prim.Native.Nat.{ℕ, _+_, _-_, _*_, _≤_, _<_}
+use borrow.Author.Tests.{lt-ltb, le-ltb, eq-eqb, ne-eqb}
+use Rattle.items.specs.Items.{u16}
+use Rattle.edits.specs.Search.{placeOf, endOf, behindLast, spotOf, deeperAt, goneCount, goneOut}
+use Rattle.edits.proofs.SearchLaws.{behind-none, behind-some, spot-zero, spot-past, spot-at, place-zero, place-bound, end-bound}
+use native.Mathlib.Omega.{arith}
+use borrow.Author.Needs.{needs}
+use Rattle.edits.proofs.search.is_beside.Statement.{statement}
+use Rattle.edits.proofs.search.is_beside.Tie as tie
+use Rattle.edits.proofs.search.is_beside.Reads as reads
+use Rattle.edits.proofs.search.is_beside.Lts as lts
+use Rattle.edits.proofs.search.is_deeper.Reads as is-deeper-reads
+
+is-deeper-requires : tie.Need-is-deeper-requires
+is-deeper-requires c κs = search needs
+
+returns : tie.Need-returns
+returns c = c .is-deeper .ensures ∙ rw (c .before .if1 .taken)
+
+returns-2 : tie.Need-returns-2
+returns-2 c = search needs
+
+pub is-beside-spec : {M : Type 1} → statement M
+is-beside-spec = tie.close (tie.spec is-deeper-requires returns returns-2)

@@ -1,0 +1,94 @@
+use mathlib.Core.Path.{_≡_, refl, sym, ap, _∙_}
+use Prim.Native.Nat.{ℕ, _+_, _-_, _*_, _≤_, _<_}
+use mathlib.Core.List.{List}
+use Rattle.items.specs.Items.{u16}
+use Rattle.memory.specs.Splice.{opened}
+use Rattle.memory.specs.Put.{put}
+use Rattle.items.specs.Items.{itemBytes}
+use Rattle.edits.specs.Search.{deeperAt}
+use Rattle.edits.proofs.SearchLaws.{place-bound, spot-bound}
+use Rattle.edits.proofs.DeedLaws.{insert-6, insert-9, insert-lead, alter-absent, alter-gone, alter-beside, alter-led}
+use native.Mathlib.Omega.{arith}
+use borrow.Author.Needs.{needs}
+use Rattle.edits.proofs.single.insert.Statement.{statement}
+use Rattle.edits.proofs.single.insert.Tie as tie
+use Rattle.edits.proofs.single.insert.Reads as reads
+use Rattle.edits.proofs.single.insert.Lts as lts
+use Rattle.edits.proofs.search.spot.Reads as spot-reads
+use Rattle.edits.proofs.search.tally.Reads as tally-reads
+use Rattle.items.proofs.item.number.Reads as number-reads
+use Rattle.items.proofs.item.put_item.Reads as put-item-reads
+use Rattle.memory.proofs.splicing.open_gap.Reads as open-gap-reads
+
+returns : tie.Need-returns
+returns c = λ s q. insert-6 s _ _ q _ _ _ _ (c .before .before .before .pre .5) _ (c .before .before .before .pre .0) _ (c .if1 .taken)
+
+number-requires : tie.Need-number-requires
+number-requires c κs = search needs
+
+add-number : tie.Need-add-number
+add-number c = search needs
+
+number-requires-2 : tie.Need-number-requires-2
+number-requires-2 c κs = search needs
+
+tally-requires : tie.Need-tally-requires
+tally-requires c κs = search needs
+
+add-if2 : tie.Need-add-if2
+add-if2 c = search needs
+
+same-length : tie.Need-same-length
+same-length c = search needs
+
+returns-2 : tie.Need-returns-2
+returns-2 c = λ s q. insert-9 s _ _ q _ _ _ _ (c .before .before .before .before .before .before .before .before .pre .5) _ (c .before .before .before .before .before .before .before .before .pre .0) (c .before .before .before .before .before .if1 .left) _ _ _ (c .before .before .before .before .number .ensures .0) (c .before .before .before .number2 .ensures .0) (c .before .tally .ensures .0) _ (c .if2 .taken)
+
+spot-requires : tie.Need-spot-requires
+spot-requires c κs = search needs
+
+mul-open-gap : tie.Need-mul-open-gap
+mul-open-gap c = search needs
+
+mul-open-gap-2 : tie.Need-mul-open-gap-2
+mul-open-gap-2 c = omega (arith, c .before .spot .ensures, spot-bound (c .before .before .before .before .before .before .before .before .before .before .before .args .w .now) (c .before .before .before .before .before .before .before .before .before .before .before .args .start) (c .before .before .before .before .before .before .before .before .before .before .before .args .n) (c .before .before .before .before .before .before .before .before .before .before .before .args .depth) (c .before .before .before .before .before .before .before .number .result) (c .before .before .before .before .before .before .number2 .result) (c .before .before .before .before .tally .result) (c .before .before .before .before .before .before .before .before .before .before .before .pre .5))
+
+open-gap-requires : tie.Need-open-gap-requires
+open-gap-requires c κs = omega (arith, c .before .spot .ensures, spot-bound (c .before .before .before .before .before .before .before .before .before .before .before .args .w .now) (c .before .before .before .before .before .before .before .before .before .before .before .args .start) (c .before .before .before .before .before .before .before .before .before .before .before .args .n) (c .before .before .before .before .before .before .before .before .before .before .before .args .depth) (c .before .before .before .before .before .before .before .number .result) (c .before .before .before .before .before .before .number2 .result) (c .before .before .before .before .tally .result) (c .before .before .before .before .before .before .before .before .before .before .before .pre .5))
+
+add-put-item : tie.Need-add-put-item
+add-put-item c = search needs
+
+put-item-requires : tie.Need-put-item-requires
+put-item-requires c κs = omega (arith, c .before .before .before .before .before .spot .ensures, spot-bound (c .before .before .before .before .before .before .before .before .before .before .before .before .before .before .before .args .w .now) (c .before .before .before .before .before .before .before .before .before .before .before .before .before .before .before .args .start) (c .before .before .before .before .before .before .before .before .before .before .before .before .before .before .before .args .n) (c .before .before .before .before .before .before .before .before .before .before .before .before .before .before .before .args .depth) (c .before .before .before .before .before .before .before .before .before .before .before .number .result) (c .before .before .before .before .before .before .before .before .before .before .number2 .result) (c .before .before .before .before .before .before .before .before .tally .result) (c .before .before .before .before .before .before .before .before .before .before .before .before .before .before .before .pre .5))
+
+add-t21 : tie.Need-add-t21
+add-t21 c = search needs
+
+same-length-2 : tie.Need-same-length-2
+same-length-2 c = search needs
+
+returns-3 : tie.Need-returns-3
+returns-3 c = λ s q. insert-lead s _ _ q _ _ _ _ (c .before .before .before .before .before .before .before .before .before .before .before .before .before .before .before .before .before .before .pre .5) _ (c .before .before .before .before .before .before .before .before .before .before .before .before .before .before .before .before .before .before .pre .0) (c .before .before .before .before .before .before .before .before .before .before .before .before .before .before .before .if1 .left) _ _ _ (c .before .before .before .before .before .before .before .before .before .before .before .before .before .before .number .ensures .0) (c .before .before .before .before .before .before .before .before .before .before .before .before .before .number2 .ensures .0) (c .before .before .before .before .before .before .before .before .before .before .before .tally .ensures .0) _ _ (c .before .before .before .before .before .before .before .before .before .before .before .before .before .before .before .before .before .before .pre .2) (c .before .before .before .before .before .before .before .before .before .before .before .before .before .before .before .before .before .before .pre .3) (omega (arith, c .before .before .before .before .before .before .before .before .before .before .before .before .before .before .before .before .before .before .pre)) (c .before .before .before .before .before .before .before .before .before .before .before .before .before .before .number .ensures .1) (c .before .before .before .before .before .before .before .before .before .before .if2 .left) (c .before .before .before .before .before .before .before .before .spot .ensures) (c .before .before .put-item .ensures ∙ ap (put (8 * c .before .before .before .before .before .before .before .before .spot .result) (itemBytes (c .before .before .before .before .before .before .before .before .before .before .before .before .before .before .before .before .before .before .args .depth) (c .before .before .before .before .before .before .before .before .before .before .before .before .before .before .number .result) (c .before .before .before .before .before .before .before .before .before .before .before .before .before .before .before .before .before .before .args .at + 7) 1)) (c .before .before .before .before .before .before .open-gap .ensures .1))
+
+pub insert-spec : {M : Type 1} → statement M
+insert-spec =
+    tie.close
+    (tie.spec
+    returns
+    number-requires
+    add-number
+    number-requires-2
+    tally-requires
+    add-if2
+    same-length
+    returns-2
+    spot-requires
+    mul-open-gap
+    mul-open-gap-2
+    open-gap-requires
+    add-put-item
+    put-item-requires
+    add-t21
+    same-length-2
+    returns-3)

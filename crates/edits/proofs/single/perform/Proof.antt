@@ -1,0 +1,55 @@
+use mathlib.Core.Path.{_≡_, refl, sym, ap, _∙_}
+use Prim.Native.Nat.{ℕ, _+_, _-_, _*_, _≤_, _<_}
+use mathlib.Core.List.{List}
+use Rattle.items.specs.Items.{u16}
+use Rattle.memory.specs.Splice.{opened}
+use Rattle.memory.specs.Put.{put}
+use Rattle.items.specs.Items.{itemBytes}
+use Rattle.edits.specs.Search.{deeperAt}
+use Rattle.edits.proofs.SearchLaws.{place-bound, spot-bound}
+use Rattle.edits.proofs.DeedLaws.{insert-6, insert-9, insert-lead, alter-absent, alter-gone, alter-beside, alter-led}
+use native.Mathlib.Omega.{arith}
+use borrow.Author.Needs.{needs}
+use Rattle.edits.proofs.single.perform.Statement.{statement}
+use Rattle.edits.proofs.single.perform.Tie as tie
+use Rattle.edits.proofs.single.perform.Reads as reads
+use Rattle.edits.proofs.single.perform.Lts as lts
+use Rattle.edits.proofs.single.alter.Reads as alter-reads
+use Rattle.edits.proofs.single.insert.Reads as insert-reads
+
+add-if1 : tie.Need-add-if1
+add-if1 c = search needs
+
+shared-slice-read-if1 : tie.Need-shared-slice-read-if1
+shared-slice-read-if1 c = search needs
+
+insert-requires : tie.Need-insert-requires
+insert-requires c κs = search needs
+
+same-length : tie.Need-same-length
+same-length c = search needs
+
+returns : tie.Need-returns
+returns c = search needs
+
+alter-requires : tie.Need-alter-requires
+alter-requires c κs = search needs
+
+same-length-2 : tie.Need-same-length-2
+same-length-2 c = search needs
+
+returns-2 : tie.Need-returns-2
+returns-2 c = λ s q. c .before .before .alter .ensures s q _
+
+pub perform-spec : {M : Type 1} → statement M
+perform-spec =
+    tie.close
+    (tie.spec
+    add-if1
+    shared-slice-read-if1
+    insert-requires
+    same-length
+    returns
+    alter-requires
+    same-length-2
+    returns-2)

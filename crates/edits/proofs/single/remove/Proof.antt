@@ -1,0 +1,68 @@
+use mathlib.Core.Path.{_≡_, refl, sym, ap, _∙_}
+use Prim.Native.Nat.{ℕ, _+_, _-_, _*_, _≤_, _<_}
+use borrow.Author.Tests.{lt-ltb, le-ltb, eq-eqb, ne-eqb}
+use Rattle.items.specs.Items.{u16}
+use Rattle.edits.specs.Search.{placeOf, endOf, behindLast, spotOf, deeperAt, goneCount, goneOut}
+use Rattle.edits.proofs.SearchLaws.{behind-none, behind-some, spot-zero, spot-past, spot-at, place-zero, place-bound, end-bound}
+use native.Mathlib.Omega.{arith}
+use borrow.Author.Needs.{needs}
+use Rattle.edits.proofs.single.remove.Statement.{statement}
+use Rattle.edits.proofs.single.remove.Tie as tie
+use Rattle.edits.proofs.single.remove.Reads as reads
+use Rattle.edits.proofs.single.remove.Lts as lts
+use Rattle.edits.proofs.search.run_end.Reads as run-end-reads
+use Rattle.memory.proofs.splicing.close_gap.Reads as close-gap-reads
+
+add-run-end : tie.Need-add-run-end
+add-run-end c = search needs
+
+add-run-end-2 : tie.Need-add-run-end-2
+add-run-end-2 c = search needs
+
+run-end-requires : tie.Need-run-end-requires
+run-end-requires c κs = search needs
+
+mul-close-gap : tie.Need-mul-close-gap
+mul-close-gap c = search needs
+
+mul-close-gap-2 : tie.Need-mul-close-gap-2
+mul-close-gap-2 c = search needs
+
+sub-close-gap : tie.Need-sub-close-gap
+sub-close-gap c = omega (arith, c .before .run-end .ensures, end-bound (c .before .before .before .before .args .w .now) (c .before .before .before .before .args .i + 1) (c .before .before .before .before .args .n) (c .before .before .before .before .args .depth + 1) (omega arith))
+
+mul-close-gap-3 : tie.Need-mul-close-gap-3
+mul-close-gap-3 c = omega (arith, c .before .run-end .ensures, end-bound (c .before .before .before .before .args .w .now) (c .before .before .before .before .args .i + 1) (c .before .before .before .before .args .n) (c .before .before .before .before .args .depth + 1) (omega arith))
+
+close-gap-requires : tie.Need-close-gap-requires
+close-gap-requires c κs = omega (arith, c .before .run-end .ensures, end-bound (c .before .before .before .before .args .w .now) (c .before .before .before .before .args .i + 1) (c .before .before .before .before .args .n) (c .before .before .before .before .args .depth + 1) (omega arith))
+
+sub-result : tie.Need-sub-result
+sub-result c = omega (arith, c .before .before .before .before .run-end .ensures, end-bound (c .before .before .before .before .before .before .before .args .w .now) (c .before .before .before .before .before .before .before .args .i + 1) (c .before .before .before .before .before .before .before .args .n) (c .before .before .before .before .before .before .before .args .depth + 1) (omega arith))
+
+sub-result-2 : tie.Need-sub-result-2
+sub-result-2 c = omega (arith, c .before .before .before .before .run-end .ensures, end-bound (c .before .before .before .before .before .before .before .args .w .now) (c .before .before .before .before .before .before .before .args .i + 1) (c .before .before .before .before .before .before .before .args .n) (c .before .before .before .before .before .before .before .args .depth + 1) (omega arith))
+
+same-length : tie.Need-same-length
+same-length c = search needs
+
+returns : tie.Need-returns
+unfolding goneCount goneOut
+returns c = (rw (← c .before .before .before .before .run-end .ensures), rw (← c .before .before .before .before .run-end .ensures) (c .before .before .close-gap .ensures .1))
+
+pub remove-spec : {M : Type 1} → statement M
+remove-spec =
+    tie.close
+    (tie.spec
+    add-run-end
+    add-run-end-2
+    run-end-requires
+    mul-close-gap
+    mul-close-gap-2
+    sub-close-gap
+    mul-close-gap-3
+    close-gap-requires
+    sub-result
+    sub-result-2
+    same-length
+    returns)

@@ -1,0 +1,4 @@
+pub mod Search
+pub mod Read
+pub mod Says
+pub mod Applied
