@@ -15,3 +15,15 @@ pub struct Version {
     pub coord: usize,
     pub spas: usize,
 }
+
+// What stands under a key: nothing, or a record that the workspace holds.
+pub enum Present {
+    Absent,
+    Here(Version),
+}
+
+// What an update record makes of it: the number, field and tuple of a refusal, or what stands there then.
+pub enum Changed {
+    Refused(u8, usize, usize),
+    Now(Present),
+}
