@@ -11,9 +11,10 @@ use Rattle.memory.proofs.WroteLaws.{wrote-length}
 use Rattle.forest.specs.Forest.{Forest, Tup}
 use Rattle.forest.specs.Flat.{Item, flat}
 use Rattle.rules.specs.Written.{treeBytes}
-use Rattle.items.specs.Items.{depthOf, codeOf, valueOf, itemAt, its}
+use Rattle.items.specs.Items.{valueOf, itemAt, its}
 use Rattle.items.proofs.ItemLaws.{its-end, its-more}
-use Rattle.numbering.specs.Numbers.{parentBefore, twinsBefore}
+use Rattle.numbering.specs.Known.{NumbersOf}
+use Rattle.numbering.specs.declared.known.Numbers.{Numbers}
 use Rattle.numbering.specs.Tuples.{tupleBytes, tuplesBytes, sizeOf, tupleWith, tupleAt, Sized, Emitted}
 use Rattle.numbering.proofs.BackLaws.{tuplesTo, tuples-end, tuples-more, tuples-forest}
 use Rattle.numbering.proofs.BytesLaws.{tuple-length, tuples-none, tuples-cons, tree-tuples}
@@ -110,13 +111,10 @@ module _ (s u w : List ℕ) (n : ℕ) (out₀ : List ℕ) (at : ℕ) (out : List
         inside = omega arith;
       }
 
-  pub emit-turn : i < n → (d c t k : ℕ) → d ≡ depthOf w i → c ≡ codeOf w i → t ≡ twinsBefore w d c i → k ≡ parentBefore w d i
-      → (p′ : ℕ) (out′ : List ℕ) → Wrote p (tupleBytes (tupleWith s u w i (t + 1) k)) out p′ out′ → EmitAt s u w n out₀ at out′ p′ (i + 1)
+  pub emit-turn : i < n → (x : Numbers) → NumbersOf w i x → (p′ : ℕ) (out′ : List ℕ) → Wrote p (tupleBytes (tupleWith s u w i (x .index) (x .parent))) out p′ out′
+      → EmitAt s u w n out₀ at out′ p′ (i + 1)
   unfolding tupleAt
-  emit-turn h d c t k ed ec et ek p′ out′ q =
-      let et′ : t ≡ twinsBefore w (depthOf w i) (codeOf w i) i = rw (← ed, ← ec) et in
-      let ek′ : k ≡ parentBefore w (depthOf w i) i = rw (← ed) ek in
-      turn h p′ out′ (rw (← et′, ← ek′) q)
+  emit-turn h x ex p′ out′ q = turn h p′ out′ (rw (← ex .index-is, ← ex .parent-is) q)
 
   pub emit-done : n ≤ i → Emitted s u w n at out₀ p out
   emit-done h =

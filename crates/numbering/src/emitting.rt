@@ -1,6 +1,5 @@
 // How many bytes the items of the working form are written in, and these bytes.
-use crate::numbers::parent_before;
-use crate::numbers::twins_before;
+use crate::known::next_numbers;
 use crate::values::put_value;
 use crate::values::value_length;
 use items::item::number;
@@ -11,6 +10,7 @@ ghost use Prim.Native.Nat.{_+_, _*_, _≤_, _<_};
 ghost use lib.ListN.{length};
 ghost use Rattle.memory.specs.Wrote.{Wrote};
 ghost use Rattle.items.specs.Items.{valueOf, its};
+ghost use Rattle.numbering.specs.Known.{Known};
 ghost use Rattle.numbering.specs.Tuples.{tupleBytes, sizeOf, tupleWith, Sized, Emitted};
 
 // How many bytes the n items of w are written in; s the dataset, u the update.
@@ -48,21 +48,36 @@ fn put_tuple(
     put_value(s, u, w, i, out, p4)
 }
 
-// The n items of w as tuples, from `at` on.
-pub fn emit(s: &[u8], u: &[u8], w: &[u8], n: usize, out: &mut [u8], at: usize) -> usize
-    requires { ⌜ (8 * n ≤ length (now w)) × (length (now w) < 524288) × (length (now s) ≤ 16777216) × (length (now u) ≤ 16777216) ⌝ }
+// The n items of w as tuples, from `at` on; known: what is remembered of the items before.
+fn emit_items(
+    s: &[u8],
+    u: &[u8],
+    w: &[u8],
+    n: usize,
+    known: &mut [usize],
+    out: &mut [u8],
+    at: usize,
+) -> usize
+    requires { ⌜ (8 * n ≤ length (now w)) × (length (now w) < 524288) × Known (now w) 0 (now known) ⌝ }
     requires { ⌜ at + sizeOf (its (now s) (now u) (now w) 0 n) ≤ length (now out) ⌝ }
     ensures { λ r. ⌜ Emitted (now (s .entry)) (now (u .entry)) (now (w .entry)) n at (now (out .entry)) r (now (out .exit)) ⌝ }
 {
     let mut p = at;
     let mut i = 0;
     while i < n {
-        let depth = number(w, 8 * i);
-        let code = number(w, 8 * i + 2);
-        let index = twins_before(w, i, depth, code) + 1;
-        let parent = parent_before(w, i, depth);
-        p = put_tuple(s, u, w, i, index, parent, out, p);
+        let x = next_numbers(w, i, known);
+        p = put_tuple(s, u, w, i, x.index, x.parent, out, p);
         i += 1;
     }
     p
+}
+
+// The n items of w as tuples, from `at` on; s the dataset, u the update.
+pub fn emit(s: &[u8], u: &[u8], w: &[u8], n: usize, out: &mut [u8], at: usize) -> usize
+    requires { ⌜ (8 * n ≤ length (now w)) × (length (now w) < 524288) × (length (now s) ≤ 16777216) × (length (now u) ≤ 16777216) ⌝ }
+    requires { ⌜ at + sizeOf (its (now s) (now u) (now w) 0 n) ≤ length (now out) ⌝ }
+    ensures { λ r. ⌜ Emitted (now (s .entry)) (now (u .entry)) (now (w .entry)) n at (now (out .entry)) r (now (out .exit)) ⌝ }
+{
+    let mut known = [0usize; 24];
+    emit_items(s, u, w, n, &mut known, out, at)
 }

@@ -1,6 +1,7 @@
 // The working form of a record's attributes written back as the tuples of an ATTR field.
+pub mod back;
 pub mod emitting;
-pub mod numbers;
+pub mod known;
 pub mod values;
 
 pub use emitting::emit;

@@ -4,10 +4,10 @@ use Rattle.numbering.specs.Numbers.{twinsBefore}
 use Rattle.numbering.proofs.BackLaws.{twins-ways}
 use borrow.Author.Needs.{needs}
 use native.Mathlib.Omega.{arith}
-use Rattle.numbering.proofs.numbers.twins_before.Statement.{statement}
-use Rattle.numbering.proofs.numbers.twins_before.Tie as tie
-use Rattle.numbering.proofs.numbers.twins_before.Reads as reads
-use Rattle.numbering.proofs.numbers.twins_before.Lts as lts
+use Rattle.numbering.proofs.back.twins_before.Statement.{statement}
+use Rattle.numbering.proofs.back.twins_before.Tie as tie
+use Rattle.numbering.proofs.back.twins_before.Reads as reads
+use Rattle.numbering.proofs.back.twins_before.Lts as lts
 use Rattle.items.proofs.number.Reads as number-reads
 use Rattle.items.proofs.twin.Reads as twin-reads
 

@@ -4,10 +4,10 @@ use Rattle.numbering.specs.Numbers.{parentBefore}
 use Rattle.numbering.proofs.BackLaws.{parent-ways}
 use borrow.Author.Needs.{needs}
 use native.Mathlib.Omega.{arith}
-use Rattle.numbering.proofs.numbers.parent_before.Statement.{statement}
-use Rattle.numbering.proofs.numbers.parent_before.Tie as tie
-use Rattle.numbering.proofs.numbers.parent_before.Reads as reads
-use Rattle.numbering.proofs.numbers.parent_before.Lts as lts
+use Rattle.numbering.proofs.back.parent_before.Statement.{statement}
+use Rattle.numbering.proofs.back.parent_before.Tie as tie
+use Rattle.numbering.proofs.back.parent_before.Reads as reads
+use Rattle.numbering.proofs.back.parent_before.Lts as lts
 use Rattle.items.proofs.number.Reads as number-reads
 
 abbrev Inv-loop : tie.InvT-loop
