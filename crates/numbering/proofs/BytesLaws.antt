@@ -52,9 +52,10 @@ pub tuple-written : (s u w : List ℕ) (i c x p : ℕ) → c ≡ codeOf w i → 
 unfolding tupleWith
 tuple-written s u w i c x p ec {at} {r = r} {d = d} {e = e} q₅ q₄ q₃ q₂ q₁ =
     let v : List ℕ = valueOf s u w i ++ (31 ∷ []) in
-    let same : littleEndian 2 c ++ littleEndian 2 x ++ littleEndian 2 p ++ (1 ∷ []) ++ v
-    ≡ bytes 2 (codeOf w i) ++ (bytes 2 x ++ (bytes 2 p ++ ((1 ∷ []) ++ v))) =
-    rw (ec, same-bytes 2 (codeOf w i), same-bytes 2 x, same-bytes 2 p, append-assoc, append-assoc, append-assoc) in
+    let a : List ℕ = bytes 2 (codeOf w i) in
+    let same : littleEndian 2 c ++ littleEndian 2 x ++ littleEndian 2 p ++ (1 ∷ []) ++ v ≡ a ++ (bytes 2 x ++ (bytes 2 p ++ ((1 ∷ []) ++ v))) =
+    rw (ec, same-bytes 2 (codeOf w i), same-bytes 2 x, same-bytes 2 p)
+    (append-assoc (a ++ bytes 2 x ++ bytes 2 p) (1 ∷ []) v ∙ append-assoc (a ++ bytes 2 x) (bytes 2 p) ((1 ∷ []) ++ v) ∙ append-assoc a (bytes 2 x) (bytes 2 p ++ ((1 ∷ []) ++ v))) in
     subst (λ (l : List ℕ). Wrote at l d r e) (same ∙ sym (tuple-is (tupleWith s u w i x p))) (then q₅ (then q₄ (then q₃ (then q₂ q₁))))
 
 -- ---- tuples

@@ -57,7 +57,7 @@ module _ (w : List ℕ) (i : ℕ) (k : List ℕ) (known : Known w i k) (d : ℕ)
       let t : getD k (3 * d + 2) 0 ≡ twinsBefore w d c i = known .right d h h .twins ∙ ap (λ (x : ℕ). twinsBefore w d x i) e in
       (t, omega (arith, twins-few w d c i))
 
-pub ruleset known-ways = (parent-known, twins-known, arith)
+pub ruleset known-ways = (parent-known, arith)
 
 -- zeros
 zero-at : (n j : ℕ) → _≡_ {A = ℕ} (getD (replicate n 0) j 0) 0
