@@ -1,5 +1,5 @@
 -- Laws of looking back from an item, and of the tuples that items have by that. Assumes nothing.
-use mathlib.Core.Path.{_≡_, refl, sym, ap, _∙_}
+use mathlib.Core.Path.{_≡_, refl, sym, _∙_}
 use mathlib.Core.List.{List, [], _∷_}
 use mathlib.Core.Logic.{⊎-elim}
 use mathlib.Core.Bool.{Bool, true, false}
@@ -13,7 +13,7 @@ use Rattle.base.specs.Choice.{pick}
 use Rattle.forest.specs.Forest.{Forest, Tup, tuplesOf}
 use Rattle.forest.specs.Flat.{Item, flat}
 use Rattle.forest.proofs.Numbers.{eq-or-ne}
-use Rattle.items.specs.Items.{depthOf, codeOf, valueOf, itemAt, its, twinAt}
+use Rattle.items.specs.Items.{depthOf, codeOf, itemAt, its, twinAt}
 use Rattle.items.proofs.ItemLaws.{its-end, its-more, twin-is, twin-once}
 use Rattle.numbering.specs.Numbers.{parentBefore, twinsBefore}
 use Rattle.numbering.specs.Tuples.{tupleWith, tupleAt}

@@ -1,6 +1,6 @@
 -- Laws of the loops over the items of the working form: how many bytes they are written in, and these bytes. Assumes nothing.
-use mathlib.Core.Path.{_≡_, refl, sym, ap, _∙_, subst}
-use mathlib.Core.List.{List, [], _∷_, _++_}
+use mathlib.Core.Path.{_≡_, refl, sym, ap, _∙_}
+use mathlib.Core.List.{List, [], _++_}
 use Prim.Native.Nat.{ℕ, zero, suc, _+_, _-_, _*_, _≤_, _<_}
 use native.Mathlib.Omega.{arith}
 use lib.ListN.{length, length-append}
@@ -8,8 +8,8 @@ use Rattle.memory.specs.Put.{put}
 use Rattle.memory.specs.Wrote.{Wrote}
 use Rattle.memory.proofs.PutLaws.{put-put, put-nil}
 use Rattle.memory.proofs.WroteLaws.{wrote-length}
-use Rattle.forest.specs.Forest.{Forest, Tup}
-use Rattle.forest.specs.Flat.{Item, flat}
+use Rattle.forest.specs.Forest.{Forest}
+use Rattle.forest.specs.Flat.{flat}
 use Rattle.rules.specs.Written.{treeBytes}
 use Rattle.items.specs.Items.{valueOf, itemAt, its}
 use Rattle.items.proofs.ItemLaws.{its-end, its-more}

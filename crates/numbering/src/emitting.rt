@@ -5,7 +5,6 @@ use crate::values::value_length;
 use items::item::number;
 use memory::writing::put_byte;
 use memory::writing::put_little_endian;
-ghost use mathlib.Core.Path.{_≡_};
 ghost use Prim.Native.Nat.{_+_, _*_, _≤_, _<_};
 ghost use lib.ListN.{length};
 ghost use Rattle.memory.specs.Wrote.{Wrote};
