@@ -86,6 +86,9 @@ pub place-bound : (w : List ℕ) (i n d c k : ℕ) → i ≤ n → (i ≤ placeO
 unfolding placeOf
 place-bound w i n d c k h = place-up-to-bound (n - i) w i n d c k h
 
+pub place-within : (w : List ℕ) (i n d c k r : ℕ) → i ≤ n → r ≡ placeOf w i n d c k → (r ≡ placeOf w i n d c k) × (i ≤ r)
+place-within w i n d c k r h e = let b = place-bound w i n d c k h in (e, omega arith)
+
 end-up-to-bound : (m : ℕ) (w : List ℕ) (i n d : ℕ) → i ≤ n → (i ≤ endUpTo m w i n d) × (endUpTo m w i n d ≤ n)
 unfolding endUpTo
 end-up-to-bound zero w i n d h = (h, omega arith)
@@ -340,6 +343,10 @@ spot-bound w i n d c k m h =
     (λ (l : k ≤ m). rw (spot-at w i n d c k m z l) (place-bound w i n d c k h))
     (lt-or-le m k))
     (eq-or-ne k 0)
+
+-- an index that is such a place
+pub spot-within : (w : List ℕ) (i n d c k m r : ℕ) → i ≤ n → r ≡ spotOf w i n d c k m → (r ≡ spotOf w i n d c k m) × (i ≤ r) × (r ≤ n)
+spot-within w i n d c k m r h e = let b = spot-bound w i n d c k m h in (e, omega arith, omega arith)
 
 Parts : List ℕ → List ℕ → List ℕ → ℕ → ℕ → ℕ → Split
 Parts s u w i n j = split (its s u w i j) (its s u w j n)
