@@ -25,7 +25,8 @@ use Rattle.edits.specs.declared.single.Deed.the-variants.{Not, Gone, Lea
 use Rattle.edits.specs.Search.{placeOf, endOf, twins, spotOf, deeperAt, goneCount, goneOut}
 use Rattle.edits.specs.Read.{actAt}
 use Rattle.edits.specs.Says.{DeedSays}
-use Rattle.edits.proofs.SearchLaws.{place-bound, end-bound, place-absent, place-there, place-is, end-list, twins-list, deeper-list, spot-bound, spot-list, gone-bound}
+use Rattle.edits.proofs.SearchLaws.{place-bound, end-bound, place-is, spot-bound, gone-bound}
+use Rattle.edits.proofs.ListLaws.{place-absent, place-there, end-list, twins-list, deeper-list, spot-list}
 
 act-insert : (u : List ℕ) (at q : ℕ) (us rest : Acts) → getD u (at + 6) 0 ≡ 1 → actAt u at q us rest ≡ act q insert (u16 u at) (u16 u (at + 2)) (textFrom u (at + 7)) us rest
 unfolding actAt instructionOf

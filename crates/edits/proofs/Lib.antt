@@ -1,4 +1,5 @@
 pub mod SearchLaws
+pub mod ListLaws
 pub mod DeedLaws
 pub mod ReadLaws
 pub mod LinkLaws
