@@ -1,12 +1,12 @@
-use mathlib.Core.Path.{_≡_, refl, sym, ap, _∙_}
-use mathlib.Core.List.{List, []}
-use lib.ListN.{length}
+use mathlib.Core.Path.{refl, sym, _∙_}
+use mathlib.Core.List.{[]}
 use Rattle.tree.proofs.CountLaws.{past-above}
 use Rattle.items.proofs.TupleLaws.{tuples-past, tuples-next}
-use Rattle.edits.proofs.ReadLaws.{valued-text, act-refused, act-gone, act-led, act-lead, ActsAt, acts-start, acts-end, acts-other, acts-no, acts-past, acts-turn}
+use Rattle.edits.proofs.ReadLaws.{valued-text}
+use Rattle.edits.proofs.TurnLaws.{act-refused, act-gone, act-led, act-lead, ActsAt, acts-start, acts-end, acts-other, acts-no, acts-past, acts-turn}
 use borrow.Author.Needs.{needs}
 use native.Mathlib.Omega.{arith}
-use Prim.Native.Nat.{ℕ, _+_, _-_, _*_, _≤_, _<_}
+use Prim.Native.Nat.{ℕ, _+_, _-_, _*_, _<_}
 use borrow.Fn.Kinds.{In}
 use borrow.Fn.PlainCycle.{Measures, is, falls, and}
 use Rattle.edits.proofs.acting.act.Reads as act
@@ -67,7 +67,7 @@ act-perform-requires : (t : ℕ) → act-lts.Need-perform-requires (
   acts-below t,
   acts.Post,
 ) (act-at t) act.Post
-act-perform-requires t c κs = 
+act-perform-requires t c κs =
     let o = c .before .before .before .before in
     let p = o .pre .1 in
     let f = tuples-past _ _ _ (p .0) (p .1) in
@@ -132,7 +132,7 @@ act-add-acts-2 : (t : ℕ) → act-lts.Need-add-acts-2 (
   acts-below t,
   acts.Post,
 ) (act-at t) act.Post
-act-add-acts-2 t c = 
+act-add-acts-2 t c =
     let o = c .before .before .before .before .before .before .before .before .before .before .before in
     let l = act-led _ (o .args .end) _ (o .args .place) _ _ _ _ _ [] _ _ _ _ (c .before .before .before .before .before .before .perform .ensures [] _) (c .before .before .deed3 .given .1) in
     omega (arith, o .pre)
@@ -155,7 +155,7 @@ act-acts-requires : (t : ℕ) → act-lts.Need-acts-requires (
   acts-below t,
   acts.Post,
 ) (act-at t) act.Post
-act-acts-requires t c κs = 
+act-acts-requires t c κs =
     let o = c .before .before .before .before .before .before .before .before .before .before .before in
     let p = o .pre .1 in
     let l = act-led _ (o .args .end) _ (o .args .place) _ _ _ _ _ [] _ _ _ _ (c .before .before .before .before .before .before .perform .ensures [] _) (c .before .before .deed3 .given .1) in
@@ -203,7 +203,7 @@ act-returns-2 : (t : ℕ) → act-lts.Need-returns-2 (
   acts-below t,
   acts.Post,
 ) (act-at t) act.Post
-act-returns-2 t c = 
+act-returns-2 t c =
     let p = c .before .before .before .before .before .before .before .before .before .before .pre .1 in
     λ s. act-gone _ _ _ _ _ _ _ _ _ s _ _ _ _ (c .before .before .before .before .before .perform .ensures s _) (c .before .deed2 .given .1) (c .before .before .before .before .before .before .before .behind .ensures) (tuples-past _ _ _ (p .0) (p .1))
 
@@ -225,7 +225,7 @@ act-returns-3 : (t : ℕ) → act-lts.Need-returns-3 (
   acts-below t,
   acts.Post,
 ) (act-at t) act.Post
-act-returns-3 t c = 
+act-returns-3 t c =
     let o = c .before .before .before .before .before .before .before .before .before .before .before .before .before .before in
     let p = o .pre .1 in
     λ s. act-lead _ _ _ _ _ _ _ _ _ s _ _ _ _ _ _ _ (act-led _ (o .args .end) _ (o .args .place) _ _ _ _ _ s _ _ _ _ (c .before .before .before .before .before .before .before .before .before .perform .ensures s _) (c .before .before .before .before .before .deed3 .given .1)) (c .before .before .before .before .before .before .before .before .before .before .before .behind .ensures) (tuples-past _ _ _ (p .0) (p .1)) refl (c .before .before .acts .ensures s)
@@ -310,7 +310,7 @@ acts-returns-2 : (t : ℕ) → acts-lts.Need-returns-2 (
   act-below t,
   act.Post,
 ) (acts-at t) acts.Post acts-Inv-loop acts-μ-loop
-acts-returns-2 t c = 
+acts-returns-2 t c =
     let o = c .before .before .before .before .before .before .before .before .before .before in
     let did = c .before .before .before .before .before in
     λ s. acts-no _ _ _ _ _ _ _ _ _ _ _ _ _ _ (o .loop .inv) (c .before .before .before .before .before .before .before .before .before .loop-test .taken) (sym (c .before .before .before .before .before .before .before .before .number .ensures .0) ∙ c .before .before .before .before .before .before .before .if1 .left) _ _ (did .act .ensures) s _ _ (c .before .one .given .1)
@@ -329,7 +329,7 @@ acts-loop-less : (t : ℕ) → acts-lts.Need-loop-less (
   act-below t,
   act.Post,
 ) (acts-at t) acts.Post acts-Inv-loop acts-μ-loop
-acts-loop-less t c = 
+acts-loop-less t c =
     let o = c .before .before .before .before .before .before .before .before .before .before in
     let did = c .before .before .before .before .before in
     omega (arith, acts-past _ _ _ _ _ _ _ _ _ _ _ _ _ _ (o .loop .inv) (c .before .before .before .before .before .before .before .before .before .loop-test .taken) (sym (c .before .before .before .before .before .before .before .before .number .ensures .0) ∙ c .before .before .before .before .before .before .before .if1 .left) _ _ (did .act .ensures) _ _ _ (c .before .one2 .given .1))
@@ -340,7 +340,7 @@ acts-loop-again : (t : ℕ) → acts-lts.Need-loop-again (
   act-below t,
   act.Post,
 ) (acts-at t) acts.Post acts-Inv-loop acts-μ-loop
-acts-loop-again t c = 
+acts-loop-again t c =
     let o = c .before .before .before .before .before .before .before .before .before .before in
     let did = c .before .before .before .before .before in
     acts-turn _ _ _ _ _ _ _ _ _ _ _ _ _ _ (o .loop .inv) (c .before .before .before .before .before .before .before .before .before .loop-test .taken) (sym (c .before .before .before .before .before .before .before .before .number .ensures .0) ∙ c .before .before .before .before .before .before .before .if1 .left) _ _ (did .act .ensures) _ _ _ (c .before .one2 .given .1) (did .act .kept .1 .1 .1 .1 .0)

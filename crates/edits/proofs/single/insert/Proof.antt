@@ -1,13 +1,6 @@
-use mathlib.Core.Path.{_≡_, refl, sym, ap, _∙_}
-use Prim.Native.Nat.{ℕ, _+_, _-_, _*_, _≤_, _<_}
-use mathlib.Core.List.{List}
-use Rattle.items.specs.Items.{u16}
-use Rattle.memory.specs.Splice.{opened}
+use mathlib.Core.Path.{ap, _∙_}
 use Rattle.memory.specs.Put.{put}
-use Rattle.items.specs.Items.{itemBytes}
-use Rattle.edits.specs.Search.{deeperAt}
-use Rattle.edits.proofs.SearchLaws.{place-bound, spot-bound}
-use Rattle.edits.proofs.DeedLaws.{insert-6, insert-9, insert-lead, alter-absent, alter-gone, alter-beside, alter-led}
+use Rattle.edits.proofs.DeedLaws.{insert-6, insert-9, insert-lead}
 use native.Mathlib.Omega.{arith}
 use borrow.Author.Needs.{needs}
 use Rattle.edits.proofs.single.insert.Statement.{statement}
@@ -42,7 +35,7 @@ same-length : tie.Need-same-length
 same-length c = search needs
 
 returns-2 : tie.Need-returns-2
-returns-2 c = 
+returns-2 c =
     let p = c .before .before .before .before .before .before .before .before .pre in
     λ s q. insert-9 s _ _ q _ _ _ _ (p .5) _ (p .0) (c .before .before .before .before .before .if1 .left) _ _ _ (c .before .before .before .before .number .ensures .0) (c .before .before .before .number2 .ensures .0) (c .before .tally .ensures .0) _ (c .if2 .taken)
 
@@ -71,7 +64,7 @@ same-length-2 : tie.Need-same-length-2
 same-length-2 c = search needs
 
 returns-3 : tie.Need-returns-3
-returns-3 c = 
+returns-3 c =
     let p = c .before .before .before .before .before .before .before .before .before .before .before .before .before .before .before .before .before .before .pre in
     let code = c .before .before .before .before .before .before .before .before .before .before .before .before .before .before .number .ensures in
     let spot = c .before .before .before .before .before .before .before .before .spot .ensures .0 in
