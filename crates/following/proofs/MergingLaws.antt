@@ -2,13 +2,13 @@
 use mathlib.Core.Path.{_≡_, refl, sym, _∙_, ap}
 use mathlib.Core.Bool.{Bool, true, false}
 use mathlib.Core.List.{List, [], _∷_, _++_, append-assoc}
-use Prim.Native.Nat.{ℕ, suc, _+_, _-_, _*_, _^_, _≤_, _<_}
+use Prim.Native.Nat.{ℕ, _+_, _-_, _*_, _^_, _≤_, _<_}
 use native.Mathlib.Nat.{zero-add}
 use native.Mathlib.Numerals.{add-one}
 use native.Mathlib.Omega.{arith}
 use borrow.Author.Tests.{eq-eqb, ne-eqb}
 use lib.Dec.{eqb}
-use lib.ListN.{length, getD, drop, length-append, drop-of-length-le}
+use lib.ListN.{length, getD, length-append, drop-of-length-le}
 use lib.Seq.{drop-cons}
 use Rattle.base.specs.Check.{pass}
 use Rattle.base.specs.Choice.{pick}
@@ -22,13 +22,13 @@ use Rattle.skeleton.specs.Place.{fieldsAt}
 use Rattle.skeleton.specs.Shape.{Bounded}
 use Rattle.skeleton.specs.declared.directory.Shape.{Shape}
 use Rattle.skeleton.proofs.EmitFieldsLaws.{length-entries, length-contents}
-use Rattle.rules.specs.General.{generalRecord, merged}
+use Rattle.rules.specs.General.{generalRecord}
 use Rattle.rules.specs.Written.{fieldWidth}
 use Rattle.rules.specs.declared.Mode.the-variants.{InDataset, InUpdate}
 use Rattle.writing.specs.Parts.{entryBytes}
 use Rattle.writing.specs.Found.{Summed}
 use Rattle.writing.proofs.WriterLaws.{put-on, put-all, length-entry}
-use Rattle.following.specs.Merging.{generalParts, AtMostOne, newerAt, partsFrom, mergedAt, Alone, Measured, oneIf, entryIf, Passing}
+use Rattle.following.specs.Merging.{generalParts, AtMostOne, newerAt, partsFrom, mergedAt, Measured, oneIf, entryIf, Passing}
 use Rattle.following.proofs.OnceLaws.{once-there, merged-parts}
 
 -- ---- `one_if` and `put_entry_if`
@@ -121,6 +121,20 @@ module _ (old : List ℕ) (ho : Shape) (new : List ℕ) (hn : Shape) where
   unfolding partsFrom gather
   parts-next j h t e = rw (e, add-one) (ap (gather (newerAt old ho new hn)) (drop-cons generalParts j 0 h))
 
+  module _ (j : ℕ) (h : j < 8) (t : ℕ) (et : t ≡ getD generalParts j 0) (n : ℕ) (m : Measured t (newerAt old ho new hn t) n) where
+    there : partsFrom old ho new hn j ≡ newerAt old ho new hn t ++ partsFrom old ho new hn (j + 1)
+    there = parts-next j h t et
+
+    count-there : length (partsFrom old ho new hn j) ≡ oneIf n + length (partsFrom old ho new hn (j + 1))
+    count-there =
+        ap length there ∙ length-append (newerAt old ho new hn t) (partsFrom old ho new hn (j + 1))
+        ∙ ap (λ (k : ℕ). k + length (partsFrom old ho new hn (j + 1))) (alone-count t (newerAt old ho new hn t) n m)
+
+    size-there : sizes (partsFrom old ho new hn j) ≡ n + sizes (partsFrom old ho new hn (j + 1))
+    size-there =
+        ap sizes there ∙ sizes-on (newerAt old ho new hn t) (partsFrom old ho new hn (j + 1))
+        ∙ ap (λ (k : ℕ). k + sizes (partsFrom old ho new hn (j + 1))) (sym (m .size-is))
+
   module _ (g : Passing old ho new hn) (j t : ℕ) (et : t ≡ getD generalParts j 0) where
     pub old-once : AtMostOne old ho t
     old-once = once-there InDataset j t (fieldsAt old ho 24) (g .old-passed) et
@@ -184,11 +198,8 @@ module _ (old : List ℕ) (ho : Shape) (new : List ℕ) (hn : Shape) where
 
         pub count-more : CountAt (j + 1) (fields + k) (bytes + n)
         count-more =
-            let e = parts-next j h t et in
-            let a = ap length e ∙ length-append (newerAt old ho new hn t) (partsFrom old ho new hn (j + 1)) in
-            let b = ap sizes e ∙ sizes-on (newerAt old ho new hn t) (partsFrom old ho new hn (j + 1)) in
-            let c = alone-count t (newerAt old ho new hn t) n m in
-            let d = m .size-is in
+            let a = count-there j h t et n m in
+            let b = size-there j h t et n m in
             let f = s .few in let w = s .small in let v = m .small in let o = one-or-none in
             record { count = omega (arith, s .count); size = omega (arith, s .size); few = omega arith; small = omega arith; last = omega arith }
 
@@ -235,34 +246,21 @@ module _ (old : List ℕ) (ho : Shape) (new : List ℕ) (hn : Shape) where
     directory-tag = let l = s .last in omega arith
 
     module _ (h : j < 8) (t : ℕ) (et : t ≡ getD generalParts j 0) (n : ℕ) (m : Measured t (newerAt old ho new hn t) n) where
-      there : partsFrom old ho new hn j ≡ newerAt old ho new hn t ++ partsFrom old ho new hn (j + 1)
-      there = parts-next old ho new hn j h t et
-
-      count-there : length (partsFrom old ho new hn j) ≡ oneIf n + length (partsFrom old ho new hn (j + 1))
-      count-there =
-          ap length there ∙ length-append (newerAt old ho new hn t) (partsFrom old ho new hn (j + 1))
-          ∙ ap (λ (k : ℕ). k + length (partsFrom old ho new hn (j + 1))) (alone-count t (newerAt old ho new hn t) n m)
-
-      size-there : sizes (partsFrom old ho new hn j) ≡ n + sizes (partsFrom old ho new hn (j + 1))
-      size-there =
-          ap sizes there ∙ sizes-on (newerAt old ho new hn t) (partsFrom old ho new hn (j + 1))
-          ∙ ap (λ (k : ℕ). k + sizes (partsFrom old ho new hn (j + 1))) (sym (m .size-is))
-
       pub directory-room : at + 14 * length (partsFrom old ho new hn 0) ≤ length out₀ → p + 14 * oneIf n ≤ length out
-      directory-room g = omega (arith, s .count, s .long, count-there)
+      directory-room g = omega (arith, s .count, s .long, count-there old ho new hn j h t et n m)
 
       pub directory-word : sizes (partsFrom old ho new hn 0) ≤ 281474993487872 → pos + n < 2 ^ 64
-      directory-word g = omega (arith, s .size, size-there)
+      directory-word g = omega (arith, s .size, size-there old ho new hn j h t et n m)
 
       pub directory-more : (p′ : ℕ) (out′ : List ℕ) → Wrote p (entryIf t n pos) out p′ out′ → DirectoryAt out₀ at out′ (j + 1) (pos + n) p′
       directory-more p′ out′ w =
           record {
-            count = omega (arith, s .count, count-there, w .next, length-if t n pos);
-            size = omega (arith, s .size, size-there);
+            count = omega (arith, s .count, count-there old ho new hn j h t et n m, w .next, length-if t n pos);
+            size = omega (arith, s .size, size-there old ho new hn j h t et n m);
             long = wrote-length w ∙ s .long;
             last = omega arith;
             left = put-on (entries fieldWidth fieldWidth (pos + n) (partsFrom old ho new hn (j + 1))) w
-                ∙ ap (λ (l : List ℕ). put p l out) (sym (ap (entries fieldWidth fieldWidth pos) there ∙ alone-entries t (newerAt old ho new hn t) _ n pos m))
+                ∙ ap (λ (l : List ℕ). put p l out) (sym (ap (entries fieldWidth fieldWidth pos) (there old ho new hn j h t et n m) ∙ alone-entries t (newerAt old ho new hn t) _ n pos m))
                 ∙ s .left;
           }
 

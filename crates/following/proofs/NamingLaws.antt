@@ -1,9 +1,8 @@
 -- Laws of number 8. Assumes nothing.
 use mathlib.Core.Path.{_≡_, refl, sym, _∙_, ap, ap₂}
-use mathlib.Core.Bool.{Bool, true, false, not, true≢false}
-use mathlib.Core.List.{List, [], _∷_}
-use mathlib.Core.Logic.{_⊎_, inl, inr, ⊎-elim}
-use Prim.Native.Nat.{ℕ, suc, _+_, _-_, _≤_, _<_}
+use mathlib.Core.Bool.{Bool, true, false, not}
+use mathlib.Core.List.{List, []}
+use Prim.Native.Nat.{ℕ, _+_, _-_, _≤_, _<_}
 use native.Mathlib.Numerals.{add-one}
 use native.Mathlib.Omega.{arith}
 use borrow.Author.Tests.{eq-eqb, ne-eqb, not-true, not-false, eqb-true, eqb-false}
@@ -11,9 +10,9 @@ use lib.Dec.{eqb}
 use lib.ListN.{length, getD, take, drop, drop-of-length-le}
 use lib.Seq.{drop-cons}
 use Rattle.base.specs.Choice.{pick, both}
-use Rattle.base.specs.Check.{ok, no, fault, Passed, pass}
+use Rattle.base.specs.Check.{no, fault, pass}
 use Rattle.base.specs.Keys.{same}
-use Rattle.base.proofs.KeysLaws.{same-sound, same-refl}
+use Rattle.base.proofs.KeysLaws.{same-sound}
 use Rattle.fields.specs.Bytes.{le, run}
 use Rattle.fields.specs.Table.{headOf, tupleOf}
 use Rattle.fields.specs.Values.{values, numAt, textAt}
@@ -21,16 +20,14 @@ use Rattle.fields.specs.Places.{headPlace}
 use Rattle.fields.specs.declared.Format.the-variants.{Dsid}
 use Rattle.fields.specs.declared.Stop.{Stop}
 use Rattle.fields.specs.declared.Stop.the-variants.{At, Bad}
-use Rattle.fields.proofs.ValueLaws.{isNumber, isTextAt, place-found, placed-number, placed-text}
-use Rattle.skeleton.specs.File.{Field}
+use Rattle.fields.proofs.ValueLaws.{isNumber, place-found, placed-number, placed-text}
 use Rattle.skeleton.specs.Place.{between, placeAt, fieldsAt}
 use Rattle.skeleton.specs.declared.directory.Shape.{Shape}
 use Rattle.skeleton.specs.declared.place.Place.{Place}
 use Rattle.skeleton.specs.declared.place.Place.the-variants.{At as PlaceAt, Done}
-use Rattle.skeleton.proofs.PlaceLaws.{fields-more, fields-done, place-runs, place-in}
+use Rattle.skeleton.proofs.PlaceLaws.{fields-more, place-runs, place-in}
 use Rattle.rules.specs.ByTag.{front}
 use Rattle.rules.specs.General.{generalRecord, dsidOf, nameOf, editionOf, numberOf, number8}
-use Rattle.rules.specs.declared.Mode.{Mode}
 use Rattle.rules.specs.declared.Mode.the-variants.{InDataset, InUpdate}
 use Rattle.following.specs.Naming.{Identified, sameFrom, dsidFollows}
 use Rattle.following.proofs.PassedLaws.{identified, never-none}

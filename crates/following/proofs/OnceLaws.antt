@@ -1,17 +1,16 @@
 -- Each tag of the general record stands at most once. Assumes nothing.
-use mathlib.Core.Path.{_≡_, refl, sym, _∙_, ap}
+use mathlib.Core.Path.{_≡_, refl, sym, ap}
 use mathlib.Core.Bool.{Bool, true, false}
-use mathlib.Core.List.{List, [], _∷_, _++_}
+use mathlib.Core.List.{List, [], _∷_}
 use mathlib.Core.Option.{Option, some, none}
-use Prim.Native.Nat.{ℕ, zero, suc, _+_, _≤_, _<_}
+use Prim.Native.Nat.{ℕ, zero, suc, _+_, _≤_}
 use native.Mathlib.Omega.{arith}
-use borrow.Author.Tests.{eqb-true, eqb-false, eq-eqb, ne-eqb}
+use borrow.Author.Tests.{eqb-true, eq-eqb}
 use lib.Dec.{eqb}
-use lib.ListN.{length, getD, take, drop}
+use lib.ListN.{length, getD}
 use Rattle.base.specs.Choice.{pick}
-use Rattle.base.specs.Check.{ok, no, fault, Passed, pass}
+use Rattle.base.specs.Check.{no, pass}
 use Rattle.base.specs.Lists.{each, gather, empty}
-use Rattle.base.proofs.ChoiceLaws.{by-test}
 use Rattle.skeleton.specs.File.{Field}
 use Rattle.rules.specs.Tags.{DSID, generalTags}
 use Rattle.rules.specs.ByTag.{withTag}

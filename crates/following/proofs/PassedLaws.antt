@@ -1,5 +1,5 @@
 -- What a general record that has passed says of its fields. Assumes nothing.
-use mathlib.Core.Path.{_≡_, refl, sym, _∙_}
+use mathlib.Core.Path.{_≡_, refl}
 use mathlib.Core.Bool.{Bool, true, false}
 use mathlib.Core.List.{List, [], _∷_}
 use Prim.Native.Nat.{ℕ}
@@ -7,7 +7,7 @@ use native.Mathlib.Omega.{arith}
 use borrow.Author.Tests.{eqb-true}
 use lib.Dec.{eqb}
 use Rattle.base.specs.Choice.{pick}
-use Rattle.base.specs.Check.{ok, no, bind, fault, Passed, pass}
+use Rattle.base.specs.Check.{no, bind, fault, pass}
 use Rattle.base.proofs.CheckLaws.{bind-inv}
 use Rattle.fields.specs.declared.Format.the-variants.{Dsid, DsidUpdate}
 use Rattle.fields.proofs.WiderLaws.{dsid, format-wider}

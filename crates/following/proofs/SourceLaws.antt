@@ -1,7 +1,7 @@
 -- Laws of the sources of the result's general fields. Assumes nothing.
 use mathlib.Core.Path.{_≡_, refl, sym, _∙_, ap}
 use mathlib.Core.Bool.{Bool, true, false}
-use mathlib.Core.List.{List, [], _∷_, _++_}
+use mathlib.Core.List.{List, [], _∷_}
 use Prim.Native.Nat.{ℕ, suc, _+_, _-_, _^_, _≤_, _<_}
 use native.Mathlib.Omega.{arith}
 use borrow.Author.Tests.{eq-eqb}
@@ -24,7 +24,7 @@ use Rattle.rules.specs.General.{newer}
 use Rattle.rules.specs.Written.{fieldAs}
 use Rattle.writing.proofs.JoiningLaws.{body-length}
 use Rattle.writing.proofs.PartsLaws.{wrote-as}
-use Rattle.following.specs.Merging.{AtMostOne, newerAt, Sourced, Alone, Measured}
+use Rattle.following.specs.Merging.{AtMostOne, newerAt, OneIn, Sourced, Measured}
 use Rattle.following.specs.declared.sources.Source.{Source}
 use Rattle.following.specs.declared.sources.Source.the-variants.{Sent, Kept, Neither}
 use Rattle.following.proofs.OnceLaws.{no-fields}
@@ -61,20 +61,20 @@ module _ (old : List ℕ) (ho : Shape) (new : List ℕ) (hn : Shape) (t : ℕ) (
     (e : Place) (en : e ≡ findFrom new hn t 24) where
   pub source-sent : (tag start end next : ℕ) → e ≡ At tag start end next → Sourced old ho new hn t (Sent start end)
   unfolding Sourced newer empty
-  source-sent tag start end next x = (
-    rw (only new hn t e en tag start end next x on),
-    found-runs new hn t 24 e en tag start end next x,
-    found-in new hn t 24 e en tag start end next x,
-  )
+  source-sent tag start end next x = record {
+    is = rw (only new hn t e en tag start end next x on);
+    runs = found-runs new hn t 24 e en tag start end next x;
+    inside = found-in new hn t 24 e en tag start end next x;
+  }
 
   module _ (x : e ≡ Done) (d : Place) (ed : d ≡ findFrom old ho t 24) where
     pub source-kept : (tag start end next : ℕ) → d ≡ At tag start end next → Sourced old ho new hn t (Kept start end)
     unfolding Sourced newer empty
-    source-kept tag start end next y = (
-      rw (absent new hn t e en x) (only old ho t d ed tag start end next y oo),
-      found-runs old ho t 24 d ed tag start end next y,
-      found-in old ho t 24 d ed tag start end next y,
-    )
+    source-kept tag start end next y = record {
+      is = rw (absent new hn t e en x) (only old ho t d ed tag start end next y oo);
+      runs = found-runs old ho t 24 d ed tag start end next y;
+      inside = found-in old ho t 24 d ed tag start end next y;
+    }
 
     pub source-neither : d ≡ Done → Sourced old ho new hn t Neither
     unfolding Sourced newer empty
@@ -84,16 +84,22 @@ pub ruleset source-ways = (source-sent, source-kept, source-neither)
 
 -- ---- one field of a slice r
 
-module _ (fs : List Field) (t : ℕ) (r : List ℕ) (i j : ℕ) (is : fs ≡ fieldAs t (between r i j) ∷ []) (l : i ≤ j) (g : j ≤ length r) where
+module _ {fs : List Field} {t : ℕ} {r : List ℕ} {i j : ℕ} (one : OneIn fs t r i j) where
+  one-runs : i ≤ j
+  one-runs = one .runs
+
+  one-word : length r ≤ 16777216 → j - i + 1 < 2 ^ 64
+  one-word s = let g = one .inside in omega arith
+
   one-size : sizes fs ≡ j - i + 1
   unfolding sizes
-  one-size = rw is (ap (λ (n : ℕ). n + 1 + 0) (body-length r i j l g) ∙ omega arith)
+  one-size = rw (one .is) (ap (λ (n : ℕ). n + 1 + 0) (body-length r i j (one .runs) (one .inside)) ∙ omega arith)
 
   one-measured : length r ≤ 16777216 → Measured t fs (j - i + 1)
-  one-measured s = record { size-is = sym one-size; alone = rw is refl; small = omega arith }
+  one-measured s = let g = one .inside in record { size-is = sym one-size; alone = rw (one .is) refl; small = omega arith }
 
   one-in : i + (j - i) ≤ length r
-  one-in = omega arith
+  one-in = let l = one .runs in let g = one .inside in omega arith
 
   module _ (at : ℕ) (o : List ℕ) (room : at + sizes fs ≤ length o) where
     one-room : at + (j - i) ≤ length o
@@ -102,14 +108,14 @@ module _ (fs : List Field) (t : ℕ) (r : List ℕ) (i j : ℕ) (is : fs ≡ fie
     module _ (p : ℕ) (o' : List ℕ) (w : Wrote at (part i (j - i) r) o p o') where
       one-long : length (part i (j - i) r) ≡ j - i
       unfolding part
-      one-long = body-length r i j l g
+      one-long = body-length r i j (one .runs) (one .inside)
 
       one-mark : p + 1 ≤ length o'
       one-mark = omega (arith, one-size, one-long, w .next, wrote-length w)
 
       one-wrote : (q : ℕ) (o'' : List ℕ) → Wrote p (30 ∷ []) o' q o'' → Wrote at (contents fs) o q o''
       unfolding contents part
-      one-wrote q o'' v = wrote-as (ap contents (sym is)) (then v w)
+      one-wrote q o'' v = wrote-as (ap contents (sym (one .is))) (then v w)
 
 -- ---- `part_size` and `put_body`, by the source s
 
@@ -123,60 +129,60 @@ module _ (old : List ℕ) (ho : Shape) (new : List ℕ) (hn : Shape) (t : ℕ) (
   none-wrote x at o = let z : newerAt old ho new hn t ≡ [] = rw x at es in rw z (wrote-none at o)
 
   module _ (i j : ℕ) (x : s ≡ Sent i j) where
-    sent : (newerAt old ho new hn t ≡ fieldAs t (between new i j) ∷ []) × (i ≤ j) × (j ≤ length new)
+    sent : OneIn (newerAt old ho new hn t) t new i j
     unfolding Sourced
     sent = rw x at es
 
     pub sent-runs : i ≤ j
-    sent-runs = sent .1
+    sent-runs = one-runs sent
 
     pub sent-word : length new ≤ 16777216 → j - i + 1 < 2 ^ 64
-    sent-word g = let a = sent .2 in omega arith
+    sent-word = one-word sent
 
     pub sent-measured : length new ≤ 16777216 → Measured t (newerAt old ho new hn t) (j - i + 1)
-    sent-measured g = one-measured (newerAt old ho new hn t) t new i j (sent .0) (sent .1) (sent .2) g
+    sent-measured = one-measured sent
 
     pub sent-in : i + (j - i) ≤ length new
-    sent-in = one-in (newerAt old ho new hn t) t new i j (sent .0) (sent .1) (sent .2)
+    sent-in = one-in sent
 
     module _ (at : ℕ) (o : List ℕ) (room : at + sizes (newerAt old ho new hn t) ≤ length o) where
       pub sent-room : at + (j - i) ≤ length o
-      sent-room = one-room (newerAt old ho new hn t) t new i j (sent .0) (sent .1) (sent .2) at o room
+      sent-room = one-room sent at o room
 
       module _ (p : ℕ) (o' : List ℕ) (w : Wrote at (part i (j - i) new) o p o') where
         pub sent-mark : p + 1 ≤ length o'
-        sent-mark = one-mark (newerAt old ho new hn t) t new i j (sent .0) (sent .1) (sent .2) at o room p o' w
+        sent-mark = one-mark sent at o room p o' w
 
         pub sent-wrote : (q : ℕ) (o'' : List ℕ) → Wrote p (30 ∷ []) o' q o'' → Wrote at (contents (newerAt old ho new hn t)) o q o''
-        sent-wrote = one-wrote (newerAt old ho new hn t) t new i j (sent .0) (sent .1) (sent .2) at o room p o' w
+        sent-wrote = one-wrote sent at o room p o' w
 
   module _ (i j : ℕ) (x : s ≡ Kept i j) where
-    kept : (newerAt old ho new hn t ≡ fieldAs t (between old i j) ∷ []) × (i ≤ j) × (j ≤ length old)
+    kept : OneIn (newerAt old ho new hn t) t old i j
     unfolding Sourced
     kept = rw x at es
 
     pub kept-runs : i ≤ j
-    kept-runs = kept .1
+    kept-runs = one-runs kept
 
     pub kept-word : length old ≤ 16777216 → j - i + 1 < 2 ^ 64
-    kept-word g = let a = kept .2 in omega arith
+    kept-word = one-word kept
 
     pub kept-measured : length old ≤ 16777216 → Measured t (newerAt old ho new hn t) (j - i + 1)
-    kept-measured g = one-measured (newerAt old ho new hn t) t old i j (kept .0) (kept .1) (kept .2) g
+    kept-measured = one-measured kept
 
     pub kept-in : i + (j - i) ≤ length old
-    kept-in = one-in (newerAt old ho new hn t) t old i j (kept .0) (kept .1) (kept .2)
+    kept-in = one-in kept
 
     module _ (at : ℕ) (o : List ℕ) (room : at + sizes (newerAt old ho new hn t) ≤ length o) where
       pub kept-room : at + (j - i) ≤ length o
-      kept-room = one-room (newerAt old ho new hn t) t old i j (kept .0) (kept .1) (kept .2) at o room
+      kept-room = one-room kept at o room
 
       module _ (p : ℕ) (o' : List ℕ) (w : Wrote at (part i (j - i) old) o p o') where
         pub kept-mark : p + 1 ≤ length o'
-        kept-mark = one-mark (newerAt old ho new hn t) t old i j (kept .0) (kept .1) (kept .2) at o room p o' w
+        kept-mark = one-mark kept at o room p o' w
 
         pub kept-wrote : (q : ℕ) (o'' : List ℕ) → Wrote p (30 ∷ []) o' q o'' → Wrote at (contents (newerAt old ho new hn t)) o q o''
-        kept-wrote = one-wrote (newerAt old ho new hn t) t old i j (kept .0) (kept .1) (kept .2) at o room p o' w
+        kept-wrote = one-wrote kept at o room p o' w
 
 pub ruleset size-ways = (none-measured, sent-runs, sent-word, sent-measured, kept-runs, kept-word, kept-measured)
 

@@ -41,10 +41,16 @@ partsFrom old ho new hn j = gather (newerAt old ho new hn) (drop j generalParts)
 abbrev pub mergedAt : List ℕ → Shape → List ℕ → Shape → List Field
 mergedAt old ho new hn = merged (fieldsAt old ho 24) (fieldsAt new hn 24)
 
--- what is known of a source: the field that it gives lies in its record
+-- these fields are one, with tag t, whose body lies in slice r from i up to j
+pub record OneIn (fs : List Field) (t : ℕ) (r : List ℕ) (i j : ℕ) : Type 0 where
+  pub is : fs ≡ fieldAs t (between r i j) ∷ []
+  pub runs : i ≤ j
+  pub inside : j ≤ length r
+
+-- what a source says of the field with tag t
 unfoldable pub Sourced : List ℕ → Shape → List ℕ → Shape → ℕ → Source → Type 0
-Sourced old ho new hn t (Sent i j) = (newerAt old ho new hn t ≡ fieldAs t (between new i j) ∷ []) × (i ≤ j) × (j ≤ length new)
-Sourced old ho new hn t (Kept i j) = (newerAt old ho new hn t ≡ fieldAs t (between old i j) ∷ []) × (i ≤ j) × (j ≤ length old)
+Sourced old ho new hn t (Sent i j) = OneIn (newerAt old ho new hn t) t new i j
+Sourced old ho new hn t (Kept i j) = OneIn (newerAt old ho new hn t) t old i j
 Sourced old ho new hn t Neither = newerAt old ho new hn t ≡ []
 
 -- fields of which there is at most one, with tag t

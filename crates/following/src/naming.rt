@@ -9,7 +9,6 @@ use skeleton::place::Place;
 use skeleton::place::place_at;
 ghost use mathlib.Core.Path.{_≡_};
 ghost use Prim.Native.Nat.{_≤_, _<_};
-ghost use lib.ListN.{length};
 ghost use Rattle.base.specs.Choice.{pick};
 ghost use Rattle.base.specs.Check.{no, fault, pass};
 ghost use Rattle.base.specs.Keys.{same};
@@ -22,7 +21,7 @@ ghost use Rattle.skeleton.specs.Place.{fieldsAt};
 ghost use Rattle.skeleton.specs.Shape.{Bounded};
 ghost use Rattle.rules.specs.General.{generalRecord, number8};
 ghost use Rattle.rules.specs.declared.Mode.the-variants.{InDataset, InUpdate};
-ghost use Rattle.following.specs.Naming.{sameFrom, Identified, dsidFollows};
+ghost use Rattle.following.specs.Naming.{Identified, dsidFollows};
 
 // Whether two texts are the same.
 fn same_bytes(a: &[u8], b: &[u8]) -> bool
