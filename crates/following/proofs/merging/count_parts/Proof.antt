@@ -1,7 +1,6 @@
 use Prim.Native.Nat.{_-_}
 use Rattle.following.specs.Merging.{Passing}
-use Rattle.following.proofs.MergingLaws.{CountAt}
-use Rattle.following.proofs.MergingLaws.{count-ways}
+use Rattle.following.proofs.MergingLaws.{CountAt, count-ways}
 use borrow.Author.Needs.{needs}
 use native.Mathlib.Omega.{arith}
 use Rattle.following.proofs.merging.count_parts.Statement.{statement}

@@ -1,7 +1,6 @@
 use Prim.Native.Nat.{_-_}
 use Rattle.following.specs.Merging.{Passing}
-use Rattle.following.proofs.MergingLaws.{DirectoryAt}
-use Rattle.following.proofs.MergingLaws.{directory-ways}
+use Rattle.following.proofs.MergingLaws.{DirectoryAt, directory-ways}
 use borrow.Author.Needs.{needs}
 use native.Mathlib.Omega.{arith}
 use Rattle.following.proofs.merging.put_directory.Statement.{statement}

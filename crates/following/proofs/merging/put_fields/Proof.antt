@@ -1,7 +1,6 @@
 use Prim.Native.Nat.{_-_}
 use Rattle.following.specs.Merging.{Passing}
-use Rattle.following.proofs.MergingLaws.{FieldsAt}
-use Rattle.following.proofs.MergingLaws.{fields-ways}
+use Rattle.following.proofs.MergingLaws.{FieldsAt, fields-ways}
 use borrow.Author.Needs.{needs}
 use native.Mathlib.Omega.{arith}
 use Rattle.following.proofs.merging.put_fields.Statement.{statement}

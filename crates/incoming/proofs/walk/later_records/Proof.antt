@@ -1,7 +1,6 @@
 use Prim.Native.Nat.{_-_}
 use lib.ListN.{length}
-use Rattle.incoming.proofs.ComingLaws.{ThirdAt}
-use Rattle.incoming.proofs.ComingLaws.{third-ways}
+use Rattle.incoming.proofs.ComingLaws.{ThirdAt, third-ways}
 use borrow.Author.Needs.{needs}
 use native.Mathlib.Omega.{arith}
 use Rattle.incoming.proofs.walk.later_records.Statement.{statement}
