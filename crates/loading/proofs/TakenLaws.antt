@@ -20,7 +20,7 @@ use Rattle.rules.specs.ByTag.{withTag, bodies, front}
 use Rattle.rules.specs.Kind.{kindOf, rowsOf}
 use Rattle.rules.specs.Coordinates.{Coord, coordsIn}
 use Rattle.rules.specs.Trees.{attrTree}
-use Rattle.rules.specs.Record.{Rec, Parts, Assoc, Spatial, Ident, identOf, foidOf, standing, assocOf, spatialOf, partsOf, recOf}
+use Rattle.rules.specs.Record.{Rec, Assoc, Spatial, Ident, identOf, foidOf, standing, assocOf, spatialOf, partsOf, recOf}
 use Rattle.rules.specs.declared.Kind.{Kind}
 use Rattle.rules.specs.declared.Kind.the-variants.{Info, Point, Multi, Feature}
 use Rattle.sequence.specs.Keyed.{Each}

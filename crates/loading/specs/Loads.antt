@@ -1,7 +1,7 @@
 -- What loading stands on, and what it does to the version in the workspace.
-use Prim.Native.Nat.{ℕ, _+_, _*_, _≤_}
+use Prim.Native.Nat.{ℕ, _+_, _-_, _*_, _%_, _≤_}
 use mathlib.Core.Path.{_≡_}
-use mathlib.Core.Bool.{true}
+use mathlib.Core.Bool.{true, false}
 use mathlib.Core.List.{List}
 use lib.ListN.{length, drop}
 use Rattle.base.specs.Check.{pass}
@@ -20,7 +20,7 @@ use Rattle.rules.specs.declared.Kind.{Kind}
 use Rattle.sequence.specs.Keyed.{Each}
 use Rattle.sound.specs.Sound.{rowed}
 use Rattle.items.specs.Items.{source}
-use Rattle.version.specs.Held.{Held}
+use Rattle.version.specs.Held.{takesTree, Held}
 use Rattle.version.specs.declared.Version.{Version}
 use Rattle.loading.specs.Taken.{takeField, takeFields}
 
@@ -47,6 +47,15 @@ pub record Loads (b : List ℕ) (t from to : ℕ) (v : Version) (w : List ℕ) :
   pub wide : 400000 ≤ length w
   pub fits : Fits (v .kind) (fieldAs t (between b from to))
   pub room : Room v (size (fieldAs t (between b from to)))
+
+-- the coordinate tuples from `from` up to `to` of b can be loaded
+pub record LoadsCoords (b : List ℕ) (from to : ℕ) (v : Version) (w : List ℕ) : Type 0 where
+  pub runs : from ≤ to
+  pub inside : to ≤ length b
+  pub even : (to - from) % 8 ≡ 0
+  pub room : 8 * v .coord + (to - from) ≤ 99999
+  pub wide : 400000 ≤ length w
+  pub plain : takesTree (v .kind) ≡ false
 
 -- the fields fs of a record can be loaded
 pub record LoadsAll (b : List ℕ) (at len : ℕ) (fs : List Field) (v : Version) (w : List ℕ) : Type 0 where

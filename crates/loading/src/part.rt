@@ -1,16 +1,13 @@
 // One field of a stored record, from `from` up to `to` of b, the slice that x names, is added to the version in the workspace.
 use version::Version;
 ghost use mathlib.Core.Path.{_≡_};
-ghost use mathlib.Core.Bool.{true, false};
-ghost use mathlib.Core.List.{List};
-ghost use Prim.Native.Nat.{ℕ, _+_, _-_, _*_, _%_, _≤_};
-ghost use lib.ListN.{length};
+ghost use mathlib.Core.Bool.{true};
+ghost use Prim.Native.Nat.{ℕ};
 ghost use Rattle.skeleton.specs.Place.{between};
-ghost use Rattle.rules.specs.Tags.{FOID, ATTR, INAS, SPAS};
+ghost use Rattle.rules.specs.Tags.{ATTR, INAS, SPAS};
 ghost use Rattle.rules.specs.Written.{fieldAs};
-ghost use Rattle.version.specs.Held.{takesTree};
 ghost use Rattle.loading.specs.Taken.{isCoord};
-ghost use Rattle.loading.specs.Loads.{Loads, Took};
+ghost use Rattle.loading.specs.Loads.{Loads, LoadsCoords, Took};
 
 // The tree of an ATTR.
 fn load_attr(b: &[u8], from: usize, to: usize, x: u8, v: Version, work: &mut [u8]) -> Version
@@ -36,7 +33,7 @@ fn load_inas(b: &[u8], from: usize, to: usize, x: u8, v: Version, work: &mut [u8
 
 // The tuples of a C2IT or of a C2IL.
 fn load_coords(b: &[u8], from: usize, to: usize, v: Version, work: &mut [u8]) -> Version
-    requires { ⌜ (from ≤ to) × (to ≤ length (now b)) × ((to - from) % 8 ≡ 0) × (8 * v .coord + (to - from) ≤ 99999) × (400000 ≤ length (now work)) × (takesTree (v .kind) ≡ false) ⌝ }
+    requires { ⌜ LoadsCoords (now b) from to v (now work) ⌝ }
     ensures { λ r. ⌜ ((x t : ℕ) → isCoord t ≡ true → Took (now (b .entry)) x (fieldAs t (between (now (b .entry)) from to)) (now (work .entry)) v (now (work .exit)) r) ⌝ }
 {
     let n = coords::tuples::put_tuples(b, from, to, &mut work[0..200000], v.coord, v.coord);

@@ -1,13 +1,9 @@
-use Rattle.loading.proofs.PartLaws.{attr-ready, attr-area, attr-took}
-use mathlib.Core.Path.{_∙_}
+-- `load_attr` meets its contract. Assumes nothing.
+use Rattle.loading.proofs.AttrLaws.{attr-ready, attr-took}
 use Rattle.version.proofs.AreaLaws.{lent}
-use native.Mathlib.Omega.{arith}
 use borrow.Author.Needs.{needs}
 use Rattle.loading.proofs.part.load_attr.Statement.{statement}
 use Rattle.loading.proofs.part.load_attr.Tie as tie
-use Rattle.loading.proofs.part.load_attr.Reads as reads
-use Rattle.loading.proofs.part.load_attr.Lts as lts
-use Rattle.items.proofs.load.Reads as load-reads
 
 sub-load : tie.Need-sub-load
 sub-load c = search needs
@@ -26,7 +22,7 @@ same-length c = search needs
 
 returns : tie.Need-returns
 unfolding lent
-returns c = attr-took _ _ _ _ _ (c .before .before .before .before .before .before .pre) _ _ _ (c .before .before .load .kept .1 .1 .1 .1 .0 ∙ attr-area _ _ _ _ _ (c .before .before .before .before .before .before .pre)) (c .before .before .load .ensures)
+returns c = attr-took _ _ _ _ _ (c .before .before .before .before .before .before .pre) _ _ _ (c .before .before .load .kept .1 .1 .1 .1 .0) (c .before .before .load .ensures)
 
 pub load-attr-spec : {M : Type 1} → statement M
 load-attr-spec =

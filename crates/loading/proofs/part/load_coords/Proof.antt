@@ -1,13 +1,9 @@
-use Rattle.loading.proofs.PartLaws.{coords-area, coords-took}
-use mathlib.Core.Path.{_∙_}
+-- `load_coords` meets its contract. Assumes nothing.
+use Rattle.loading.proofs.CoordLaws.{coords-took}
 use Rattle.version.proofs.AreaLaws.{lent}
-use native.Mathlib.Omega.{arith}
 use borrow.Author.Needs.{needs}
 use Rattle.loading.proofs.part.load_coords.Statement.{statement}
 use Rattle.loading.proofs.part.load_coords.Tie as tie
-use Rattle.loading.proofs.part.load_coords.Reads as reads
-use Rattle.loading.proofs.part.load_coords.Lts as lts
-use Rattle.coords.proofs.tuples.put_tuples.Reads as put-tuples-reads
 
 sub-put-tuples : tie.Need-sub-put-tuples
 sub-put-tuples c = search needs
@@ -26,7 +22,7 @@ same-length c = search needs
 
 returns : tie.Need-returns
 unfolding lent
-returns c = coords-took _ _ _ _ _ _ _ (c .before .before .before .before .before .before .pre) (c .before .before .put-tuples .kept .1 .1 .1 .0 ∙ coords-area (c .before .before .before .before .before .before .args .work .now) (c .before .before .before .before .before .before .pre .4)) (c .before .before .put-tuples .ensures)
+returns c = coords-took _ _ _ _ _ _ _ (c .before .before .before .before .before .before .pre) (c .before .before .put-tuples .kept .1 .1 .1 .0) (c .before .before .put-tuples .ensures)
 
 pub load-coords-spec : {M : Type 1} → statement M
 load-coords-spec =

@@ -1,17 +1,12 @@
+-- `load_field` meets its contract. Assumes nothing.
 use Rattle.rules.specs.Tags.{FOID, ATTR, INAS, SPAS, C2IT, C2IL}
-use mathlib.Core.Path.{refl, ap, _∙_}
+use mathlib.Core.Path.{refl}
 use Rattle.loading.specs.Taken.{isCoord}
-use Rattle.loading.proofs.PartLaws.{foid-took, loads-as, took-as, point-ready, list-ready, other-took}
-use native.Mathlib.Omega.{arith}
+use Rattle.loading.proofs.CoordLaws.{point-ready, list-ready}
+use Rattle.loading.proofs.FoidLaws.{foid-took, loads-as, took-as, other-took}
 use borrow.Author.Needs.{needs}
 use Rattle.loading.proofs.part.load_field.Statement.{statement}
 use Rattle.loading.proofs.part.load_field.Tie as tie
-use Rattle.loading.proofs.part.load_field.Reads as reads
-use Rattle.loading.proofs.part.load_field.Lts as lts
-use Rattle.loading.proofs.part.load_attr.Reads as load-attr-reads
-use Rattle.loading.proofs.part.load_coords.Reads as load-coords-reads
-use Rattle.loading.proofs.part.load_inas.Reads as load-inas-reads
-use Rattle.loading.proofs.part.load_spas.Reads as load-spas-reads
 
 returns : tie.Need-returns
 returns c = took-as _ _ _ _ _ _ (c .before .before .before .pre) FOID (c .if1 .taken) _ _ _ (foid-took _ _ _ _ _ (loads-as _ _ _ _ _ _ (c .before .before .before .pre) FOID (c .if1 .taken)) _)
@@ -44,7 +39,7 @@ returns-4 : tie.Need-returns-4
 returns-4 c = took-as _ _ _ _ _ _ (c .before .before .before .before .before .before .before .before .before .before .pre) SPAS (c .before .before .before .before .if4 .taken) _ _ _ (c .before .before .load-spas .ensures)
 
 load-coords-requires : tie.Need-load-coords-requires
-load-coords-requires c κs = point-ready _ _ _ _ _ _ (c .before .before .before .before .before .before .before .before .pre) (c .before .if5 .taken)
+load-coords-requires c κs = point-ready _ _ _ _ _ (loads-as _ _ _ _ _ _ (c .before .before .before .before .before .before .before .before .pre) C2IT (c .before .if5 .taken))
 
 same-length-4 : tie.Need-same-length-4
 same-length-4 c = search needs
@@ -54,7 +49,7 @@ unfolding isCoord
 returns-5 c = took-as _ _ _ _ _ _ (c .before .before .before .before .before .before .before .before .before .before .before .pre) C2IT (c .before .before .before .before .if5 .taken) _ _ _ (c .before .before .load-coords .ensures _ C2IT refl)
 
 load-coords-requires-2 : tie.Need-load-coords-requires-2
-load-coords-requires-2 c κs = list-ready _ _ _ _ _ _ (c .before .before .before .before .before .before .before .before .before .pre) (c .before .if6 .taken)
+load-coords-requires-2 c κs = list-ready _ _ _ _ _ (loads-as _ _ _ _ _ _ (c .before .before .before .before .before .before .before .before .before .pre) C2IL (c .before .if6 .taken))
 
 same-length-5 : tie.Need-same-length-5
 same-length-5 c = search needs

@@ -1,13 +1,9 @@
-use Rattle.loading.proofs.PartLaws.{inas-ready, inas-area, inas-took}
-use mathlib.Core.Path.{_∙_}
+-- `load_inas` meets its contract. Assumes nothing.
+use Rattle.loading.proofs.InasLaws.{inas-ready, inas-took}
 use Rattle.version.proofs.AreaLaws.{lent}
-use native.Mathlib.Omega.{arith}
 use borrow.Author.Needs.{needs}
 use Rattle.loading.proofs.part.load_inas.Statement.{statement}
 use Rattle.loading.proofs.part.load_inas.Tie as tie
-use Rattle.loading.proofs.part.load_inas.Reads as reads
-use Rattle.loading.proofs.part.load_inas.Lts as lts
-use Rattle.cells.proofs.inas.load_inas.Reads as load-inas-reads
 
 sub-load-inas : tie.Need-sub-load-inas
 sub-load-inas c = search needs
@@ -26,7 +22,7 @@ same-length c = search needs
 
 returns : tie.Need-returns
 unfolding lent
-returns c = inas-took _ _ _ _ _ (c .before .before .before .before .before .before .pre) _ _ _ (c .before .before .load-inas .kept .1 .1 .1 .0 ∙ inas-area _ _ _ _ _ (c .before .before .before .before .before .before .pre)) (c .before .before .load-inas .ensures)
+returns c = inas-took _ _ _ _ _ (c .before .before .before .before .before .before .pre) _ _ _ (c .before .before .load-inas .kept .1 .1 .1 .0) (c .before .before .load-inas .ensures)
 
 pub load-inas-spec : {M : Type 1} → statement M
 load-inas-spec =

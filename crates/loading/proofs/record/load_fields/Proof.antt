@@ -1,15 +1,12 @@
+-- `load_fields` meets its contract. Assumes nothing.
 use Prim.Native.Nat.{_+_, _-_}
 use lib.ListN.{length}
 use Rattle.skeleton.specs.Place.{between}
-use Rattle.loading.proofs.FieldsLaws.{LoadAt, load-start, load-inside, load-word, load-falls, load-from, load-to, load-ready, load-turn, fields-ways}
+use Rattle.loading.proofs.FieldsLaws.{LoadAt, load-start, load-inside, load-falls, load-ready, load-turn, fields-ways}
 use borrow.Author.Needs.{needs}
 use native.Mathlib.Omega.{arith}
 use Rattle.loading.proofs.record.load_fields.Statement.{statement}
 use Rattle.loading.proofs.record.load_fields.Tie as tie
-use Rattle.loading.proofs.record.load_fields.Reads as reads
-use Rattle.loading.proofs.record.load_fields.Lts as lts
-use Rattle.loading.proofs.part.load_field.Reads as load-field-reads
-use Rattle.skeleton.proofs.place.place_at.Reads as place-at-reads
 
 abbrev Inv-loop : tie.InvT-loop
 Inv-loop b at len h x p work₀ q₀ r₀ work q r = LoadAt b at len h x p work₀ r₀ work q r

@@ -1,13 +1,9 @@
-use Rattle.loading.proofs.FieldsLaws.{record-inside, record-bounded, record-some, ident-ready, later-ready, record-held, record-word}
+-- `load_record` meets its contract. Assumes nothing.
+use Rattle.loading.proofs.RecordLaws.{record-inside, record-bounded, record-some, ident-ready, later-ready, record-held, record-word}
 use native.Mathlib.Omega.{arith}
 use borrow.Author.Needs.{needs}
 use Rattle.loading.proofs.record.load_record.Statement.{statement}
 use Rattle.loading.proofs.record.load_record.Tie as tie
-use Rattle.loading.proofs.record.load_record.Reads as reads
-use Rattle.loading.proofs.record.load_record.Lts as lts
-use Rattle.loading.proofs.record.load_fields.Reads as load-fields-reads
-use Rattle.loading.proofs.record.open_version.Reads as open-version-reads
-use Rattle.skeleton.proofs.place.place_at.Reads as place-at-reads
 
 add-place-at : tie.Need-add-place-at
 add-place-at c = omega (arith, record-word (c .before .before .args .b .now) (c .before .before .args .at) (c .before .before .args .len) (c .before .before .args .h) (c .before .before .args .k) (c .before .before .args .work .now) (c .before .before .pre))

@@ -1,13 +1,8 @@
-use Rattle.loading.proofs.FieldsLaws.{opened-is}
-use native.Mathlib.Omega.{arith}
+-- `open_version` meets its contract. Assumes nothing.
+use Rattle.loading.proofs.RecordLaws.{opened-is}
 use borrow.Author.Needs.{needs}
 use Rattle.loading.proofs.record.open_version.Statement.{statement}
 use Rattle.loading.proofs.record.open_version.Tie as tie
-use Rattle.loading.proofs.record.open_version.Reads as reads
-use Rattle.loading.proofs.record.open_version.Lts as lts
-use Rattle.contents.proofs.identifier.code.Reads as code-reads
-use Rattle.contents.proofs.identifier.rcid.Reads as rcid-reads
-use Rattle.contents.proofs.identifier.rver.Reads as rver-reads
 
 rcid-requires : tie.Need-rcid-requires
 rcid-requires c κs = search needs
