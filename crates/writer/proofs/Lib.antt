@@ -1,0 +1,4 @@
+pub mod FormsLaws
+pub mod MeasureLaws
+pub mod PutLaws
+pub mod WriteLaws
