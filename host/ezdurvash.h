@@ -11,4 +11,10 @@ enum { EZDURVASH_NUMBER, EZDURVASH_FILE, EZDURVASH_RECORD, EZDURVASH_LENGTH, EZD
    but some 80 KiB of the stack. */
 void ezdurvash_read(const unsigned char *dataset, unsigned long dataset_length, unsigned long *answer, unsigned long answer_length);
 
+/* Writes a dataset in its written form into `out`, of which every byte is written: the written form and zeroes behind it, or zeroes alone
+   where the dataset is refused. Any bytes and an output of any length may be handed over; `dataset` and `out` do not overlap, and neither is
+   null, also where its length is 0. The five numbers go into `answer` as above, with the written length in its place; `out` is written also
+   where `answer` is shorter and left as it is. No memory is taken but some 80 KiB of the stack. */
+void ezdurvash_write(const unsigned char *dataset, unsigned long dataset_length, unsigned char *out, unsigned long out_length, unsigned long *answer, unsigned long answer_length);
+
 #endif

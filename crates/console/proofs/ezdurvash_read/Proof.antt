@@ -1,57 +1,24 @@
-use lib.ListN.{length-set}
+use Rattle.console.proofs.NumberedLaws.{numbers-ways}
 use native.Mathlib.Omega.{arith}
 use borrow.Author.Needs.{needs}
 use Rattle.console.proofs.ezdurvash_read.Statement.{statement}
 use Rattle.console.proofs.ezdurvash_read.Tie as tie
 use Rattle.console.proofs.ezdurvash_read.Reads as reads
 use Rattle.console.proofs.ezdurvash_read.Lts as lts
+use Rattle.console.proofs.put_answer.Reads as put-answer-reads
 use Rattle.reader.proofs.read.Reads as read-reads
-
-returns : tie.Need-returns
-returns c = search needs
 
 read-requires : tie.Need-read-requires
 read-requires c κs = search needs
 
-cast-answer : tie.Need-cast-answer
-cast-answer c = search needs
-
-slice-write-answer : tie.Need-slice-write-answer
-slice-write-answer c = search needs
-
-cast-answer-2 : tie.Need-cast-answer-2
-cast-answer-2 c = search needs
-
-slice-write-answer-2 : tie.Need-slice-write-answer-2
-slice-write-answer-2 c = simp length-set (omega arith)
-
-slice-write-answer-3 : tie.Need-slice-write-answer-3
-slice-write-answer-3 c = simp length-set (omega arith)
-
-slice-write-answer-4 : tie.Need-slice-write-answer-4
-slice-write-answer-4 c = simp length-set (omega arith)
-
-slice-write-answer-5 : tie.Need-slice-write-answer-5
-slice-write-answer-5 c = search needs
+put-answer-requires : tie.Need-put-answer-requires
+put-answer-requires c κs = search needs
 
 same-length : tie.Need-same-length
 same-length c = search needs
 
-returns-2 : tie.Need-returns-2
-returns-2 c = search needs
+returns : tie.Need-returns
+returns c = search numbers-ways
 
 pub ezdurvash-read-spec : {M : Type 1} → statement M
-ezdurvash-read-spec =
-    tie.close
-    (tie.spec
-    returns
-    read-requires
-    cast-answer
-    slice-write-answer
-    cast-answer-2
-    slice-write-answer-2
-    slice-write-answer-3
-    slice-write-answer-4
-    slice-write-answer-5
-    same-length
-    returns-2)
+ezdurvash-read-spec = tie.close (tie.spec read-requires put-answer-requires same-length returns)
