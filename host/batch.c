@@ -5,6 +5,9 @@
 enum { READ = 1, WRITE = 2, UPDATE = 3, LISTING = 4 };
 enum { HEAD = 17 };
 
+/* What the lent slices are filled with before a call, so that zeroing shows. */
+enum { FILLED = 0xa5 };
+
 /* One case: what is asked, the bytes handed over, and how long the lent slices are. */
 struct framed {
     word operation, dataset_length, update_length, out_length, work_length;
@@ -36,17 +39,56 @@ static word hash(const byte *bytes, word length) {
     return sum;
 }
 
-static void line(const word answer[EZDURVASH_NUMBERS], const byte *out, word out_length, int work_is_zero) {
+static int all_zero(const byte *bytes, word length) {
+    for (word i = 0; i < length; i++)
+        if (bytes[i] != 0) return 0;
+    return 1;
+}
+
+/* A slice to lend, to be freed; null where there is no memory. */
+static byte *lent(word length) {
+    byte *slice = malloc(length + 1);
+    if (slice) memset(slice, FILLED, length);
+    return slice;
+}
+
+static void listed(const struct framed *one) {
+    static byte text[EZDURVASH_LISTING];
+    word length = ezdurvash_list(one->dataset, one->dataset_length, text, EZDURVASH_LISTING);
+    printf("listing %lu %016lx\n", length, hash(text, length));
+}
+
+/* Makes the call of a case that is no listing, and prints its line. */
+static void called(const struct framed *one, byte *out, byte *work) {
+    word answer[EZDURVASH_NUMBERS], out_length = one->out_length;
+    int work_is_zero = 1;
+    if (one->operation == READ) {
+        out_length = 0;
+        ezdurvash_read(one->dataset, one->dataset_length, answer, EZDURVASH_NUMBERS);
+    } else if (one->operation == WRITE) {
+        ezdurvash_write(one->dataset, one->dataset_length, out, out_length, answer, EZDURVASH_NUMBERS);
+    } else {
+        ezdurvash_update(one->dataset, one->dataset_length, one->update, one->update_length, out, out_length, work,
+                         one->work_length, answer, EZDURVASH_NUMBERS);
+        work_is_zero = all_zero(work, one->work_length);
+    }
     for (int i = 0; i < EZDURVASH_NUMBERS; i++) printf("%lu ", answer[i]);
     printf("%016lx %d\n", hash(out, out_length), work_is_zero);
 }
 
-static int answered(const struct framed *one) {
-    word answer[EZDURVASH_NUMBERS] = {0};
-    if (one->operation != READ) return 0;
-    ezdurvash_read(one->dataset, one->dataset_length, answer, EZDURVASH_NUMBERS);
-    line(answer, 0, 0, 1);
-    return 1;
+/* Answers a case; or says what is in the way. */
+static const char *answered(const struct framed *one) {
+    if (one->operation < READ || one->operation > LISTING) return "there is no such operation";
+    if (one->operation == LISTING) {
+        listed(one);
+        return 0;
+    }
+    byte *out = lent(one->out_length), *work = lent(one->work_length);
+    const char *wrong = out && work ? 0 : "there is no memory for its slices";
+    if (!wrong) called(one, out, work);
+    free(out);
+    free(work);
+    return wrong;
 }
 
 int batch(const char *path) {
@@ -55,14 +97,11 @@ int batch(const char *path) {
     if (!loaded(path, &cases)) return TROUBLE;
     word at = 0;
     for (word count = 1; at < cases.length; count++) {
-        char what[96];
+        char what[64];
         word length = unframed(cases.bytes + at, cases.length - at, &one);
-        if (length == 0) {
-            snprintf(what, sizeof what, "the file ends inside case %lu", count);
-            return trouble(path, what);
-        }
-        if (!answered(&one)) {
-            snprintf(what, sizeof what, "case %lu asks for operation %lu; so far only 1, read, is proved", count, one.operation);
+        const char *wrong = length == 0 ? "the file ends inside it" : answered(&one);
+        if (wrong) {
+            snprintf(what, sizeof what, "case %lu: %s", count, wrong);
             return trouble(path, what);
         }
         at += length;

@@ -15,6 +15,9 @@ struct desk {
     word sum;
 };
 
+/* Where the writing jobs write. */
+static byte out[EZDURVASH_LONGEST];
+
 typedef void job(struct desk *);
 
 static void reads(struct desk *desk) {
@@ -23,6 +26,14 @@ static void reads(struct desk *desk) {
 
 static void walks(struct desk *desk) {
     desk->sum += plain_walk(desk->dataset.bytes, desk->dataset.length);
+}
+
+static void writes(struct desk *desk) {
+    ezdurvash_write(desk->dataset.bytes, desk->dataset.length, out, desk->dataset.length, desk->answer, EZDURVASH_NUMBERS);
+}
+
+static void copies(struct desk *desk) {
+    plain_copy(out, desk->dataset.bytes, desk->dataset.length);
 }
 
 static word now(void) {
@@ -128,4 +139,35 @@ int bench_read(word mebibytes) {
         if (took == 0) return TROUBLE;
     }
     return orders(mebibytes * MEBIBYTE, took) ? DONE : TROUBLE;
+}
+
+/* One line of the writer's table; the time of write, or 0 for trouble. `before` is the time of half the size, or 0. */
+static word written(word length, word before) {
+    static job *const JOBS[] = {copies, reads, writes};
+    struct desk desk;
+    word took[3];
+    char bytes[DIGITS];
+    if (!laid(&desk, length, 0)) return 0;
+    best(JOBS, 3, &desk, took);
+    double beyond = times(took[2], took[1]) - 1;
+    printf("%12s %9.1f ms %9.1f ms %9.2f ms %12.2f %10.1f", counted(length, bytes), milliseconds(took[2]), milliseconds(took[1]),
+           milliseconds(took[0]), beyond, times(took[2], took[0]));
+    if (before > 0) printf(" %8.2f", times(took[2], before));
+    printf("\n");
+    fflush(0);
+    int same = memcmp(out, desk.dataset.bytes, length) == 0;
+    if (!same) trouble("bench", "the dataset is not its own written form");
+    free(desk.dataset.bytes);
+    return same && good(&desk) ? took[2] : 0;
+}
+
+int bench_write(word mebibytes) {
+    word took = 0;
+    printf("write against read and a plain copy of the same sorted dataset, processor time, best of %d runs\n\n", RUNS);
+    printf("       bytes        write         read         copy  beyond read  times copy   growth\n");
+    for (word part = 8; part > 0; part /= 2) {
+        took = written(mebibytes * MEBIBYTE / part, took);
+        if (took == 0) return TROUBLE;
+    }
+    return DONE;
 }

@@ -5,10 +5,31 @@
 /* The places of an answer's numbers. */
 enum { EZDURVASH_NUMBER, EZDURVASH_FILE, EZDURVASH_RECORD, EZDURVASH_LENGTH, EZDURVASH_COUNT, EZDURVASH_NUMBERS };
 
-/* Checks a dataset of so many bytes; any bytes may be handed over, and none of them is written. `dataset` is not null, also where
-   `dataset_length` is 0. The five numbers of the answer go into `answer`, whose `answer_length` is EZDURVASH_NUMBERS: number of the
-   refusal (0 for done), file, record, written length (0), count of records. A shorter `answer` is left as it is. No memory is taken
-   but some 80 KiB of the stack. */
+/* Everywhere: any bytes may be handed over, and those of dataset and update are never written. No pointer is null, also where its length
+   is 0. The slices that are written lie apart from each other and from what is read. The five numbers of an answer go into `answer`,
+   whose `answer_length` is EZDURVASH_NUMBERS: number of the refusal (0 for done), file, record, written length, count of records; a
+   shorter `answer` is left as it is. No memory is taken but some 80 KiB of the stack, and more where attributes are nested deep. */
+
+/* Checks a dataset; the written length is 0. */
 void ezdurvash_read(const unsigned char *dataset, unsigned long dataset_length, unsigned long *answer, unsigned long answer_length);
+
+/* Puts a dataset into its written form at the beginning of `out`; the rest of `out` is zero, on a refusal all of it. */
+void ezdurvash_write(const unsigned char *dataset, unsigned long dataset_length, unsigned char *out, unsigned long out_length,
+                     unsigned long *answer, unsigned long answer_length);
+
+/* Puts the listing of an input as text into `out`, without a zero behind it, and answers its length; 0 where `out` is too short.
+   EZDURVASH_LISTING bytes are enough for every input. */
+enum { EZDURVASH_LISTING = 131072 };
+unsigned long ezdurvash_list(const unsigned char *input, unsigned long input_length, unsigned char *out, unsigned long out_length);
+
+/* Puts the result of a dataset and an update into `out`, as ezdurvash_write does. `work` has EZDURVASH_WORKSPACE bytes at least, or the
+   call is refused; it is zero afterwards. */
+enum { EZDURVASH_WORKSPACE = 400000 };
+void ezdurvash_update(const unsigned char *dataset, unsigned long dataset_length, const unsigned char *update,
+                      unsigned long update_length, unsigned char *out, unsigned long out_length, unsigned char *work,
+                      unsigned long work_length, unsigned long *answer, unsigned long answer_length);
+
+/* The longest dataset, update or result. */
+enum { EZDURVASH_LONGEST = 16777216 };
 
 #endif
