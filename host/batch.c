@@ -5,7 +5,7 @@
 enum { READ = 1, WRITE = 2, UPDATE = 3, LISTING = 4 };
 enum { HEAD = 17 };
 
-/* What the lent slices are filled with before a call, so that zeroing shows. */
+/* What a lent slice is filled with before a call, so that zeroing shows. */
 enum { FILLED = 0xa5 };
 
 /* One case: what is asked, the bytes handed over, and how long the lent slices are. */
@@ -39,12 +39,6 @@ static word hash(const byte *bytes, word length) {
     return sum;
 }
 
-static int all_zero(const byte *bytes, word length) {
-    for (word i = 0; i < length; i++)
-        if (bytes[i] != 0) return 0;
-    return 1;
-}
-
 /* A slice to lend, to be freed; null where there is no memory. */
 static byte *lent(word length) {
     byte *slice = malloc(length + 1);
@@ -52,43 +46,41 @@ static byte *lent(word length) {
     return slice;
 }
 
-static void listed(const struct framed *one) {
-    static byte text[EZDURVASH_LISTING];
-    word length = ezdurvash_list(one->dataset, one->dataset_length, text, EZDURVASH_LISTING);
-    printf("listing %lu %016lx\n", length, hash(text, length));
-}
-
-/* Makes the call of a case that is no listing, and prints its line. */
-static void called(const struct framed *one, byte *out, byte *work) {
-    word answer[EZDURVASH_NUMBERS], out_length = one->out_length;
-    int work_is_zero = 1;
-    if (one->operation == READ) {
-        out_length = 0;
-        ezdurvash_read(one->dataset, one->dataset_length, answer, EZDURVASH_NUMBERS);
-    } else if (one->operation == WRITE) {
-        ezdurvash_write(one->dataset, one->dataset_length, out, out_length, answer, EZDURVASH_NUMBERS);
-    } else {
-        ezdurvash_update(one->dataset, one->dataset_length, one->update, one->update_length, out, out_length, work,
-                         one->work_length, answer, EZDURVASH_NUMBERS);
-        work_is_zero = all_zero(work, one->work_length);
-    }
+static void print_line(const word answer[EZDURVASH_NUMBERS], const byte *out, word out_length, int work_is_zero) {
     for (int i = 0; i < EZDURVASH_NUMBERS; i++) printf("%lu ", answer[i]);
     printf("%016lx %d\n", hash(out, out_length), work_is_zero);
 }
 
-/* Answers a case; or says what is in the way. */
-static const char *answered(const struct framed *one) {
-    if (one->operation < READ || one->operation > LISTING) return "there is no such operation";
-    if (one->operation == LISTING) {
-        listed(one);
-        return 0;
-    }
-    byte *out = lent(one->out_length), *work = lent(one->work_length);
-    const char *wrong = out && work ? 0 : "there is no memory for its slices";
-    if (!wrong) called(one, out, work);
+/* Each of these answers a case of its operation; or says what is in the way. */
+static const char *read_one(const struct framed *one) {
+    word answer[EZDURVASH_NUMBERS];
+    ezdurvash_read(one->dataset, one->dataset_length, answer, EZDURVASH_NUMBERS);
+    print_line(answer, 0, 0, 1);
+    return 0;
+}
+
+static const char *listed_one(const struct framed *one) {
+    static byte text[EZDURVASH_LISTING];
+    word length = ezdurvash_list(one->dataset, one->dataset_length, text, EZDURVASH_LISTING);
+    printf("listing %lu %016lx\n", length, hash(text, length));
+    return 0;
+}
+
+static const char *written_one(const struct framed *one) {
+    word answer[EZDURVASH_NUMBERS];
+    byte *out = lent(one->out_length);
+    if (!out) return "there is no memory for its slice";
+    ezdurvash_write(one->dataset, one->dataset_length, out, one->out_length, answer, EZDURVASH_NUMBERS);
+    print_line(answer, out, one->out_length, 1);
     free(out);
-    free(work);
-    return wrong;
+    return 0;
+}
+
+static const char *answered(const struct framed *one) {
+    if (one->operation == READ) return read_one(one);
+    if (one->operation == WRITE) return written_one(one);
+    if (one->operation == LISTING) return listed_one(one);
+    return one->operation == UPDATE ? "updates are not proved yet" : "there is no such operation";
 }
 
 int batch(const char *path) {

@@ -35,15 +35,3 @@ int write_chart(const char *path, const char *to) {
     ezdurvash_write(chart.bytes, chart.length, out, EZDURVASH_LONGEST, answer, EZDURVASH_NUMBERS);
     return finished(answer, out, to);
 }
-
-int update_chart(const char *path, const char *update, const char *to) {
-    static byte out[EZDURVASH_LONGEST], work[EZDURVASH_WORKSPACE];
-    struct file chart, changes;
-    word answer[EZDURVASH_NUMBERS];
-    if (!loaded(path, &chart) || !loaded(update, &changes)) return TROUBLE;
-    if (same_file(to, &chart)) return trouble(to, "it is the dataset itself, which is never overwritten");
-    if (same_file(to, &changes)) return trouble(to, "it is the update itself, which is never overwritten");
-    ezdurvash_update(chart.bytes, chart.length, changes.bytes, changes.length, out, EZDURVASH_LONGEST, work, EZDURVASH_WORKSPACE,
-                     answer, EZDURVASH_NUMBERS);
-    return finished(answer, out, to);
-}

@@ -6,8 +6,7 @@ int read_chart(const char *path);
 
 int list_chart(const char *path);
 
-/* Both put a file in the place of `to`: only where the rules accept, never in the place of what is read. */
+/* Puts a file in the place of `to`: only where the rules accept, never in the place of what is read. */
 int write_chart(const char *path, const char *to);
-int update_chart(const char *path, const char *update, const char *to);
 
 #endif

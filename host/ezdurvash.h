@@ -5,7 +5,7 @@
 /* The places of an answer's numbers. */
 enum { EZDURVASH_NUMBER, EZDURVASH_FILE, EZDURVASH_RECORD, EZDURVASH_LENGTH, EZDURVASH_COUNT, EZDURVASH_NUMBERS };
 
-/* Everywhere: any bytes may be handed over, and those of dataset and update are never written. No pointer is null, also where its length
+/* Everywhere: any bytes may be handed over, and those of the dataset are never written. No pointer is null, also where its length
    is 0. The slices that are written lie apart from each other and from what is read. The five numbers of an answer go into `answer`,
    whose `answer_length` is EZDURVASH_NUMBERS: number of the refusal (0 for done), file, record, written length, count of records; a
    shorter `answer` is left as it is. No memory is taken but some 80 KiB of the stack, and more where attributes are nested deep. */
@@ -22,14 +22,7 @@ void ezdurvash_write(const unsigned char *dataset, unsigned long dataset_length,
 enum { EZDURVASH_LISTING = 131072 };
 unsigned long ezdurvash_list(const unsigned char *input, unsigned long input_length, unsigned char *out, unsigned long out_length);
 
-/* Puts the result of a dataset and an update into `out`, as ezdurvash_write does. `work` has EZDURVASH_WORKSPACE bytes at least, or the
-   call is refused; it is zero afterwards. */
-enum { EZDURVASH_WORKSPACE = 400000 };
-void ezdurvash_update(const unsigned char *dataset, unsigned long dataset_length, const unsigned char *update,
-                      unsigned long update_length, unsigned char *out, unsigned long out_length, unsigned char *work,
-                      unsigned long work_length, unsigned long *answer, unsigned long answer_length);
-
-/* The longest dataset, update or result. */
+/* The longest dataset, read or written. */
 enum { EZDURVASH_LONGEST = 16777216 };
 
 #endif
