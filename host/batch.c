@@ -5,6 +5,9 @@
 enum { READ = 1, WRITE = 2, UPDATE = 3, LISTING = 4 };
 enum { HEAD = 17 };
 
+/* What a lent slice is filled with before a call, so that zeroing shows. */
+enum { FILLED = 0xa5 };
+
 /* One case: what is asked, the bytes handed over, and how long the lent slices are. */
 struct framed {
     word operation, dataset_length, update_length, out_length, work_length;
@@ -36,17 +39,41 @@ static word hash(const byte *bytes, word length) {
     return sum;
 }
 
-static void line(const word answer[EZDURVASH_NUMBERS], const byte *out, word out_length, int work_is_zero) {
+/* A slice to lend, to be freed; null where there is no memory. */
+static byte *lent(word length) {
+    byte *slice = malloc(length + 1);
+    if (slice) memset(slice, FILLED, length);
+    return slice;
+}
+
+static void print_line(const word answer[EZDURVASH_NUMBERS], const byte *out, word out_length, int work_is_zero) {
     for (int i = 0; i < EZDURVASH_NUMBERS; i++) printf("%lu ", answer[i]);
     printf("%016lx %d\n", hash(out, out_length), work_is_zero);
 }
 
-static int answered(const struct framed *one) {
-    word answer[EZDURVASH_NUMBERS] = {0};
-    if (one->operation != READ) return 0;
+/* Each of these answers a case of its operation; or says what is in the way. */
+static const char *read_one(const struct framed *one) {
+    word answer[EZDURVASH_NUMBERS];
     ezdurvash_read(one->dataset, one->dataset_length, answer, EZDURVASH_NUMBERS);
-    line(answer, 0, 0, 1);
-    return 1;
+    print_line(answer, 0, 0, 1);
+    return 0;
+}
+
+static const char *written_one(const struct framed *one) {
+    word answer[EZDURVASH_NUMBERS];
+    byte *out = lent(one->out_length);
+    if (!out) return "there is no memory for its slice";
+    ezdurvash_write(one->dataset, one->dataset_length, out, one->out_length, answer, EZDURVASH_NUMBERS);
+    print_line(answer, out, one->out_length, 1);
+    free(out);
+    return 0;
+}
+
+static const char *answered(const struct framed *one) {
+    if (one->operation == READ) return read_one(one);
+    if (one->operation == WRITE) return written_one(one);
+    if (one->operation == UPDATE || one->operation == LISTING) return "updates and listings are not proved yet";
+    return "there is no such operation";
 }
 
 int batch(const char *path) {
@@ -55,14 +82,11 @@ int batch(const char *path) {
     if (!loaded(path, &cases)) return TROUBLE;
     word at = 0;
     for (word count = 1; at < cases.length; count++) {
-        char what[96];
+        char what[64];
         word length = unframed(cases.bytes + at, cases.length - at, &one);
-        if (length == 0) {
-            snprintf(what, sizeof what, "the file ends inside case %lu", count);
-            return trouble(path, what);
-        }
-        if (!answered(&one)) {
-            snprintf(what, sizeof what, "case %lu asks for operation %lu; so far only 1, read, is proved", count, one.operation);
+        const char *wrong = length == 0 ? "the file ends inside it" : answered(&one);
+        if (wrong) {
+            snprintf(what, sizeof what, "case %lu: %s", count, wrong);
             return trouble(path, what);
         }
         at += length;

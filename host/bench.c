@@ -1,12 +1,10 @@
 #include "bench.h"
 #include "invent.h"
 #include "plain.h"
+#include "timing.h"
 #include "words.h"
 
-enum { RUNS = 15, MEBIBYTE = 1048576 };
-
-/* A measurement ends after so many nanoseconds, once it has run at all. */
-static const word PATIENCE = 3000000000;
+enum { MEBIBYTE = 1048576 };
 
 /* What a job works on. */
 struct desk {
@@ -15,49 +13,36 @@ struct desk {
     word sum;
 };
 
-typedef void job(struct desk *);
+/* Where the writing jobs write. */
+static byte out[EZDURVASH_LONGEST];
 
-static void reads(struct desk *desk) {
+static void reads(void *at) {
+    struct desk *desk = at;
     ezdurvash_read(desk->dataset.bytes, desk->dataset.length, desk->answer, EZDURVASH_NUMBERS);
 }
 
-static void walks(struct desk *desk) {
+static void walks(void *at) {
+    struct desk *desk = at;
     desk->sum += plain_walk(desk->dataset.bytes, desk->dataset.length);
 }
 
-static word now(void) {
-    struct timespec t;
-    clock_gettime(PROCESSOR_TIME, &t);
-    return (word)t.seconds * 1000000000 + (word)t.nanoseconds;
+static void writes(void *at) {
+    struct desk *desk = at;
+    ezdurvash_write(desk->dataset.bytes, desk->dataset.length, out, desk->dataset.length, desk->answer, EZDURVASH_NUMBERS);
 }
 
-static word timed(job *work, struct desk *desk) {
-    word start = now();
-    work(desk);
-    return now() - start + 1;
-}
-
-/* The shortest times of several runs of each job in nanoseconds, at least 1. The jobs take turns, so that what slows the machine for a
-   while slows all of them. */
-static void best(job *const *jobs, word count, struct desk *desk, word *shortest) {
-    word all = 0;
-    for (int run = 0; run < RUNS && all < PATIENCE; run++) {
-        for (word i = 0; i < count; i++) {
-            word took = timed(jobs[i], desk);
-            all += took;
-            if (run == 0 || took < shortest[i]) shortest[i] = took;
-        }
-    }
+static void copies(void *at) {
+    struct desk *desk = at;
+    plain_copy(out, desk->dataset.bytes, desk->dataset.length);
 }
 
 /* Lays out a dataset; 0 where there is no memory for it, which is then said. */
 static int laid(struct desk *desk, word length, int wishes) {
+    desk->sum = 0;
     desk->dataset = invented(length, wishes);
-    if (!desk->dataset.bytes) {
-        trouble("bench", "there is no memory for the dataset");
-        return 0;
-    }
-    return 1;
+    if (desk->dataset.bytes) return 1;
+    trouble("bench", "there is no memory for the dataset");
+    return 0;
 }
 
 /* Whether the last call was done and counted every record; if not, it is said. */
@@ -68,16 +53,8 @@ static int good(struct desk *desk) {
     return 0;
 }
 
-static double milliseconds(word nanoseconds) {
-    return (double)nanoseconds / 1e6;
-}
-
-static double times(word one, word other) {
-    return (double)one / (double)other;
-}
-
-/* One line of the table of sizes; the time of read, or 0 for trouble. `before` is the time of half the size, or 0. */
-static word sized(word length, word before) {
+/* One line of the reader's table of sizes; the time of read, or 0 for trouble. `before` is the time of half the size, or 0. */
+static word read_line(word length, word before) {
     static job *const JOBS[] = {reads, walks};
     struct desk desk;
     word took[2];
@@ -93,8 +70,8 @@ static word sized(word length, word before) {
     return good(&desk) ? took[0] : 0;
 }
 
-/* One line of the table of orders. */
-static int ordered(const char *name, word length, int wishes, word sorted) {
+/* One line of the reader's table of orders. */
+static int order_line(const char *name, word length, int wishes, word sorted) {
     static job *const JOBS[] = {reads};
     struct desk desk;
     word took[1];
@@ -110,13 +87,13 @@ static int orders(word length, word sorted) {
     char bytes[DIGITS];
     printf("\nother orders, %s bytes; the last takes long               read   times sorted\n", counted(length, bytes));
     fflush(0);
-    return ordered("references in random order", length, MIXED_REFERENCES, sorted) &&
-           ordered("keys in random order", length, MIXED_KEYS, sorted) &&
-           ordered("both", length, MIXED_KEYS | MIXED_REFERENCES, sorted) &&
-           ordered("sorted RCIDs strewn over 32 bits", length, STREWN_KEYS, sorted) &&
-           ordered("the same, references in random order", length, STREWN_KEYS | MIXED_REFERENCES, sorted) &&
-           ordered("strewn RCIDs, keys and references in random order", length, STREWN_KEYS | MIXED_KEYS | MIXED_REFERENCES,
-                   sorted);
+    return order_line("references in random order", length, MIXED_REFERENCES, sorted) &&
+           order_line("keys in random order", length, MIXED_KEYS, sorted) &&
+           order_line("both", length, MIXED_KEYS | MIXED_REFERENCES, sorted) &&
+           order_line("sorted RCIDs strewn over 32 bits", length, STREWN_KEYS, sorted) &&
+           order_line("the same, references in random order", length, STREWN_KEYS | MIXED_REFERENCES, sorted) &&
+           order_line("strewn RCIDs, keys and references in random order", length,
+                      STREWN_KEYS | MIXED_KEYS | MIXED_REFERENCES, sorted);
 }
 
 int bench_read(word mebibytes) {
@@ -124,8 +101,38 @@ int bench_read(word mebibytes) {
     printf("read against a plain walk over the same sorted dataset, processor time, best of %d runs\n\n", RUNS);
     printf("       bytes   records         read   plain walk    times   growth\n");
     for (word part = 8; part > 0; part /= 2) {
-        took = sized(mebibytes * MEBIBYTE / part, took);
+        took = read_line(mebibytes * MEBIBYTE / part, took);
         if (took == 0) return TROUBLE;
     }
     return orders(mebibytes * MEBIBYTE, took) ? DONE : TROUBLE;
+}
+
+/* One line of the writer's table; the time of write, or 0 for trouble. `before` is the time of half the size, or 0. */
+static word write_line(word length, word before) {
+    static job *const JOBS[] = {copies, reads, writes};
+    struct desk desk;
+    word took[3];
+    char bytes[DIGITS];
+    if (!laid(&desk, length, 0)) return 0;
+    best(JOBS, 3, &desk, took);
+    printf("%12s %9.1f ms %9.1f ms %9.2f ms %12.2f %11.1f", counted(length, bytes), milliseconds(took[2]), milliseconds(took[1]),
+           milliseconds(took[0]), times(took[2], took[1]) - 1, times(took[2], took[0]));
+    if (before > 0) printf(" %8.2f", times(took[2], before));
+    printf("\n");
+    fflush(0);
+    int same = memcmp(out, desk.dataset.bytes, length) == 0;
+    if (!same) trouble("bench", "the dataset is not its own written form");
+    free(desk.dataset.bytes);
+    return same && good(&desk) ? took[2] : 0;
+}
+
+int bench_write(word mebibytes) {
+    word took = 0;
+    printf("write against read and a plain copy of the same sorted dataset, processor time, best of %d runs\n\n", RUNS);
+    printf("       bytes        write         read         copy  beyond read  times copy   growth\n");
+    for (word part = 8; part > 0; part /= 2) {
+        took = write_line(mebibytes * MEBIBYTE / part, took);
+        if (took == 0) return TROUBLE;
+    }
+    return DONE;
 }

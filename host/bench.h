@@ -4,7 +4,8 @@
 
 #include "system.h"
 
-/* Measures reading; the largest dataset has so many MiB. A status of the tool. */
+/* Measure reading and writing; the largest dataset has so many MiB. A status of the tool. */
 int bench_read(word mebibytes);
+int bench_write(word mebibytes);
 
 #endif

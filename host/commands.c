@@ -9,3 +9,19 @@ int read_chart(const char *path) {
     ezdurvash_read(chart.bytes, chart.length, answer, EZDURVASH_NUMBERS);
     return said(answer, 0);
 }
+
+/* Keeps what a call has written, if it has, and says the answer. */
+static int finished(const word answer[EZDURVASH_NUMBERS], const byte *out, const char *to) {
+    if (answer[EZDURVASH_NUMBER] == 0 && !saved(to, out, answer[EZDURVASH_LENGTH])) return TROUBLE;
+    return said(answer, 1);
+}
+
+int write_chart(const char *path, const char *to) {
+    static byte out[EZDURVASH_LONGEST];
+    struct file chart;
+    word answer[EZDURVASH_NUMBERS];
+    if (!loaded(path, &chart)) return TROUBLE;
+    if (same_file(to, &chart)) return trouble(to, "it is the dataset itself, which is never overwritten");
+    ezdurvash_write(chart.bytes, chart.length, out, EZDURVASH_LONGEST, answer, EZDURVASH_NUMBERS);
+    return finished(answer, out, to);
+}

@@ -1,4 +1,4 @@
-/* Large datasets for measuring: the same bytes from the same wishes, in written form. */
+/* Large datasets for measuring: the same bytes from the same wishes. */
 #ifndef EZ_INVENT_H
 #define EZ_INVENT_H
 
@@ -12,8 +12,8 @@ struct invented {
     word length, records;
 };
 
-/* A dataset of exactly so many bytes, at least 65,536: of 67 records 32 are points, 32 features with attributes, an association and a
-   spatial association, two are information types and one is a multi point. Null bytes where there is no memory. */
+/* A dataset of exactly so many bytes in written form, at least 65,536: of 67 records 32 are points, 32 features with attributes, an
+   association and a spatial association, two are information types and one is a multi point. Null bytes where there is no memory. */
 struct invented invented(word length, int wishes);
 
 #endif

@@ -5,7 +5,7 @@
 #include "words.h"
 
 static int usage(void) {
-    return trouble("usage", "read FILE | batch CASES | bench read [MIB]");
+    return trouble("usage", "read FILE | write FILE OUT | batch CASES | bench read|write [MIB]");
 }
 
 /* The largest dataset of a measurement in MiB: 16 where nothing is said, 0 where it is no number from 1 to 16. */
@@ -16,12 +16,22 @@ static word size(int count, char **words) {
     return *behind == 0 && mebibytes <= 16 ? mebibytes : 0;
 }
 
+static int is(const char *given, const char *wanted) {
+    return strcmp(given, wanted) == 0;
+}
+
+static int measured(int count, char **words) {
+    word mebibytes = size(count, words);
+    if (mebibytes > 0 && is(words[2], "read")) return bench_read(mebibytes);
+    if (mebibytes > 0 && is(words[2], "write")) return bench_write(mebibytes);
+    return usage();
+}
+
 static int chosen(int count, char **words) {
-    if (count == 3 && strcmp(words[1], "read") == 0) return read_chart(words[2]);
-    if (count == 3 && strcmp(words[1], "batch") == 0) return batch(words[2]);
-    if ((count == 3 || count == 4) && strcmp(words[1], "bench") == 0 && size(count, words) > 0) {
-        if (strcmp(words[2], "read") == 0) return bench_read(size(count, words));
-    }
+    if (count == 3 && is(words[1], "read")) return read_chart(words[2]);
+    if (count == 4 && is(words[1], "write")) return write_chart(words[2], words[3]);
+    if (count == 3 && is(words[1], "batch")) return batch(words[2]);
+    if ((count == 3 || count == 4) && is(words[1], "bench")) return measured(count, words);
     return usage();
 }
 
