@@ -11,4 +11,9 @@ enum { EZDURVASH_NUMBER, EZDURVASH_FILE, EZDURVASH_RECORD, EZDURVASH_LENGTH, EZD
    but some 80 KiB of the stack. */
 void ezdurvash_read(const unsigned char *dataset, unsigned long dataset_length, unsigned long *answer, unsigned long answer_length);
 
+/* Writes the listing of an input into `out`: a line of text for each record after the third, or why there are none. Any bytes may be handed
+   over, and none of them is written. Neither pointer is null, also where a length is 0. The result is the length of the text, and `out` is
+   zero behind it; where `out` is too short, the result is 0 and `out` wholly zero. 327,736 bytes are always enough. */
+unsigned long ezdurvash_list(const unsigned char *input, unsigned long input_length, unsigned char *out, unsigned long out_length);
+
 #endif
