@@ -59,6 +59,13 @@ static const char *read_one(const struct framed *one) {
     return 0;
 }
 
+static const char *listed_one(const struct framed *one) {
+    static byte text[EZDURVASH_LISTING];
+    word length = ezdurvash_list(one->dataset, one->dataset_length, text, EZDURVASH_LISTING);
+    printf("listing %lu %016lx\n", length, hash(text, length));
+    return 0;
+}
+
 static const char *written_one(const struct framed *one) {
     word answer[EZDURVASH_NUMBERS];
     byte *out = lent(one->out_length);
@@ -72,8 +79,8 @@ static const char *written_one(const struct framed *one) {
 static const char *answered(const struct framed *one) {
     if (one->operation == READ) return read_one(one);
     if (one->operation == WRITE) return written_one(one);
-    if (one->operation == UPDATE || one->operation == LISTING) return "updates and listings are not proved yet";
-    return "there is no such operation";
+    if (one->operation == LISTING) return listed_one(one);
+    return one->operation == UPDATE ? "updates are not proved yet" : "there is no such operation";
 }
 
 int batch(const char *path) {

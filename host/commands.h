@@ -4,6 +4,8 @@
 
 int read_chart(const char *path);
 
+int list_chart(const char *path);
+
 /* Puts a file in the place of `to`: only where the rules accept, never in the place of what is read. */
 int write_chart(const char *path, const char *to);
 

@@ -18,6 +18,11 @@ void ezdurvash_read(const unsigned char *dataset, unsigned long dataset_length, 
 void ezdurvash_write(const unsigned char *dataset, unsigned long dataset_length, unsigned char *out, unsigned long out_length,
                      unsigned long *answer, unsigned long answer_length);
 
+/* Puts the listing of an input as text into `out`, without a zero at its end, and answers its length; the rest of `out` is zero. Where
+   `out` is too short, all of it is zero and the answer 0; EZDURVASH_LISTING bytes are always enough. */
+enum { EZDURVASH_LISTING = 327736 };
+unsigned long ezdurvash_list(const unsigned char *input, unsigned long input_length, unsigned char *out, unsigned long out_length);
+
 /* The longest dataset, read or written. */
 enum { EZDURVASH_LONGEST = 16777216 };
 

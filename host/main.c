@@ -5,7 +5,7 @@
 #include "words.h"
 
 static int usage(void) {
-    return trouble("usage", "read FILE | write FILE OUT | batch CASES | bench read|write [MIB]");
+    return trouble("usage", "read FILE | list FILE | write FILE OUT | batch CASES | bench read|write [MIB]");
 }
 
 /* The largest dataset of a measurement in MiB: 16 where nothing is said, 0 where it is no number from 1 to 16. */
@@ -29,6 +29,7 @@ static int measured(int count, char **words) {
 
 static int chosen(int count, char **words) {
     if (count == 3 && is(words[1], "read")) return read_chart(words[2]);
+    if (count == 3 && is(words[1], "list")) return list_chart(words[2]);
     if (count == 4 && is(words[1], "write")) return write_chart(words[2], words[3]);
     if (count == 3 && is(words[1], "batch")) return batch(words[2]);
     if ((count == 3 || count == 4) && is(words[1], "bench")) return measured(count, words);
