@@ -5,7 +5,7 @@ use mathlib.Core.Bool.{true}
 use mathlib.Core.List.{List, _++_}
 use native.Mathlib.Omega.{arith}
 use borrow.Author.Tests.{lt-ltb, le-ltb}
-use lib.ListN.{length, take, replicate}
+use lib.ListN.{length, take}
 use Rattle.base.specs.Check.{fault}
 use Rattle.base.specs.declared.Fault.{Fault}
 use Rattle.memory.specs.Hold.{zeros, hold}
@@ -13,14 +13,14 @@ use Rattle.memory.specs.Wrote.{Wrote}
 use Rattle.memory.proofs.WroteLaws.{wrote-length, wrote-take}
 use Rattle.skeleton.specs.Emit.{emits}
 use Rattle.fields.specs.Valid.{Bytes}
-use Rattle.rules.specs.Written.{Dataset, fieldWidth, number12, written, writtenBytes, count}
-use Rattle.rules.specs.Outcome.{Outcome, done, refused, andThen, everyRecord}
+use Rattle.rules.specs.Written.{Dataset, fieldWidth, written, writtenBytes, count}
+use Rattle.rules.specs.Outcome.{Outcome, done, refused, andThen}
 use Rattle.rules.specs.File.{writable}
 use Rattle.rules.specs.Answers.{refusal, success, notTooLong, readOutcome, readAnswer, read, Output, Written, roomFor, outputOf, writeOutcome, write}
 use Rattle.rules.specs.declared.Answer.{Answer}
 use Rattle.numbers.specs.Zero.{Done}
 use Rattle.numbers.proofs.Answers.{zero-is-done}
-use Rattle.writer.specs.Forms.{formsOf, formsFrom, lengths}
+use Rattle.writer.specs.Forms.{formsFrom, lengths}
 use Rattle.writer.specs.Measured.{measuredFrom}
 use Rattle.writer.specs.Ready.{Ready}
 use Rattle.writer.specs.declared.Measured.{Measured}
