@@ -38,8 +38,6 @@ module _ (at q : ℕ) (d e : List ℕ) (k : Kind) where
   unfolding spacedTag tagOf
   tag-feature x w = tag-wrote (ascii " FRID") (rw x refl) refl w
 
-pub ruleset tag-ways = (tag-info, tag-point, tag-multi, tag-feature)
-
 -- ---- words behind one another
 
 -- a blank and a number, before what follows
@@ -88,5 +86,3 @@ module _ (n : ℕ) where
   pub total-wrote : (at p₁ p₂ q : ℕ) (o o₁ o₂ o₃ : List ℕ)
       → Wrote at (ascii "total") o p₁ o₁ → Wrote p₁ (spaced n) o₁ p₂ o₂ × (p₂ ≤ p₁ + 21) → Wrote p₂ (10 ∷ []) o₂ q o₃ → Wrote at (totalLine n) o q o₃ × (q ≤ at + 27)
   total-wrote at p₁ p₂ q o o₁ o₂ o₃ w₁ w₂ w₃ = (wrote-as total-is (then w₃ (then (w₂ .0) w₁)), omega (arith, w₃ .next, w₁ .next, w₂ .1))
-
-pub ruleset line-ways = (line-wrote, refusal-wrote, total-wrote)

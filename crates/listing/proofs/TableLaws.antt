@@ -67,8 +67,6 @@ module _ (f : List ℕ) (small : length f ≤ 65536) (a : Answer) (ea : a ≡ re
   pub short-some : (a .count ≡ 0 → ⊥) → 0 < a .count
   short-some n = omega arith
 
-pub ruleset short-ways = (short-count, short-some)
-
 -- ---- `put_table`
 
 module _ (f : List ℕ) (small : length f ≤ 65536) (n : ℕ) (en : n ≡ (read f) .count) (some : 0 < n) where

@@ -1,5 +1,4 @@
 use Rattle.listing.proofs.LineLaws.{tag-info, tag-point, tag-multi, tag-feature}
-use Rattle.listing.proofs.LineLaws.{tag-ways}
 use native.Mathlib.Omega.{arith}
 use borrow.Author.Needs.{needs}
 use Rattle.listing.proofs.lines.put_tag.Statement.{statement}
