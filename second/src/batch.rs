@@ -5,6 +5,7 @@ pub const READ: u8 = 1;
 pub const WRITE: u8 = 2;
 pub const UPDATE: u8 = 3;
 pub const LISTING: u8 = 4;
+pub const OPERATIONS: [u8; 4] = [READ, WRITE, UPDATE, LISTING];
 
 /// What output slice and workspace are filled with before a call, so that zeroing shows.
 pub const FILLED: u8 = 0xA5;

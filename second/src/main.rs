@@ -5,7 +5,7 @@ use std::process::ExitCode;
 
 use second::{answer, batch, samples};
 
-const USAGE: &str = "usage: second answer CASES | second generate --seed N --count K OUT | \
+const USAGE: &str = "usage: second answer CASES | second generate --seed N --count K [--operations 1,2,..] OUT | \
 second compare CASES ANSWERS | second samples DIR";
 
 fn main() -> ExitCode {
@@ -13,7 +13,10 @@ fn main() -> ExitCode {
     let words: Vec<&str> = words.iter().map(String::as_str).collect();
     let outcome = match words.as_slice() {
         ["answer", cases] => answered(cases),
-        ["generate", "--seed", seed, "--count", count, out] => generated(seed, count, out),
+        ["generate", "--seed", seed, "--count", count, out] => generated(seed, count, &batch::OPERATIONS, out),
+        ["generate", "--seed", seed, "--count", count, "--operations", some, out] => {
+            operations(some).and_then(|some| generated(seed, count, &some, out))
+        }
         ["compare", cases, answers] => compared(cases, answers),
         ["samples", folder] => sampled(folder),
         _ => Err(USAGE.to_string()),
@@ -43,10 +46,16 @@ fn answered(path: &str) -> Outcome {
     Ok(ExitCode::SUCCESS)
 }
 
-fn generated(seed: &str, count: &str, out: &str) -> Outcome {
+/// Operations with commas between them.
+fn operations(words: &str) -> Result<Vec<u8>, String> {
+    let one = |word: &str| word.parse().ok().filter(|operation| batch::OPERATIONS.contains(operation));
+    words.split(',').map(|word| one(word).ok_or(format!("{word}: no operation"))).collect()
+}
+
+fn generated(seed: &str, count: &str, operations: &[u8], out: &str) -> Outcome {
     let seed: u64 = seed.parse().map_err(|_| format!("{seed}: no seed"))?;
     let count: usize = count.parse().map_err(|_| format!("{count}: no count"))?;
-    let cases = second::generate::corpus(seed, count);
+    let cases = second::generate::corpus(seed, count, operations);
     std::fs::write(out, batch::framed(&cases)).map_err(|e| format!("{out}: {e}"))?;
     Ok(ExitCode::SUCCESS)
 }

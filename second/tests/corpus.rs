@@ -4,7 +4,7 @@
 use std::collections::{BTreeMap, BTreeSet};
 
 use second::answer::all;
-use second::batch::{framed, Case, LISTING, READ, UPDATE, WRITE};
+use second::batch::{framed, Case, LISTING, OPERATIONS, READ, UPDATE, WRITE};
 use second::generate::chart::{Chart, Kind, Node};
 use second::generate::{corpus, directed, form, random_case, table, Directed, Intent};
 use second::Answered;
@@ -146,7 +146,7 @@ fn answers_met(cases: &[Case]) -> Met {
 
 #[test]
 fn a_corpus_has_every_answer() {
-    let cases = corpus(SEEDS[0], CORPUS);
+    let cases = corpus(SEEDS[0], CORPUS, &OPERATIONS);
     assert_eq!(cases.len(), CORPUS);
     let bytes: usize = cases.iter().map(|case| case.dataset.len() + case.update.len()).sum();
     assert!(bytes < 150_000_000, "{bytes} bytes");
@@ -162,8 +162,24 @@ fn a_corpus_has_every_answer() {
 #[test]
 fn a_seed_decides_every_byte() {
     let count = 400;
-    assert!(framed(&corpus(7, count)) == framed(&corpus(7, count)));
-    assert!(framed(&corpus(7, count)) != framed(&corpus(8, count)));
-    assert_eq!(corpus(7, count).len(), count);
-    assert!(corpus(7, 0).is_empty());
+    assert!(framed(&corpus(7, count, &OPERATIONS)) == framed(&corpus(7, count, &OPERATIONS)));
+    assert!(framed(&corpus(7, count, &OPERATIONS)) != framed(&corpus(8, count, &OPERATIONS)));
+    assert_eq!(corpus(7, count, &OPERATIONS).len(), count);
+    assert!(corpus(7, 0, &OPERATIONS).is_empty());
+}
+
+#[test]
+fn a_corpus_can_be_of_some_operations() {
+    let count = 4000;
+    let cases = corpus(7, count, &[READ, LISTING]);
+    assert_eq!(cases.len(), count);
+    let of = |operation: u8| cases.iter().filter(|case| case.operation == operation).count();
+    let longest = |operation: u8| cases.iter().filter(|c| c.operation == operation).map(|c| c.dataset.len()).max();
+    assert_eq!(of(READ) + of(LISTING), count);
+    assert!(of(READ) > count / 3 && of(LISTING) > count / 3, "{} reads", of(READ));
+    assert_eq!(longest(READ), Some(16_777_217), "the huge ones are among them");
+    let (met, printed) = answers_met(&cases);
+    let missing: Vec<_> = wanted().into_iter().filter(|a| a.0 == READ && !met.contains_key(a)).collect();
+    assert!(missing.is_empty(), "no case has (operation, number, file) {missing:?}");
+    assert_eq!(printed.keys().collect::<Vec<_>>(), ["rec", "refused", "too"]);
 }

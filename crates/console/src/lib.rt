@@ -4,6 +4,8 @@ use rules::Answer;
 use writer::write;
 ghost use mathlib.Core.Path.{_≡_};
 ghost use lib.ListN.{length};
+ghost use Rattle.memory.specs.Hold.{hold};
+ghost use Rattle.listing.specs.Listed.{listed};
 ghost use Rattle.rules.specs.Answers.{read as theAnswer, Output, write as theOutput};
 ghost use Rattle.console.specs.Numbered.{numbered};
 
@@ -38,4 +40,13 @@ pub extern "C" fn ezdurvash_write(dataset: &[u8], out: &mut [u8], answer: &mut [
 {
     let a = write(dataset, out);
     put_answer(a, answer);
+}
+
+// Lists a dataset: `out` holds the listing of the input and is zero behind it, and the result is its length; where it has no room, `out` is
+// wholly zero, and the result is 0.
+#[no_mangle]
+pub extern "C" fn ezdurvash_list(input: &[u8], out: &mut [u8]) -> usize
+    ensures { λ n. ⌜ (n ≡ length (listed (now (input .entry)) (length (now (out .entry))))) × (now (out .exit) ≡ hold (length (now (out .entry))) (listed (now (input .entry)) (length (now (out .entry))))) ⌝ }
+{
+    listing::list(input, out)
 }

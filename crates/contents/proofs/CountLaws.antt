@@ -58,7 +58,7 @@ c2il-many : (b : List ℕ) → length (many (tupleOf C2il) b) ≡ length b / 8
 unfolding many tupleOf allRaw tally
 c2il-many b = items-by (length b) (tuples (tupleOf C2il) b) (raw-tally (tupleOf C2il) refl (omega arith) b 0)
 
-coords-length : (b : List ℕ) → length (coordsIn b) ≡ length b / 8
+pub coords-length : (b : List ℕ) → length (coordsIn b) ≡ length b / 8
 unfolding coordsIn
 coords-length b = each-length coordOf (many (tupleOf C2il) b) ∙ c2il-many b
 
@@ -73,7 +73,7 @@ sent-more f fs = go (eqb (f .tag) C2IL)
 
 -- ---- the loop that counts down: at place q with so many tuples left, where the whole comes to B
 
-between-length : (r : List ℕ) (start end : ℕ) → start ≤ end → end ≤ length r → length (between r start end) ≡ end - start
+pub between-length : (r : List ℕ) (start end : ℕ) → start ≤ end → end ≤ length r → length (between r start end) ≡ end - start
 between-length r start end l g = length-take-le (end - start) (drop start r) (omega (arith, length-drop start r))
 
 less-some : (a b c : ℕ) → a < b → eqb a (b + c) ≡ false

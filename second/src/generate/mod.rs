@@ -15,15 +15,23 @@ pub use scatter::{random_case, Scattered};
 use crate::batch::Case;
 use random::Random;
 
-/// A corpus of so many cases. The directed ones are at most two fifths of it, and those of many megabytes come only
-/// where all the directed ones find room.
-pub fn corpus(seed: u64, count: usize) -> Vec<Case> {
+/// A corpus of so many cases of these operations. The directed ones are at most two fifths of it, and those of many
+/// megabytes come only where all the directed ones find room.
+pub fn corpus(seed: u64, count: usize, operations: &[u8]) -> Vec<Case> {
     let mut random = Random::new(seed);
     let share = count * 2 / 5;
-    let mut cases = if share >= directed::count() { directed::all() } else { directed::small() };
+    let wanted = |cases: Vec<Case>| -> Vec<Case> {
+        cases.into_iter().filter(|case| operations.contains(&case.operation)).collect()
+    };
+    let mut cases = wanted(directed::small());
+    if share >= cases.len() + directed::HUGE {
+        cases = wanted(directed::all());
+    }
     random.shuffle(&mut cases);
     cases.truncate(share);
-    cases.extend((cases.len()..count).map(|number| random_case(seed, number).case));
+    let numbers = (cases.len()..).filter(|number| operations.contains(&scatter::operation(seed, *number)));
+    let scattered: Vec<Case> = numbers.take(count - cases.len()).map(|n| random_case(seed, n).case).collect();
+    cases.extend(scattered);
     random.shuffle(&mut cases);
     cases
 }

@@ -21,10 +21,19 @@ pub struct Scattered {
     pub accepted: Option<Chart>,
 }
 
+/// The operation of the case of this number under this seed.
+pub fn operation(seed: u64, number: usize) -> u8 {
+    drawn(&mut Random::of_case(seed, number))
+}
+
+fn drawn(random: &mut Random) -> u8 {
+    random.pick(&[READ, WRITE, LISTING, UPDATE, UPDATE, UPDATE, UPDATE])
+}
+
 /// The case of this number under this seed.
 pub fn random_case(seed: u64, number: usize) -> Scattered {
     let random = &mut Random::of_case(seed, number);
-    let operation = random.pick(&[READ, WRITE, LISTING, UPDATE, UPDATE, UPDATE, UPDATE]);
+    let operation = drawn(random);
     let chart = invent::chart(random);
     match operation {
         UPDATE => update_case(random, &chart),

@@ -17,6 +17,8 @@ use crate::batch::{Case, READ, UPDATE, WRITE};
 use crate::build::{self, Field};
 use base::{dataset, heading, Records};
 
+pub use sizes::HUGE;
+
 /// What the paper says a case comes to.
 #[derive(Clone, Debug, PartialEq, Eq)]
 pub enum Intent {
@@ -57,11 +59,6 @@ pub fn all() -> Vec<Case> {
 /// The directed cases but for those of many megabytes.
 pub fn small() -> Vec<Case> {
     small_table().rows.into_iter().map(|row| row.case).collect()
-}
-
-/// How many directed cases there are in all.
-pub fn count() -> usize {
-    small_table().rows.len() + sizes::HUGE
 }
 
 fn small_table() -> Table {

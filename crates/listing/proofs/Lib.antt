@@ -1,0 +1,9 @@
+pub mod TextLaws
+pub mod DigitLaws
+pub mod CountLaws
+pub mod LineLaws
+pub mod SaidLaws
+pub mod PassedLaws
+pub mod RecordLaws
+pub mod WalkLaws
+pub mod TableLaws

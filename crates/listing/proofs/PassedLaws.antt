@@ -1,0 +1,103 @@
+-- The records of a dataset that is read have passed their numbers. Assumes nothing.
+use mathlib.Core.Path.{_≡_, refl, sym, ap, ap₂, _∙_}
+use mathlib.Core.Bool.{Bool, true, false}
+use mathlib.Core.List.{List, [], _∷_, _++_}
+use Prim.Native.Nat.{ℕ, _+_, _≤_, _<_}
+use native.Mathlib.Omega.{arith}
+use borrow.Author.Tests.{eq-eqb, lt-leb}
+use lib.ListN.{length}
+use Rattle.base.specs.Choice.{pick}
+use Rattle.base.specs.Check.{Check, ok, no, bind, fault, Passed as Through}
+use Rattle.base.specs.Keys.{among}
+use Rattle.base.specs.Lists.{each}
+use Rattle.base.specs.Walk.{Got}
+use Rattle.base.proofs.CheckLaws.{bind-inv, ok-inj}
+use Rattle.skeleton.specs.File.{Field, recordsFrom, recordsOf}
+use Rattle.rules.specs.Grammar.{number4}
+use Rattle.rules.specs.Content.{number5}
+use Rattle.rules.specs.Trees.{number6}
+use Rattle.rules.specs.Associations.{number7}
+use Rattle.rules.specs.Record.{Rec, keyOf, recOf, datasetRecord}
+use Rattle.rules.specs.Written.{Dataset}
+use Rattle.rules.specs.Outcome.{Outcome, done, refused, andThen, at}
+use Rattle.rules.specs.File.{lastRank, datasetTest, through, ending, taken, Stored, storedAs, datasetOf, references, readDataset}
+use Rattle.rules.specs.declared.Kind.{Kind}
+use Rattle.rules.specs.declared.Mode.the-variants.{InDataset}
+use Rattle.rules.proofs.OutcomeLaws.{andThen-inv, at-inv, done-inj}
+use Rattle.contents.proofs.SevenLaws.{four-first}
+use Rattle.opening.specs.Carried.{firstThree}
+use Rattle.opening.proofs.OpeningLaws.{fromFourth, opened}
+use Rattle.keys.proofs.PassedLaws.{test-later}
+use Rattle.keys.proofs.ReferenceLaws.{Reads, taken-reads}
+use Rattle.listing.specs.Said.{Passed, AllPassed, PassedFrom, recordIn}
+use Rattle.listing.proofs.SaidLaws.{record-is}
+
+-- ---- one record
+
+seven-is : (x r : Rec) (t : Bool) (c : Through) → pick t (no (fault 7 1 0)) (bind c (λ _. ok x)) ≡ ok r → x ≡ r
+seven-is x r true c e = absurd (let z : _≡_ {A = ℕ} 0 1 = cc in omega arith)
+seven-is x r false c e = ok-inj x r (bind-inv c (λ _. ok x) r e .2)
+
+-- a record that has passed, and what it says
+record-passed : (least : ℕ) (earlier : List (List ℕ)) (fs : List Field) (r : Rec) → datasetRecord least earlier fs ≡ ok r → Passed fs × (r ≡ recordIn fs)
+unfolding datasetRecord
+record-passed least earlier fs r e =
+    let a = bind-inv (number4 InDataset least fs) _ r e in
+    let b = bind-inv (number5 InDataset (a .0) fs) _ r (a .2) in
+    let c = bind-inv (number6 InDataset (a .0) fs) _ r (b .2) in
+    let tag = four-first InDataset least fs (a .0) (a .1) in
+    let same = seven-is (recOf (a .0) fs) r (among (keyOf (recOf (a .0) fs)) earlier) (number7 fs) (c .2) in
+    (record { kind = a .0; tag = tag; five = b .1; six = c .1 }, sym same ∙ sym (record-is fs (a .0) tag))
+
+-- ---- record after record
+
+through-passed : (items : List (List Field)) (n : ℕ) (seen recs : List Rec) → 4 ≤ n → through datasetTest 1 n seen items ≡ done recs
+    → AllPassed items × (recs ≡ each recordIn items)
+unfolding through each
+through-passed [] n seen recs h e = (tt, sym (done-inj [] recs e))
+through-passed (fs ∷ items) n seen recs h e =
+    let p = andThen-inv (at 1 n (datasetTest n seen fs)) _ recs e in
+    let q = at-inv 1 n (datasetTest n seen fs) (p .0) (p .1) in
+    let r = bind-inv (datasetRecord (lastRank seen) (each keyOf seen) fs) (λ x. ok (x ∷ [])) (p .0) (sym (test-later n seen fs h) ∙ q) in
+    let new : r .0 ∷ [] ≡ p .0 = ok-inj (r .0 ∷ []) (p .0) (r .2) in
+    let s = andThen-inv (through datasetTest 1 (n + 1) (p .0 ++ seen) items) (λ later. done (p .0 ++ later)) recs (p .2) in
+    let all : r .0 ∷ s .0 ≡ recs = ap (λ (l : List Rec). l ++ s .0) new ∙ done-inj (p .0 ++ s .0) recs (s .2) in
+    let x = record-passed (lastRank seen) (each keyOf seen) fs (r .0) (r .1) in
+    let y = through-passed items (n + 1) (p .0 ++ seen) (s .0) (omega arith) (s .1) in
+    ((x .0, y .0), sym all ∙ ap₂ (λ (a : Rec) (l : List Rec). a ∷ l) (x .1) (y .1))
+
+-- ---- the records after the third
+
+module _ (f : List ℕ) (start : ℕ) (recs : List Rec) (e : fromFourth f start ≡ done recs) where
+  pub fourth-clean : (recordsFrom f start) .ending ≡ 0
+  fourth-clean = taken-reads f start recs e .clean
+
+  parts : AllPassed ((recordsFrom f start) .items) × (recs ≡ each recordIn ((recordsFrom f start) .items))
+  unfolding taken ending
+  parts =
+      let g = recordsFrom f start in
+      let p = andThen-inv (through datasetTest 1 4 [] (g .items)) _ recs e in
+      let same : done (p .0) ≡ done recs = simp (eq-eqb (g .ending) 0 fourth-clean, lt-leb (4 + length (g .items)) 3 (omega arith)) at (p .2) in
+      let r = through-passed (g .items) 4 [] (p .0) (omega arith) (p .1) in
+      (r .0, sym (done-inj (p .0) recs same) ∙ r .1)
+
+  pub fourth-passed : PassedFrom f start
+  unfolding PassedFrom
+  fourth-passed = parts .0
+
+  pub fourth-said : recs ≡ each recordIn ((recordsFrom f start) .items)
+  fourth-said = parts .1
+
+-- ---- a dataset that is read
+
+pub read-inv : (f : List ℕ) (d : Dataset) → readDataset f ≡ done d → (start : ℕ) × (firstThree f ≡ done start) × (fromFourth f start ≡ done (d .records))
+unfolding readDataset datasetOf
+read-inv f d e =
+    let a = andThen-inv (datasetOf (recordsOf f)) _ d e in
+    let b = andThen-inv (references 1 (((a .0) .dataset) .records) ((a .0) .sent)) (λ _. done ((a .0) .dataset)) d (a .2) in
+    let c = andThen-inv (taken datasetTest 1 3 1 [] (recordsOf f)) (λ recs. done (storedAs ((recordsOf f) .items) recs)) (a .0) (a .1) in
+    let o = andThen-inv (firstThree f) (fromFourth f) (c .0) (sym (opened f) ∙ c .1) in
+    let s : storedAs ((recordsOf f) .items) (c .0) ≡ a .0 = done-inj _ (a .0) (c .2) in
+    let t : (a .0) .dataset ≡ d = done-inj ((a .0) .dataset) d (b .2) in
+    let same : c .0 ≡ d .records = ap (λ (z : Stored). (z .dataset) .records) s ∙ ap (λ (z : Dataset). z .records) t in
+    (o .0, o .1, o .2 ∙ ap done same)

@@ -1,0 +1,22 @@
+use Rattle.listing.proofs.TextLaws.{store-out}
+use native.Mathlib.Omega.{arith}
+use borrow.Author.Needs.{needs}
+use Rattle.listing.proofs.text.store.Statement.{statement}
+use Rattle.listing.proofs.text.store.Tie as tie
+use Rattle.listing.proofs.text.store.Reads as reads
+use Rattle.listing.proofs.text.store.Lts as lts
+
+slice-write-out : tie.Need-slice-write-out
+slice-write-out c = search needs
+
+same-length : tie.Need-same-length
+same-length c = search needs
+
+returns : tie.Need-returns
+returns c = search needs
+
+returns-2 : tie.Need-returns-2
+returns-2 c = search store-out
+
+pub store-spec : {M : Type 1} → statement M
+store-spec = tie.close (tie.spec slice-write-out same-length returns returns-2)

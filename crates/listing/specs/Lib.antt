@@ -1,0 +1,4 @@
+pub mod Said
+pub mod Lines
+pub mod Left
+pub mod Listed

@@ -1,0 +1,11 @@
+/* How long the proved functions take, against plain C over the same bytes. */
+#ifndef EZ_BENCH_H
+#define EZ_BENCH_H
+
+#include "system.h"
+
+/* Measure reading and writing; the largest dataset has so many MiB. A status of the tool. */
+int bench_read(word mebibytes);
+int bench_write(word mebibytes);
+
+#endif

@@ -1,0 +1,23 @@
+/* Files as whole byte strings, read and written. */
+#ifndef EZ_FILES_H
+#define EZ_FILES_H
+
+#include "system.h"
+
+struct file {
+    byte *bytes; /* never null where the file was read, also where it is empty */
+    word length;
+    word device, inode;
+};
+
+/* Reads a whole file; 0 where it cannot be read, which is then said. */
+int loaded(const char *path, struct file *file);
+
+/* Whether the path leads to this very file, by whatever name or link. */
+int same_file(const char *path, const struct file *file);
+
+/* Puts the bytes into the file of this path by way of a new file beside it: whoever looks sees the old file or the whole new one.
+   0 where it cannot be done, which is then said; the old file is then as it was. */
+int saved(const char *path, const byte *bytes, word length);
+
+#endif

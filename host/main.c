@@ -1,0 +1,42 @@
+/* The command-line tool over the proved library. */
+#include "batch.h"
+#include "bench.h"
+#include "commands.h"
+#include "words.h"
+
+static int usage(void) {
+    return trouble("usage", "read FILE | list FILE | write FILE OUT | batch CASES | bench read|write [MIB]");
+}
+
+/* The largest dataset of a measurement in MiB: 16 where nothing is said, 0 where it is no number from 1 to 16. */
+static word size(int count, char **words) {
+    if (count < 4) return 16;
+    char *behind;
+    word mebibytes = strtoul(words[3], &behind, 10);
+    return *behind == 0 && mebibytes <= 16 ? mebibytes : 0;
+}
+
+static int is(const char *given, const char *wanted) {
+    return strcmp(given, wanted) == 0;
+}
+
+static int measured(int count, char **words) {
+    word mebibytes = size(count, words);
+    if (mebibytes > 0 && is(words[2], "read")) return bench_read(mebibytes);
+    if (mebibytes > 0 && is(words[2], "write")) return bench_write(mebibytes);
+    return usage();
+}
+
+static int chosen(int count, char **words) {
+    if (count == 3 && is(words[1], "read")) return read_chart(words[2]);
+    if (count == 3 && is(words[1], "list")) return list_chart(words[2]);
+    if (count == 4 && is(words[1], "write")) return write_chart(words[2], words[3]);
+    if (count == 3 && is(words[1], "batch")) return batch(words[2]);
+    if ((count == 3 || count == 4) && is(words[1], "bench")) return measured(count, words);
+    return usage();
+}
+
+int main(int count, char **words) {
+    int status = chosen(count, words);
+    return fflush(0) == 0 ? status : trouble("output", reason());
+}

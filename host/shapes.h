@@ -1,0 +1,23 @@
+/* Records of a chart from values: those that the measurements need. */
+#ifndef EZ_SHAPES_H
+#define EZ_SHAPES_H
+
+#include "records.h"
+
+enum { INFORMATION, POINT, MULTI, FEATURE, KINDS };
+enum { INSERT = 1 };
+
+/* Each of these begins a record anew. */
+void descriptive_record(struct record *r, word filling);
+void general_record(struct record *r, word update_number);
+void systems_record(struct record *r);
+void identified_record(struct record *r, int kind, word rcid, word version, word instruction);
+
+/* Each of these adds a field, but for a tuple, which goes into a field that is begun. */
+void attribute_tuple(struct record *r, word code, word index, word parent, word instruction, const char *value);
+void association_field(struct record *r, word rcid);
+void spatial_field(struct record *r, int kind, word rcid);
+void object_field(struct record *r, word number);
+void coordinates_field(struct record *r, const char *tag, word number, word count);
+
+#endif

@@ -1,0 +1,35 @@
+#include "timing.h"
+
+/* A measurement ends after so many nanoseconds, once it has run at all. */
+static const word PATIENCE = 3000000000;
+
+static word now(void) {
+    struct timespec t;
+    clock_gettime(PROCESSOR_TIME, &t);
+    return (word)t.seconds * 1000000000 + (word)t.nanoseconds;
+}
+
+static word timed(job *work, void *desk) {
+    word start = now();
+    work(desk);
+    return now() - start + 1;
+}
+
+void best(job *const *jobs, word count, void *desk, word *shortest) {
+    word all = 0;
+    for (int run = 0; run < RUNS && all < PATIENCE; run++) {
+        for (word i = 0; i < count; i++) {
+            word took = timed(jobs[i], desk);
+            all += took;
+            if (run == 0 || took < shortest[i]) shortest[i] = took;
+        }
+    }
+}
+
+double milliseconds(word nanoseconds) {
+    return (double)nanoseconds / 1e6;
+}
+
+double times(word one, word other) {
+    return (double)one / (double)other;
+}

@@ -1,0 +1,20 @@
+/* How long jobs take. */
+#ifndef EZ_TIMING_H
+#define EZ_TIMING_H
+
+#include "system.h"
+
+enum { RUNS = 15 };
+
+typedef void job(void *desk);
+
+/* The shortest processor times of several runs of each job in nanoseconds, at least 1. The jobs take turns, so that what slows the
+   machine for a while slows all of them. Where they take long, there are fewer runs. */
+void best(job *const *jobs, word count, void *desk, word *shortest);
+
+double milliseconds(word nanoseconds);
+
+/* How many times the one is the other. */
+double times(word one, word other);
+
+#endif
