@@ -20,10 +20,11 @@ use Rattle.rules.specs.Content.{insertOnly, identFormat, formatOf, stands, allS
 use Rattle.rules.specs.declared.Kind.{Kind}
 use Rattle.rules.specs.declared.Mode.{Mode}
 use Rattle.contents.specs.Fit.{allFit}
-use Rattle.contents.specs.Answers.{standFrom, countedFrom, restRight}
+use Rattle.contents.specs.Answers.{standFrom, countedFrom, countedSince, restRight}
 use Rattle.contents.proofs.VerdictLaws.{says-pass, says-no}
 use Rattle.contents.proofs.StepLaws.{step-bounds}
 use Rattle.contents.proofs.FitLaws.{all-fit, all-any}
+use Rattle.contents.proofs.CountLaws.{counted-done, since-plain, since-more}
 
 -- ---- one field, whose format is f
 
@@ -55,30 +56,38 @@ module _ (r : List ℕ) (h : Shape) (new : Bool) (q i : ℕ) (A : Verdict) (inv 
     unfolding standFrom bind
     stand-more z = rw (says-pass (stands i (formatOf new tag (between r start end)) (between r start end)) (sym ev ∙ z)) at here
 
-pub ruleset stand-turn = (stand-done, stand-not, stand-more, step-bounds)
+-- ---- the whole behind the identifier, where no field before place q and number i refuses
 
--- ---- the fields behind the identifier
+module _ (r : List ℕ) (h : Shape) (new : Bool) (p q i : ℕ) (inv : standFrom r h new q i ≡ standFrom r h new p 2) (e : Place) (en : e ≡ placeAt r h q) where
+  pub rest-more : (tag start end next : ℕ) → e ≡ At tag start end next → (v : Verdict)
+      → v ≡ verdictOf (stands i (formatOf new tag (between r start end)) (between r start end)) → v ≡ Passed → standFrom r h new next (i + 1) ≡ standFrom r h new p 2
+  rest-more tag start end next x v ev z = stand-more r h new q i (standFrom r h new p 2) inv e en tag start end next x v ev z
 
-module _ (r : List ℕ) (h : Shape) (new : Bool) (p : ℕ) (v : Verdict) (ev : v ≡ standFrom r h new p 2) where
-  pub rest-not : (n f t : ℕ) → v ≡ Refused n f t → Refused n f t ≡ restRight r h new p
+  pub rest-not : (tag start end next : ℕ) → e ≡ At tag start end next → (v : Verdict)
+      → v ≡ verdictOf (stands i (formatOf new tag (between r start end)) (between r start end)) → (n f t : ℕ) → v ≡ Refused n f t
+      → Refused n f t ≡ restRight r h new p
   unfolding standFrom restRight
-  rest-not n f t z =
+  rest-not tag start end next x v ev n f t z =
       let fs = fieldsAt r h p in
-      says-no (allStand new 2 fs) (λ _. counted (length (sent fs)) 2 fs) n f t (sym ev ∙ z)
+      says-no (allStand new 2 fs) (λ _. counted (length (sent fs)) 2 fs) n f t
+      (sym (stand-not r h new q i (standFrom r h new p 2) inv e en tag start end next x v ev n f t z))
 
-  module _ (z : v ≡ Passed) where
+  module _ (x : e ≡ Done) where
     stood : allStand new 2 (fieldsAt r h p) ≡ pass
     unfolding standFrom
-    stood = says-pass (allStand new 2 (fieldsAt r h p)) (sym ev ∙ z)
+    stood = says-pass (allStand new 2 (fieldsAt r h p)) (sym (stand-done r h new q i (standFrom r h new p 2) inv e en x))
 
     pub rest-fit : allFit false (fieldsAt r h p) ≡ true
     rest-fit = all-any new (fieldsAt r h p) (all-fit new 2 (fieldsAt r h p) tt stood)
 
     pub rest-counts : (w : Verdict) → w ≡ countedFrom r h p p 2 → w ≡ restRight r h new p
     unfolding restRight countedFrom bind
-    rest-counts w x = rw stood x
+    rest-counts w y = rw stood y
 
-pub ruleset rest-ways = (rest-not, rest-fit, rest-counts)
+    pub rest-plain : (c : Bool) → countedSince r h p q i c ≡ countedFrom r h p p 2 → c ≡ false → Passed ≡ restRight r h new p
+    rest-plain c k z = rest-counts Passed (counted-done r h p q i (countedFrom r h p p 2) (since-plain r h p q i c k z) e en x)
+
+pub ruleset rest-turn = (rest-more, rest-not, rest-fit, rest-counts, rest-plain, since-more, step-bounds)
 
 -- ---- the record
 

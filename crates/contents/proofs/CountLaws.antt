@@ -9,7 +9,7 @@ use borrow.Author.Tests.{eq-eqb, ne-eqb, eqb-true, eqb-false}
 use lib.Dec.{eqb}
 use lib.ListN.{length, drop, length-append, length-drop}
 use lib.Seq.{length-take-le}
-use Rattle.base.specs.Choice.{pick, both}
+use Rattle.base.specs.Choice.{pick, both, either}
 use Rattle.base.specs.Lists.{each, gather}
 use Rattle.base.specs.Walk.{Got}
 use Rattle.base.specs.Verdict.{verdictOf}
@@ -35,7 +35,7 @@ use Rattle.rules.specs.ByTag.{withTag, bodies}
 use Rattle.rules.specs.Coordinates.{coordOf, coordsIn, sent, placeIn}
 use Rattle.rules.specs.Content.{formatOf, miscounts, counted}
 use Rattle.contents.specs.Fit.{fits}
-use Rattle.contents.specs.Answers.{sentIn, sendFrom, countedFrom}
+use Rattle.contents.specs.Answers.{sentIn, sendFrom, countedFrom, countedSince}
 use Rattle.contents.proofs.ListLaws.{each-length}
 use Rattle.contents.proofs.StepLaws.{step-bounds}
 use Rattle.contents.proofs.FitLaws.{fit-here, fit-next}
@@ -180,3 +180,36 @@ module _ (r : List ℕ) (h : Shape) (p q i : ℕ) (A : Verdict) (inv : countedFr
     counted-more z = simp (← et, z) at (rw (fields-more r h q e en tag start end next x) at inv)
 
 pub ruleset counted-turn = (counted-done, counted-wrong, counted-more, fit-here, fit-next, step-bounds)
+
+-- ---- COCC noticed on the way: at place q, field i
+
+module _ (r : List ℕ) (h : Shape) (p : ℕ) where
+  -- what has to come out
+  abbrev whole : Verdict
+  whole = countedFrom r h p p 2
+
+  pub since-start : countedSince r h p p 2 false ≡ whole
+  unfolding countedSince
+  since-start = refl
+
+  pub since-plain : (q i : ℕ) (c : Bool) → countedSince r h p q i c ≡ whole → c ≡ false → countedFrom r h p q i ≡ whole
+  unfolding countedSince
+  since-plain q i c k z = rw z at k
+
+  module _ (q i : ℕ) (e : Place) (en : e ≡ placeAt r h q) (tag start end next : ℕ) (x : e ≡ At tag start end next) where
+    passed-by : (c t : Bool) → eqb tag COCC ≡ t → countedSince r h p q i c ≡ whole → countedSince r h p next (i + 1) (either c t) ≡ whole
+    unfolding countedSince
+    passed-by true t z k = refl
+    passed-by false true z k = refl
+    passed-by false false z k = counted-more r h p q i whole k e en tag start end next x false (simp z) refl
+
+    pub since-more : (c : Bool) → countedSince r h p q i c ≡ whole → (d : Bool) → d ≡ either c (eqb tag COCC) → countedSince r h p next (i + 1) d ≡ whole
+    since-more c k d ed = rw ed (passed-by c (eqb tag COCC) refl k)
+
+pub cocc-before : (t : ℕ) (c : Bool) → c ≡ true → true ≡ either c (eqb t COCC)
+cocc-before t c e = simp e
+
+pub cocc-now : (t : ℕ) (c : Bool) → c ≡ false → eqb t 0x434f4343 ≡ either c (eqb t COCC)
+cocc-now t c e = simp e
+
+pub ruleset cocc-ways = (cocc-before, cocc-now)

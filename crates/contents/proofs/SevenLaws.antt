@@ -3,7 +3,7 @@ use mathlib.Core.Path.{_≡_, refl, ap, _∙_}
 use mathlib.Core.Bool.{Bool, true, false}
 use mathlib.Core.Option.{Option, some, none}
 use mathlib.Core.List.{List, [], _∷_}
-use Prim.Native.Nat.{ℕ, _-_}
+use Prim.Native.Nat.{ℕ, _+_, _-_}
 use native.Mathlib.Omega.{arith}
 use borrow.Author.Tests.{eqb-true}
 use lib.Dec.{eqb, ltb}
@@ -13,13 +13,12 @@ use Rattle.base.specs.Lists.{gather}
 use Rattle.base.proofs.CheckLaws.{bind-inv, ok-inj}
 use Rattle.base.specs.Verdict.{verdictOf}
 use Rattle.base.specs.declared.Verdict.{Verdict}
-use Rattle.base.specs.declared.Verdict.the-variants.{Passed as Passes}
 use Rattle.skeleton.specs.File.{Field}
 use Rattle.skeleton.specs.Place.{between, placeAt, fieldsAt}
 use Rattle.skeleton.specs.declared.directory.Shape.{Shape}
 use Rattle.skeleton.specs.declared.place.Place.{Place}
 use Rattle.skeleton.specs.declared.place.Place.the-variants.{At, Done}
-use Rattle.skeleton.proofs.PlaceLaws.{fields-more, fields-done}
+use Rattle.skeleton.proofs.PlaceLaws.{held, fields-more, fields-done}
 use Rattle.rules.specs.Tags.{IRID, PRID, MRID, FRID}
 use Rattle.rules.specs.ByTag.{firstTag}
 use Rattle.rules.specs.Kind.{tagOf, kindOf, rank}
@@ -43,27 +42,39 @@ ident-marks Point f e = rw e
 ident-marks Multi f e = rw e
 ident-marks Feature f e = rw e
 
-module _ (r : List ℕ) (h : Shape) (m : Mode) (k : Kind) (five : number5 m k (fieldsAt r h 24) ≡ pass) (first : firstTag (fieldsAt r h 24) ≡ tagOf k)
-    (e : Place) (en : e ≡ placeAt r h 24) where
-  pub seven-none : e ≡ Done → Passes ≡ verdictOf (number7 (fieldsAt r h 24))
-  unfolding number7 marks keysOnce verdictOf
-  seven-none x = rw (fields-done r h 24 e en x)
+-- there is one: no tag of a kind is 0
+kind-some : (k : Kind) → firstTag [] ≡ tagOf k → ⊥
+unfolding firstTag tagOf
+kind-some Info e = omega arith
+kind-some Point e = omega arith
+kind-some Multi e = omega arith
+kind-some Feature e = omega arith
 
-  module _ (tag start end next : ℕ) (x : e ≡ At tag start end next) where
-    pub seven-fit : allFit false (fieldsAt r h next) ≡ true
-    seven-fit =
-        let f : Field = record { tag = tag; body = between r start end } in
-        let all = five-fit m k f (fieldsAt r h next) tt (rw (fields-more r h 24 e en tag start end next x) at five) in
-        all-any (asStored m (ruinByte k (between r start end))) (fieldsAt r h next) all
+module _ (r : List ℕ) (h : Shape) (m : Mode) (k : Kind) (five : number5 m k (fieldsAt r h 24) ≡ pass) (first : firstTag (fieldsAt r h 24) ≡ tagOf k) where
+  -- the fields are the identifier and those from the second entry on
+  parted : (f : Field) × (fieldsAt r h 24 ≡ f ∷ fieldsAt r h (28 + h .a + h .b))
+  parted = by-place (placeAt r h 24) refl
+    where
+      by-place : (e : Place) → e ≡ placeAt r h 24 → (f : Field) × (fieldsAt r h 24 ≡ f ∷ fieldsAt r h (28 + h .a + h .b))
+      by-place (At tag start end next) en =
+          let n : next ≡ 28 + h .a + h .b = let g = held r h 24 (At tag start end next) en tag start end next refl in omega arith in
+          (record { tag = tag; body = between r start end }, rw n at (fields-more r h 24 (At tag start end next) en tag start end next refl))
+      by-place Done en = absurd (kind-some k (rw (fields-done r h 24 Done en refl) at first))
 
-    pub seven-rest : (v : Verdict) → v ≡ onceFrom r h next 0 → v ≡ verdictOf (number7 (fieldsAt r h 24))
-    unfolding number7 marks onceFrom keysIn gather firstTag
-    seven-rest v y =
-        let f : Field = record { tag = tag; body = between r start end } in
-        let t : tag ≡ tagOf k = rw (fields-more r h 24 e en tag start end next x) at first in
-        rw (fields-more r h 24 e en tag start end next x) (rw (ident-marks k f t) y)
+  pub seven-fit : allFit false (fieldsAt r h (28 + h .a + h .b)) ≡ true
+  seven-fit =
+      let f : Field = parted .0 in
+      let all = five-fit m k f (fieldsAt r h (28 + h .a + h .b)) tt (rw (parted .1) at five) in
+      all-any (asStored m (ruinByte k (f .body))) (fieldsAt r h (28 + h .a + h .b)) all
 
-pub ruleset seven-ways = (seven-none, seven-fit, seven-rest)
+  pub seven-rest : (v : Verdict) → v ≡ onceFrom r h (28 + h .a + h .b) 0 → v ≡ verdictOf (number7 (fieldsAt r h 24))
+  unfolding number7 marks onceFrom keysIn gather firstTag
+  seven-rest v y =
+      let f : Field = parted .0 in
+      let t : f .tag ≡ tagOf k = rw (parted .1) at first in
+      rw (parted .1) (rw (ident-marks k f t) y)
+
+pub ruleset seven-ways = (seven-fit, seven-rest)
 
 -- ---- for callers
 

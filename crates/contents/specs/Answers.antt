@@ -31,6 +31,10 @@ sendFrom r h p n = eqb n (length (sent (fieldsAt r h p)))
 unfoldable pub countedFrom : List ℕ → Shape → ℕ → ℕ → ℕ → Verdict
 countedFrom r h p q i = verdictOf (counted (length (sent (fieldsAt r h p))) i (fieldsAt r h q))
 
+-- the same, where those before number i and place q are known not to: it has to be looked at again only if there was a COCC among them
+unfoldable pub countedSince : List ℕ → Shape → ℕ → ℕ → ℕ → Bool → Verdict
+countedSince r h p q i controlled = pick controlled (countedFrom r h p p 2) (countedFrom r h p q i)
+
 -- the fields from place p on, behind the identifier
 unfoldable pub restRight : List ℕ → Shape → Bool → ℕ → Verdict
 restRight r h new p =

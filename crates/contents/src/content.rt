@@ -14,11 +14,14 @@ use skeleton::place::place_at;
 ghost use mathlib.Core.Path.{_≡_};
 ghost use Prim.Native.Nat.{_≤_};
 ghost use lib.ListN.{length};
+ghost use lib.Dec.{eqb};
+ghost use Rattle.base.specs.Choice.{either};
 ghost use Rattle.base.specs.Verdict.{verdictOf};
 ghost use Rattle.skeleton.specs.Place.{between, fieldsAt};
 ghost use Rattle.skeleton.specs.Shape.{Bounded};
+ghost use Rattle.rules.specs.Tags.{COCC};
 ghost use Rattle.rules.specs.Content.{insertOnly, identFormat, formatOf, stands, number5};
-ghost use Rattle.contents.specs.Answers.{standFrom, restRight};
+ghost use Rattle.contents.specs.Answers.{restRight};
 
 // Whether field i, r[start..end], has the format that its tag asks for.
 fn field_stands(r: &[u8], start: usize, end: usize, tag: u32, new: bool, i: usize) -> Verdict
@@ -29,13 +32,32 @@ fn field_stands(r: &[u8], start: usize, end: usize, tag: u32, new: bool, i: usiz
     has_format(i, format_of(new, tag, b), b)
 }
 
-// Whether each of the fields from the entry at p on, the second of the record, has its format.
-fn all_stand(r: &[u8], h: Shape, p: usize, new: bool) -> Verdict
+// Whether the identifier r[start..end] has its format.
+fn ident_stands(r: &[u8], start: usize, end: usize, mode: Mode, k: Kind) -> Verdict
+    requires { ⌜ (start ≤ end) × (end ≤ length (now r)) ⌝ }
+    ensures { λ v. ⌜ v ≡ verdictOf (stands 1 (identFormat (insertOnly mode) k) (between (now (r .entry)) start end)) ⌝ }
+{
+    has_format(1, ident_format(insert_only(mode), k), &r[start..end])
+}
+
+// Whether a COCC (0x434f4343) was passed, now that a field with this tag is.
+fn cocc_passed(before: bool, tag: u32) -> bool
+    ensures { λ b. ⌜ b ≡ either before (eqb tag COCC) ⌝ }
+{
+    if before {
+        return true;
+    }
+    tag == 0x434f4343
+}
+
+// Whether the fields from the entry at p on, behind the identifier, have their formats, and NCOR is right, which only a COCC has.
+fn rest_right(r: &[u8], h: Shape, p: usize, new: bool) -> Verdict
     requires { ⌜ Bounded h × (2 ≤ p) ⌝ }
-    ensures { λ v. ⌜ v ≡ standFrom (now (r .entry)) h new p 2 ⌝ }
+    ensures { λ v. ⌜ v ≡ restRight (now (r .entry)) h new p ⌝ }
 {
     let mut q = p;
     let mut i = 2;
+    let mut controlled = false;
     loop {
         match place_at(r, h, q) {
             Place::At {
@@ -45,6 +67,7 @@ fn all_stand(r: &[u8], h: Shape, p: usize, new: bool) -> Verdict
                 next,
             } => match field_stands(r, start, end, tag, new, i) {
                 Verdict::Passed => {
+                    controlled = cocc_passed(controlled, tag);
                     q = next;
                     i += 1;
                 }
@@ -53,28 +76,12 @@ fn all_stand(r: &[u8], h: Shape, p: usize, new: bool) -> Verdict
                 }
             },
             Place::Done => {
+                if controlled {
+                    return check_counts(r, h, p);
+                }
                 return Verdict::Passed;
             }
         }
-    }
-}
-
-// Whether the identifier r[start..end] has its format.
-fn ident_stands(r: &[u8], start: usize, end: usize, mode: Mode, k: Kind) -> Verdict
-    requires { ⌜ (start ≤ end) × (end ≤ length (now r)) ⌝ }
-    ensures { λ v. ⌜ v ≡ verdictOf (stands 1 (identFormat (insertOnly mode) k) (between (now (r .entry)) start end)) ⌝ }
-{
-    has_format(1, ident_format(insert_only(mode), k), &r[start..end])
-}
-
-// Whether the fields from the entry at p on, behind the identifier, have their formats, and NCOR is right.
-fn rest_right(r: &[u8], h: Shape, p: usize, new: bool) -> Verdict
-    requires { ⌜ Bounded h × (2 ≤ p) ⌝ }
-    ensures { λ v. ⌜ v ≡ restRight (now (r .entry)) h new p ⌝ }
-{
-    match all_stand(r, h, p, new) {
-        Verdict::Passed => check_counts(r, h, p),
-        Verdict::Refused(n, f, t) => Verdict::Refused(n, f, t),
     }
 }
 

@@ -26,7 +26,7 @@ use Rattle.rules.specs.declared.Kind.the-variants.{Info, Point, Multi, Feature}
 use Rattle.rules.specs.declared.Mode.{Mode}
 use Rattle.rules.specs.declared.Mode.the-variants.{InDataset, InUpdate}
 use Rattle.records.specs.Rows.{rowsWith, tagsOf}
-use Rattle.records.specs.Order.{shutOut, faultyField, orderFrom}
+use Rattle.records.specs.Order.{shutOut, faultyField, orderFrom, instructionsOf}
 use Rattle.records.specs.Graded.{graded, foundKind, ruinPlace}
 use Rattle.records.specs.declared.order.Instructions.{Instructions}
 use Rattle.records.specs.declared.grammar.Tags.{Tags}
@@ -209,18 +209,37 @@ unfolding faultyField
 no-of (ok u) n s e z = absurd (z e)
 no-of (no x) n s e z = ap {B = Passed} (λ f. no f) (s .0) ∙ rw e
 
+-- ---- instructions
+
+module _ (m : Mode) (ruin : ℕ) (fs : List Field) where
+  pub instructions-dataset : m ≡ InDataset
+      → record { general = false; mode = m; ruin = ruin; coui = 0; controlled = false } ≡ instructionsOf m ruin fs
+  unfolding instructionsOf
+  instructions-dataset e = simp e
+
+  pub instructions-update : m ≡ InUpdate → (coui : ℕ) → coui ≡ couiByte fs → (controlled : Bool) → controlled ≡ has COCC fs
+      → record { general = false; mode = m; ruin = ruin; coui = coui; controlled = controlled } ≡ instructionsOf m ruin fs
+  unfolding instructionsOf
+  instructions-update e coui x controlled y = simp (e, ← x, ← y)
+
+pub ruleset instructions-ways = (instructions-dataset, instructions-update)
+
+-- what is not looked for decides nothing
+shut-as-forbidden : (m : Mode) (ruin : ℕ) (fs : List Field) → shutOut (instructionsOf m ruin fs) ≡ forbidden m ruin (couiByte fs) (has COCC fs)
+unfolding shutOut instructionsOf forbidden
+shut-as-forbidden InDataset ruin fs = refl
+shut-as-forbidden InUpdate ruin fs = refl
+
 -- ---- the fields after the identifier
 
--- what the code has found: RUIN, COUI, whether there is a COCC, and the first field out of order
-module _ (m : Mode) (k : Kind) (b : List ℕ) (fs : List Field) (ruin coui : ℕ) (controlled : Bool) (i : ℕ)
-    (er : ruin ≡ ruinByte k b) (ec : coui ≡ couiByte fs) (eh : controlled ≡ has COCC fs)
-    (eo : i ≡ faultyField (inOrder (shutOut (record { general = false; mode = m; ruin = ruin; coui = coui; controlled = controlled })) (rowsOf k) 2 fs)) where
+-- what the code has found: RUIN, the instructions, and the first field out of order
+module _ (m : Mode) (k : Kind) (b : List ℕ) (fs : List Field) (ruin : ℕ) (s : Instructions) (i : ℕ)
+    (er : ruin ≡ ruinByte k b) (es : s ≡ instructionsOf m ruin fs) (eo : i ≡ faultyField (inOrder (shutOut s) (rowsOf k) 2 fs)) where
   abbrev tested : Passed
   tested = inOrder (forbidden m (ruinByte k b) (couiByte fs) (has COCC fs)) (rowsOf k) 2 fs
 
   same-order : i ≡ faultyField tested
-  unfolding shutOut
-  same-order = rw (← er, ← ec, ← eh) eo
+  same-order = rw (← er, ← shut-as-forbidden m ruin fs, ← es) eo
 
   says : Said tested
   says = order-says (forbidden m (ruinByte k b) (couiByte fs) (has COCC fs)) (rowsOf k) 2 fs (omega arith)

@@ -16,7 +16,7 @@ ghost use Rattle.skeleton.specs.Shape.{Bounded};
 ghost use Rattle.rules.specs.Kind.{kindOf, rank, rowsOf};
 ghost use Rattle.rules.specs.Grammar.{inOrder, complete, ruinByte, asStored, fieldsStand, number4};
 ghost use Rattle.base.specs.Check.{bind, ok};
-ghost use Rattle.records.specs.Order.{shutOut, faultyField};
+ghost use Rattle.records.specs.Order.{shutOut, faultyField, instructionsOf};
 ghost use Rattle.records.specs.Graded.{graded, foundKind, ruinPlace};
 
 // A record's kind, where its tags are right; or the refusal's number, field and tuple.
@@ -128,22 +128,37 @@ fn kind_order(r: &[u8], h: Shape, p: usize, k: Kind, s: Instructions) -> usize
     }
 }
 
+// The instructions of a record with this RUIN, its fields from the entry at p on. In a dataset they take no COCC (0x434f4343), whatever they are:
+// none is looked for.
+fn instructions(r: &[u8], h: Shape, p: usize, mode: Mode, ruin: u8) -> Instructions
+    requires { ⌜ Bounded h ⌝ }
+    ensures { λ s. ⌜ s ≡ instructionsOf mode ruin (fieldsAt (now (r .entry)) h p) ⌝ }
+{
+    match mode {
+        Mode::InDataset => Instructions {
+            general: false,
+            mode,
+            ruin,
+            coui: 0,
+            controlled: false,
+        },
+        Mode::InUpdate => Instructions {
+            general: false,
+            mode,
+            ruin,
+            coui: coui_byte(r, h, p),
+            controlled: has_field(r, h, 0x434f4343, p),
+        },
+    }
+}
+
 // The fields after the identifier r[start..end], whose entries stand from p on, of a record of kind k.
 fn fields_stand(r: &[u8], h: Shape, start: usize, end: usize, p: usize, mode: Mode, k: Kind) -> Tags
     requires { ⌜ Bounded h × (2 ≤ p) × (start ≤ end) × (end ≤ length (now r)) ⌝ }
     ensures { λ t. ⌜ t ≡ graded (bind (fieldsStand mode k (between (now (r .entry)) start end) (fieldsAt (now (r .entry)) h p)) (λ _. ok k)) ⌝ }
 {
     let ruin = ruin_byte(r, start, end, k);
-    let coui = coui_byte(r, h, p);
-    let controlled = has_field(r, h, 0x434f4343, p);
-    let s = Instructions {
-        general: false,
-        mode,
-        ruin,
-        coui,
-        controlled,
-    };
-    let i = kind_order(r, h, p, k, s);
+    let i = kind_order(r, h, p, k, instructions(r, h, p, mode, ruin));
     if i != 0 {
         return Tags::Wrong(4, i, 0);
     }

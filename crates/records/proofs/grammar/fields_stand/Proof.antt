@@ -6,20 +6,16 @@ use Rattle.records.proofs.grammar.fields_stand.Tie as tie
 use Rattle.records.proofs.grammar.fields_stand.Reads as reads
 use Rattle.records.proofs.grammar.fields_stand.Lts as lts
 use Rattle.records.proofs.grammar.as_stored.Reads as as-stored-reads
+use Rattle.records.proofs.grammar.instructions.Reads as instructions-reads
 use Rattle.records.proofs.grammar.is_complete.Reads as is-complete-reads
 use Rattle.records.proofs.grammar.kind_order.Reads as kind-order-reads
 use Rattle.records.proofs.grammar.ruin_byte.Reads as ruin-byte-reads
-use Rattle.records.proofs.tagged.coui_byte.Reads as coui-byte-reads
-use Rattle.records.proofs.tagged.has_field.Reads as has-field-reads
 
 ruin-byte-requires : tie.Need-ruin-byte-requires
 ruin-byte-requires c κs = search needs
 
-coui-byte-requires : tie.Need-coui-byte-requires
-coui-byte-requires c κs = search needs
-
-has-field-requires : tie.Need-has-field-requires
-has-field-requires c κs = search needs
+instructions-requires : tie.Need-instructions-requires
+instructions-requires c κs = search needs
 
 kind-order-requires : tie.Need-kind-order-requires
 kind-order-requires c κs = search needs
@@ -47,8 +43,7 @@ fields-stand-spec =
     tie.close
     (tie.spec
     ruin-byte-requires
-    coui-byte-requires
-    has-field-requires
+    instructions-requires
     kind-order-requires
     returns
     as-stored-requires
