@@ -1,0 +1,2 @@
+// The record that the workspace holds, measured and written in the written form.
+pub mod bodies;
