@@ -8,21 +8,21 @@ use borrow.Author.Tests.{eq-eqb, ne-eqb}
 use Rattle.forest.specs.Forest.{Forest, nil, tree, Tup, size, tuplesFrom, tuplesOf}
 use Rattle.forest.specs.Rule.{codesOf}
 
--- ---- tuples passed, the latest first
+-- ---- what was passed, the latest first
 
--- the tuples passed, after these
-unfoldable pub onto : List Tup → List Tup → List Tup
+-- what was passed, after these
+unfoldable pub onto : {A : Type 0} → List A → List A → List A
 onto [] earlier = earlier
 onto (t ∷ ts) earlier = onto ts (t ∷ earlier)
 
--- one list of tuples after the other
-pub onto-append : (a b earlier : List Tup) → onto (a ++ b) earlier ≡ onto b (onto a earlier)
+-- one list after the other
+pub onto-append : {A : Type 0} (a b earlier : List A) → onto (a ++ b) earlier ≡ onto b (onto a earlier)
 unfolding onto
 onto-append [] b earlier = refl
 onto-append (t ∷ a) b earlier = onto-append a b (t ∷ earlier)
 
 -- as many more are passed
-pub onto-length : (a earlier : List Tup) → length (onto a earlier) ≡ length a + length earlier
+pub onto-length : {A : Type 0} (a earlier : List A) → length (onto a earlier) ≡ length a + length earlier
 unfolding onto
 onto-length [] earlier = omega arith
 onto-length (t ∷ a) earlier = omega (arith, onto-length a (t ∷ earlier))
