@@ -76,7 +76,7 @@ unfolding bodiesFrom
 length-bodies d u c i zero = refl
 length-bodies d u c i (suc n) = ap suc (length-bodies d u c (i + 1) n)
 
-length-inas : (bs : List (List ℕ)) → length (inasFields bs) ≡ length bs
+pub length-inas : (bs : List (List ℕ)) → length (inasFields bs) ≡ length bs
 unfolding inasFields each
 length-inas [] = refl
 length-inas (b ∷ bs) = ap suc (length-inas bs)

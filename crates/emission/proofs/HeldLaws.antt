@@ -82,7 +82,7 @@ foid-as false b g =
 
 -- ---- INAS
 
-inas-as : (bs : List (List ℕ)) → All RightInas bs → each assocField (each assocOf bs) ≡ inasFields bs
+pub inas-as : (bs : List (List ℕ)) → All RightInas bs → each assocField (each assocOf bs) ≡ inasFields bs
 unfolding All each inasFields
 inas-as [] g = refl
 inas-as (b ∷ bs) g =
@@ -113,12 +113,12 @@ spas-one b g =
     ∙ puts-values (tupleOf SpasNew) b (f .bytes) (g .bytes) (f .taken)
     ∙ take-all (f .bytes) b (omega arith)
 
-spas-as : (bs : List (List ℕ)) → All RightSpas bs → putAll (tupleOf SpasNew) (each spatialVals (each spatialIn bs)) ≡ joined bs
+pub spas-as : (bs : List (List ℕ)) → All RightSpas bs → putAll (tupleOf SpasNew) (each spatialVals (each spatialIn bs)) ≡ joined bs
 unfolding All putAll gather each joined
 spas-as [] g = refl
 spas-as (b ∷ bs) g = ap₂ (λ (x y : List ℕ). x ++ y) (spas-one b (g .0)) (spas-as bs (g .1))
 
-spas-total : (bs : List (List ℕ)) → All RightSpas bs → length (joined bs) ≡ 15 * length bs
+pub spas-total : (bs : List (List ℕ)) → All RightSpas bs → length (joined bs) ≡ 15 * length bs
 unfolding All joined gather
 spas-total [] g = refl
 spas-total (b ∷ bs) g =

@@ -5,3 +5,5 @@ pub mod IdentLaws
 pub mod FieldsLaws
 pub mod HeldLaws
 pub mod VersionLaws
+pub mod LengthLaws
+pub mod SmallLaws

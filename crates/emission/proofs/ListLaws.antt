@@ -97,6 +97,10 @@ pub size-most : (n : ℕ) → listSize n ≤ n + 1
 size-most zero = omega (arith, no-size 0 refl)
 size-most (suc n) = omega (arith, some-size (suc n) (λ h. omega arith))
 
+pub size-least : (n : ℕ) → n ≤ listSize n
+size-least zero = omega arith
+size-least (suc n) = omega (arith, some-size (suc n) (λ h. omega arith))
+
 pub count-most : (n : ℕ) → listCount n ≤ 1
 count-most zero = omega (arith, no-count 0 refl)
 count-most (suc n) = omega (arith, some-count (suc n) (λ h. omega arith))

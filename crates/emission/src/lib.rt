@@ -3,3 +3,5 @@ pub mod bodies;
 pub mod identifier;
 pub mod lists;
 pub mod measuring;
+
+pub use measuring::version_length;

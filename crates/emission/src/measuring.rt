@@ -1,4 +1,4 @@
-// The fields of the record that the workspace holds, counted.
+// How long the record that the workspace holds is when it is written.
 use crate::bodies::inas_size;
 use crate::identifier::ident_size;
 use crate::lists::list_count;
@@ -7,6 +7,10 @@ use version::Version;
 use writing::measuring::Sum;
 ghost use mathlib.Core.Path.{_≡_};
 ghost use Prim.Native.Nat.{_≤_, _+_, _*_};
+ghost use lib.ListN.{length};
+ghost use Rattle.rules.specs.Record.{Rec};
+ghost use Rattle.rules.specs.Written.{writtenFields, writtenLength};
+ghost use Rattle.version.specs.Held.{Held};
 ghost use Rattle.emission.specs.Fields.{foidSize, listSize, listCount, lastCount, lastSize, total, Rooms, Measured, Few};
 
 // The bytes of the attributes' tuples, and those of the INAS fields, the 1E of each included.
@@ -79,4 +83,15 @@ pub fn sum_up(v: Version, m: Sizes) -> Sum
     let fields = count_fields(v, m.attr);
     let bytes = count_bytes(v, m);
     Sum { fields, bytes }
+}
+
+// How long the record that the workspace holds is when it is written; d the dataset, u the update.
+pub fn version_length(d: &[u8], u: &[u8], work: &[u8], v: Version) -> usize
+    requires { ⌜ (length (now d) ≤ 16777216) × (length (now u) ≤ 16777216) × (400000 ≤ length (now work)) ⌝ }
+    requires { ⌜ ((r : Rec) × Held (now d) (now u) (now work) v r) ⌝ }
+    ensures { λ n. ⌜ ((r : Rec) → Held (now (d .entry)) (now (u .entry)) (now (work .entry)) v r → n ≡ writtenLength (writtenFields r)) ⌝ }
+{
+    let m = measure(d, u, work, v);
+    let s = sum_up(v, m);
+    25 + 14 * s.fields + s.bytes
 }
