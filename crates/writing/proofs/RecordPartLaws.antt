@@ -100,7 +100,7 @@ foid-part (f ∷ []) t r h =
 foid-part (f ∷ g ∷ xs) t r h = absurd (omega arith)
 
 -- ATTR: at most one
-passed-inv : {A : Type 0} (c : Check A) → passed c ≡ pass → (a : A) × (c ≡ ok a)
+pub passed-inv : {A : Type 0} (c : Check A) → passed c ≡ pass → (a : A) × (c ≡ ok a)
 unfolding passed
 passed-inv c e = let r = bind-inv c (λ _. pass) tt e in (r .0, r .1)
 

@@ -259,7 +259,7 @@ point-list b g e =
     (h, ap (λ (x : Got (List Val)). x .ending) (head-tuple (headOf C2it) b h e))
 
 -- tuples of SPAS
-spatial-again : (l : List ℕ) (n : ℕ) → sizes (tupleOf SpasNew) l ≡ some n → spatialVals (spatialOf (values (tupleOf SpasNew) l)) ≡ values (tupleOf SpasNew) l
+pub spatial-again : (l : List ℕ) (n : ℕ) → sizes (tupleOf SpasNew) l ≡ some n → spatialVals (spatialOf (values (tupleOf SpasNew) l)) ≡ values (tupleOf SpasNew) l
 unfolding tupleOf spatialVals spatialOf spasKey nums each pin pinned values value
 spatial-again l n e = pinned-same (tupleOf SpasNew) l n e
 

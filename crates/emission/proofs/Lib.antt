@@ -1,0 +1,9 @@
+pub mod LeftLaws
+pub mod BodiesLaws
+pub mod ListLaws
+pub mod IdentLaws
+pub mod FieldsLaws
+pub mod HeldLaws
+pub mod VersionLaws
+pub mod LengthLaws
+pub mod SmallLaws

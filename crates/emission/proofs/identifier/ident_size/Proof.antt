@@ -1,0 +1,21 @@
+use Rattle.emission.proofs.IdentLaws.{size-coded, size-plain}
+use Rattle.emission.proofs.IdentLaws.{code-ways}
+use native.Mathlib.Omega.{arith}
+use borrow.Author.Needs.{needs}
+use Rattle.emission.proofs.identifier.ident_size.Statement.{statement}
+use Rattle.emission.proofs.identifier.ident_size.Tie as tie
+use Rattle.emission.proofs.identifier.ident_size.Reads as reads
+use Rattle.emission.proofs.identifier.ident_size.Lts as lts
+use Rattle.emission.proofs.identifier.has_code.Reads as has-code-reads
+
+has-code-requires : tie.Need-has-code-requires
+has-code-requires c κs = search needs
+
+returns : tie.Need-returns
+returns c = size-coded _ _ (c .before .has-code .ensures) (c .if1 .taken)
+
+returns-2 : tie.Need-returns-2
+returns-2 c = size-plain _ _ (c .before .has-code .ensures) (c .if1 .left)
+
+pub ident-size-spec : {M : Type 1} → statement M
+ident-size-spec = tie.close (tie.spec has-code-requires returns returns-2)

@@ -1,0 +1,126 @@
+-- The fields of the record that the workspace holds, from the bytes that they are copied from.
+use Prim.Native.Nat.{ℕ, _+_, _*_, _≤_}
+use mathlib.Core.Path.{_≡_}
+use mathlib.Core.Bool.{Bool, true, false}
+use mathlib.Core.List.{List, [], _∷_, _++_}
+use lib.ListN.{length, take}
+use lib.Dec.{eqb}
+use Rattle.base.specs.Choice.{pick}
+use Rattle.memory.specs.Digits.{littleEndian}
+use Rattle.memory.specs.Wrote.{Wrote}
+use Rattle.skeleton.specs.File.{Field}
+use Rattle.skeleton.specs.Emit.{sizes, entries, contents}
+use Rattle.rules.specs.Tags.{FOID, ATTR, SPAS}
+use Rattle.rules.specs.Kind.{rcnm, tagOf, coded}
+use Rattle.rules.specs.Written.{fieldAs, listField, fieldWidth, coordTag}
+use Rattle.cells.specs.Cells.{bodiesOf}
+use Rattle.numbering.specs.Tuples.{Sized}
+use Rattle.version.specs.Areas.{listArea, inasArea, spasArea}
+use Rattle.version.specs.Held.{foidBodies}
+use Rattle.version.specs.declared.Version.{Version}
+use Rattle.writing.specs.declared.measuring.Sum.{Sum}
+use Rattle.emission.specs.Bodies.{joined, inasFields}
+use Rattle.emission.specs.declared.measuring.Sizes.{Sizes}
+
+-- ---- the fields
+
+-- the code, where the kind has one
+unfoldable pub codePart : Bool → ℕ → List ℕ
+codePart true n = littleEndian 2 n
+codePart false n = []
+
+-- the identifier: RCNM, RCID, the code, RVER, RUIN 1
+unfoldable pub identPart : Version → List ℕ
+identPart v =
+    (rcnm (v .kind) ∷ []) ++ littleEndian 4 (v .rcid) ++ codePart (coded (v .kind)) (v .code) ++ littleEndian 2 (v .rver) ++ (1 ∷ [])
+
+-- the eight bytes of a FOID, or none
+unfoldable pub foidPart : List ℕ → List ℕ → Version → List ℕ
+foidPart d u v = joined (foidBodies d u v)
+
+-- the coordinates
+unfoldable pub coordPart : List ℕ → Version → List ℕ
+coordPart w v = take (8 * v .coord) (listArea w)
+
+-- the spatial associations
+unfoldable pub spasPart : List ℕ → List ℕ → List ℕ → Version → List ℕ
+spasPart d u w v = joined (bodiesOf d u (spasArea w) (v .spas))
+
+-- the associations with information types
+unfoldable pub inasPart : List ℕ → List ℕ → List ℕ → Version → List Field
+inasPart d u w v = inasFields (bodiesOf d u (inasArea w) (v .inas))
+
+-- what follows the attributes
+unfoldable pub lastFields : List ℕ → List ℕ → List ℕ → Version → List Field
+lastFields d u w v = inasPart d u w v ++ listField (coordTag (v .kind)) (coordPart w v) ++ listField SPAS (spasPart d u w v)
+
+-- all fields, where t is the body of the attributes
+unfoldable pub versionFields : List ℕ → List ℕ → List ℕ → Version → List ℕ → List Field
+versionFields d u w v t =
+    (fieldAs (tagOf (v .kind)) (identPart v) ∷ []) ++ listField FOID (foidPart d u v) ++ listField ATTR t ++ lastFields d u w v
+
+-- ---- their sizes
+
+-- the bytes of the field of a list of n bytes, its 1E included
+unfoldable pub listSize : ℕ → ℕ
+listSize n = pick (eqb n 0) 0 (n + 1)
+
+-- one field, or none
+unfoldable pub listCount : ℕ → ℕ
+listCount n = pick (eqb n 0) 0 1
+
+-- the bytes of an identifier, with a code or without
+unfoldable pub identSize : Bool → ℕ
+identSize true = 10
+identSize false = 8
+
+-- the bytes of a FOID, or none
+unfoldable pub foidSize : ℕ → ℕ
+foidSize n = pick (eqb n 0) 0 8
+
+-- the bytes of the fields that follow the attributes, where those of the INAS fields are given
+unfoldable pub lastSize : Version → ℕ → ℕ
+lastSize v inas = inas + listSize (8 * v .coord) + listSize (15 * v .spas)
+
+-- how many fields follow the attributes
+unfoldable pub lastCount : Version → ℕ
+lastCount v = v .inas + listCount (8 * v .coord) + listCount (15 * v .spas)
+
+-- all fields counted
+unfoldable pub total : Version → Sizes → Sum
+total v m =
+    record {
+      fields = 1 + listCount (foidSize (v .foids)) + listCount (m .attr) + lastCount v;
+      bytes = identSize (coded (v .kind)) + 1 + listSize (foidSize (v .foids)) + listSize (m .attr) + lastSize v (m .inas);
+    }
+
+-- the entry of a list of n bytes, at pos, was written from `at` on over what was d and is e; p is the index after it
+pub record ListEntry (tag n pos at : ℕ) (d : List ℕ) (p : ℕ) (e : List ℕ) : Type 0 where
+  pub next : p ≡ at + 14 * listCount n
+  pub is : (b : List ℕ) → length b ≡ n → Wrote at (entries fieldWidth fieldWidth pos (listField tag b)) d p e
+
+-- ---- what the writer stands on
+
+-- there is room in the workspace for what it holds, and what is copied stands where it is said to stand
+pub record Rooms (d u w : List ℕ) (v : Version) : Type 0 where
+  pub work : 400000 ≤ length w
+  pub old : length d ≤ 16777216
+  pub new : length u ≤ 16777216
+  pub attr-room : 8 * v .attr ≤ 200000
+  pub inas-room : 7 * v .inas ≤ 92000
+  pub coord-room : 8 * v .coord ≤ 200000
+  pub spas-room : 7 * v .spas ≤ 94000
+  pub foid-long : length (foidPart d u v) ≡ foidSize (v .foids)
+  pub spas-long : length (spasPart d u w v) ≡ 15 * v .spas
+
+-- so few that all sizes are words
+pub record Few (v : Version) : Type 0 where
+  pub inas : v .inas ≤ 100000
+  pub coord : v .coord ≤ 100000
+  pub spas : v .spas ≤ 100000
+
+-- m is the bytes of the attributes' tuples, and those of the INAS fields, the 1E of each included
+pub record Measured (d u w : List ℕ) (v : Version) (m : Sizes) : Type 0 where
+  pub attr-is : Sized d u (listArea w) (v .attr) (m .attr)
+  pub inas-is : m .inas ≡ sizes (inasPart d u w v)
+  pub inas-small : m .inas ≤ 220500000000
