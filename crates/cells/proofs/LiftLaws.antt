@@ -47,6 +47,11 @@ module _ (key other : List ℕ → List ℕ) (j : ℕ) where
 
 -- ---- things made of bodies
 
+pub each-append : {A : Type 0} (f : List ℕ → A) (bs cs : List (List ℕ)) → each f (bs ++ cs) ≡ each f bs ++ each f cs
+unfolding each
+each-append f [] cs = refl
+each-append f (b ∷ bs) cs = rw (each-append f bs cs)
+
 module _ {A : Type 0} (f : List ℕ → A) (key : A → List ℕ) (j : ℕ) where
   -- what f makes of each, where there is a result
   abbrev made : Check (List (List ℕ)) → Check (List A)
@@ -57,18 +62,13 @@ module _ {A : Type 0} (f : List ℕ → A) (key : A → List ℕ) (j : ℕ) wher
   each-each [] = refl
   each-each (b ∷ bs) = ap (λ (ks : List (List ℕ)). key (f b) ∷ ks) (each-each bs)
 
-  pub each-append : (bs cs : List (List ℕ)) → each f (bs ++ cs) ≡ each f bs ++ each f cs
-  unfolding each
-  each-append [] cs = refl
-  each-append (b ∷ bs) cs = ap (λ (xs : List A). f b ∷ xs) (each-append bs cs)
-
   join-each : (b : List ℕ) (bs : List (List ℕ)) → join key j (f b) (each f bs) ≡ made (join (λ (x : List ℕ). key (f x)) j b bs)
   unfolding join bind each
   join-each b bs = rw (each-each bs) (go (among (key (f b)) (each (λ (x : List ℕ). key (f x)) bs)))
     where
       go : (t : Bool) → pick t (refuse 7 j) (ok (each f bs ++ (f b ∷ []))) ≡ made (pick t (refuse 7 j) (ok (bs ++ (b ∷ []))))
       go true = refl
-      go false = ap ok (sym (each-append bs (b ∷ [])))
+      go false = ap ok (sym (each-append f bs (b ∷ [])))
 
   leave-each : (k : List ℕ) (bs : List (List ℕ)) → leave key j k (each f bs) ≡ made (leave (λ (x : List ℕ). key (f x)) j k bs)
   unfolding leave bind each

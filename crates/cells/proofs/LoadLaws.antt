@@ -15,7 +15,6 @@ use Rattle.fields.specs.declared.Format.the-variants.{Spas, SpasNew}
 use Rattle.fields.specs.declared.Sub.{Sub}
 use Rattle.fields.proofs.FieldLaws.{fill-list}
 use Rattle.rules.specs.Record.{Spatial, spatialOf}
-use Rattle.rules.specs.Modify.{spatialKey}
 use Rattle.items.specs.Items.{source}
 use Rattle.cells.specs.Cells.{bodiesOf, spatialIn, tupleBodies}
 use Rattle.cells.specs.Keys.{Every, SpasBody}
@@ -138,8 +137,8 @@ module _ (at end x : ℕ) (c₀ : List ℕ) (n : ℕ) (c : List ℕ) (p m : ℕ)
         let is : bodiesOf d u c m ≡ old ++ tupleBodies src at k = s .bodies d u ∙ ap (λ (i : ℕ). old ++ tupleBodies src at i) tuples-of in
         record {
           bodies = is;
-          bytes = λ l. rw is (gather-append old (tupleBodies src at k) ∙ ap (λ (b : List ℕ). gather (λ (y : List ℕ). y) old ++ b) (tuples-bytes src k at end ends));
-          is = λ e l. rw is (each-append spatialIn spatialKey 0 old (tupleBodies src at k) ∙ ap (λ (b : List Spatial). each spatialIn old ++ b) (tuples-say src end l k at ends (listed (tupleOf Spas) (between src at end) e)));
+          bytes = rw is (gather-append old (tupleBodies src at k) ∙ ap (λ (b : List ℕ). gather (λ (y : List ℕ). y) old ++ b) (tuples-bytes src k at end ends));
+          is = λ e l. rw is (each-append spatialIn old (tupleBodies src at k) ∙ ap (λ (b : List Spatial). each spatialIn old ++ b) (tuples-say src end l k at ends (listed (tupleOf Spas) (between src at end) e)));
           right = λ e l q. rw is (every-append SpasBody old (tupleBodies src at k) q (tuples-right src end l k at ends (listed (tupleOf SpasNew) (between src at end) e)));
         }
 

@@ -28,7 +28,7 @@ use Rattle.cells.specs.declared.acting.Acted.the-variants.{Refused, Now}
 -- the tuples of the SPAS from at to end, in the slice that x names, were added behind the n bodies of c; now there are m, in e
 pub record SpasLoaded (d u : List ℕ) (at end x : ℕ) (c : List ℕ) (n : ℕ) (e : List ℕ) (m : ℕ) : Type 0 where
   pub bodies : bodiesOf d u e m ≡ bodiesOf d u c n ++ tupleBodies (source x d u) at ((end - at) / 15)
-  pub bytes : end ≤ length (source x d u) → gather (λ (b : List ℕ). b) (bodiesOf d u e m) ≡ gather (λ (b : List ℕ). b) (bodiesOf d u c n) ++ between (source x d u) at end
+  pub bytes : gather (λ (b : List ℕ). b) (bodiesOf d u e m) ≡ gather (λ (b : List ℕ). b) (bodiesOf d u c n) ++ between (source x d u) at end
   pub is : fill (headOf Spas) (tupleOf Spas) (between (source x d u) at end) ≡ true → end ≤ length (source x d u)
       → each spatialIn (bodiesOf d u e m) ≡ each spatialIn (bodiesOf d u c n) ++ each spatialOf (many (tupleOf Spas) (between (source x d u) at end))
   pub right : fill (headOf SpasNew) (tupleOf SpasNew) (between (source x d u) at end) ≡ true → end ≤ length (source x d u)

@@ -4,7 +4,7 @@ use mathlib.Core.Path.{_≡_, ap, _∙_}
 use mathlib.Core.List.{List, [], _∷_}
 use native.Mathlib.Omega.{arith}
 use borrow.Author.Tests.{lt-ltb, le-ltb}
-use lib.ListN.{length, set, drop}
+use lib.ListN.{length, set}
 use Rattle.rules.specs.declared.Answer.{Answer}
 use Rattle.console.specs.Numbered.{numbered}
 

@@ -180,3 +180,8 @@ walk-start f start = standing-start f start (wholeFrom f start) refl
 pub walk-map : (f : List ℕ) (start n : ℕ) → Once f start 0 0 (replicate n 0)
 unfolding zeros
 walk-map f start n = once-start f start n
+
+-- a map that was emptied
+pub walk-emptied : (f : List ℕ) (start n : ℕ) (t : List ℕ) → t ≡ zeros n → Once f start 0 0 t
+unfolding zeros
+walk-emptied f start n t e = rw e (walk-map f start n)

@@ -5,6 +5,7 @@ use contents::keys::check_keys;
 use keys::look::key_at;
 use keys::once::larger;
 use keys::once::repeats;
+use memory::clearing::zero;
 use records::grammar::Tags;
 use rules::Kind;
 use rules::Mode;
@@ -127,11 +128,11 @@ fn each_record(f: &[u8], start: usize, t: &mut [u8]) -> Walked
     }
 }
 
-// The records of a dataset after the third, which begin at start.
-pub fn later_records(f: &[u8], start: usize) -> Walked
+// The records of a dataset after the third, which begin at start; the map is for the keys of a kind, whatever it holds before.
+pub fn later_records(f: &[u8], start: usize, map: &mut [u8]) -> Walked
     requires { ⌜ (length (now f) ≤ 16777216) × (start ≤ length (now f)) ⌝ }
     ensures { λ r. ⌜ r ≡ walkedBy (length (keysFrom (now (f .entry)) start)) (wholeFrom (now (f .entry)) start) ⌝ }
 {
-    let mut t = [0u8; 32768];
-    each_record(f, start, &mut t)
+    zero(map);
+    each_record(f, start, map)
 }

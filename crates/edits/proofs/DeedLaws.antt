@@ -1,6 +1,6 @@
 -- Each act by itself: its splice of the bytes is the splice of the list of items. Assumes nothing.
-use mathlib.Core.Path.{_≡_, refl, sym, ap, _∙_}
-use mathlib.Core.List.{List, [], _∷_, _++_, append-assoc}
+use mathlib.Core.Path.{_≡_, refl, sym, ap}
+use mathlib.Core.List.{List, _++_, append-assoc}
 use mathlib.Core.Logic.{⊎-elim}
 use mathlib.Core.Bool.{Bool, true, false}
 use Prim.Native.Nat.{ℕ, suc, _+_, _-_, _*_, _≤_, _<_}
@@ -8,128 +8,61 @@ use native.Mathlib.Numerals.{add-one}
 use native.Mathlib.Omega.{arith}
 use lib.ListN.{length, getD}
 use borrow.Author.Tests.{lt-ltb, le-ltb, ne-eqb}
-use Rattle.base.specs.Choice.{pick, both}
+use Rattle.base.specs.Choice.{both}
 use Rattle.base.specs.Check.{Check, ok, no, bind}
 use Rattle.memory.specs.Put.{put}
 use Rattle.memory.specs.Splice.{opened}
-use Rattle.memory.proofs.PutLaws.{getD-put-below, getD-put-above}
-use Rattle.memory.proofs.SpliceLaws.{splicedIn-before, splicedIn-after, length-opened, opened-before, opened-after}
 use Rattle.forest.specs.Forest.{valued}
 use Rattle.forest.specs.Acts.{insert, delete, modify, Acts, act}
 use Rattle.forest.specs.Flat.{Item, item, after, editFlat}
 use Rattle.forest.proofs.Numbers.{eq-or-ne}
 use Rattle.rules.specs.Trees.{instructionOf}
-use Rattle.items.specs.Items.{u16, textFrom, depthOf, codeOf, source, itemAt, its, refBytes, itemBytes, Same}
-use Rattle.items.proofs.ItemLaws.{its-split, its-snoc, Moved, its-same, same-its, same-less, item-put, ref-put, ref-below, ref-above}
+use Rattle.items.specs.Items.{u16, textFrom, source, its, refBytes, itemBytes}
+use Rattle.items.proofs.ItemLaws.{same-less, ref-below}
 use Rattle.edits.specs.declared.single.Deed.the-variants.{Not, Gone, Lead}
-use Rattle.edits.specs.Search.{placeOf, endOf, twins, spotOf, deeperAt, goneCount, goneOut}
+use Rattle.edits.specs.Search.{placeOf, twins, spotOf, deeperAt, goneCount, goneOut}
 use Rattle.edits.specs.Read.{actAt}
 use Rattle.edits.specs.Says.{DeedSays}
-use Rattle.edits.proofs.SearchLaws.{place-bound, end-bound, place-absent, place-there, place-is, end-list, twins-list, deeper-list, spot-bound, spot-list, gone-bound}
+use Rattle.edits.proofs.SearchLaws.{place-bound, place-is, spot-bound, gone-bound}
+use Rattle.edits.proofs.ListLaws.{place-absent, place-there, end-list, twins-list, deeper-list, spot-list}
+use Rattle.edits.proofs.ChangeLaws.{grown-same, grown-after, grown-before, gone-same, gone-its, turned-after, turned-before}
 
+-- an insert
 act-insert : (u : List ℕ) (at q : ℕ) (us rest : Acts) → getD u (at + 6) 0 ≡ 1 → actAt u at q us rest ≡ act q insert (u16 u at) (u16 u (at + 2)) (textFrom u (at + 7)) us rest
 unfolding actAt instructionOf
 act-insert u at q us rest e = rw e
 
+-- a delete
 act-delete : (u : List ℕ) (at q : ℕ) (us rest : Acts) → getD u (at + 6) 0 ≡ 2 → actAt u at q us rest ≡ act q delete (u16 u at) (u16 u (at + 2)) (textFrom u (at + 7)) us rest
 unfolding actAt instructionOf
 act-delete u at q us rest e = rw e
 
+-- a modify
 act-modify : (u : List ℕ) (at q : ℕ) (us rest : Acts) → (getD u (at + 6) 0 ≡ 1 → ⊥) → (getD u (at + 6) 0 ≡ 2 → ⊥) → actAt u at q us rest ≡ act q modify (u16 u at) (u16 u (at + 2)) (textFrom u (at + 7)) us rest
 unfolding actAt instructionOf
 act-modify u at q us rest e f = rw (ne-eqb (getD u (at + 6) 0) 1 e, ne-eqb (getD u (at + 6) 0) 2 f)
 
+-- a list before a list
 after-append : (a b : List Item) (c : Check (List Item)) → after a (after b c) ≡ after (a ++ b) c
 unfolding after
 after-append a b (ok x) = ap ok (sym (append-assoc a b x))
 after-append a b (no n) = refl
 
--- room was made at item j, and the new item stored there
-module _ (w : List ℕ) (n j d c o x : ℕ) (hj : j ≤ n) (room : 8 * n + 8 ≤ length w) (hd : d < 65536) (hc : c < 65536) (ho : o < 16777216) where
-  abbrev wide : List ℕ
-  wide = opened (8 * n) (8 * j) 8 w
-
-  abbrev grown : List ℕ
-  grown = put (8 * j) (itemBytes d c o x) wide
-
-  wide-length : length wide ≡ length w
-  wide-length = length-opened (8 * n) (8 * j) 8 w
-
-  pub grown-same : Same w grown (8 * j)
-  unfolding Same
-  grown-same = λ k h. getD-put-below (8 * j) k (itemBytes d c o x) wide h ∙ opened-before (8 * n) (8 * j) 8 k w h
-
-  pub grown-item : (s u : List ℕ) → itemAt s u grown j ≡ item d c (textFrom (source x s u) o)
-  grown-item s u = item-put wide j d c o x (omega (arith, wide-length)) hd hc ho s u
-
-  grown-bytes : Moved w grown j (j + 1) (n - j)
-  unfolding Moved itemBytes refBytes
-  grown-bytes = λ k h.
-      let p : 8 * (j + 1) + k ≡ 8 * j + 8 + k = omega arith in
-      rw p (getD-put-above (8 * j) (8 * j + 8 + k) (itemBytes d c o x) wide (omega arith) ∙ opened-after (8 * n) (8 * j) 8 k w (omega arith) room)
-
-  pub grown-after : (s u : List ℕ) → its s u grown (j + 1) (n + 1) ≡ its s u w j n
-  grown-after s u = its-same s u w grown j n (j + 1) (n + 1) (n - j) (omega arith) (omega arith) grown-bytes
-
-  pub grown-before : (s u : List ℕ) (start : ℕ) → start ≤ j → its s u grown start (j + 1) ≡ its s u w start j ++ (item d c (textFrom (source x s u) o) ∷ [])
-  grown-before s u start h = its-snoc s u grown start j h ∙ rw (same-its s u w grown start j (8 * j) h (omega arith) grown-same, grown-item s u)
-
--- item i went, with what is below it
-module _ (w : List ℕ) (n i d : ℕ) (hi : i < n) (room : 8 * n ≤ length w) where
-  abbrev e₁ : ℕ
-  e₁ = endOf w (i + 1) n (d + 1)
-
-  gone-end : (goneCount w n i d + i ≡ e₁) × (e₁ ≤ n)
-  unfolding goneCount
-  gone-end = let b = end-bound w (i + 1) n (d + 1) (omega arith) in (omega arith, omega arith)
-
-  pub gone-same : Same w (goneOut w n i d) (8 * i)
-  unfolding Same goneOut
-  gone-same = λ k h. splicedIn-before (8 * n) (8 * i) (8 * goneCount w n i d) k [] w h
-
-  gone-bytes : Moved w (goneOut w n i d) e₁ i (n - e₁)
-  unfolding Moved goneOut
-  gone-bytes = λ k h.
-      let b = gone-end in
-      let p : 8 * e₁ + k ≡ 8 * i + 8 * goneCount w n i d + k = omega arith in
-      let z : 8 * i + k ≡ 8 * i + 0 + k = omega arith in
-      rw (p, z) (splicedIn-after (8 * n) (8 * i) (8 * goneCount w n i d) 0 [] w refl (omega arith) room (omega arith) k (omega arith))
-
-  pub gone-its : (s u : List ℕ) (start : ℕ) → start ≤ i → its s u (goneOut w n i d) start (n - goneCount w n i d) ≡ its s u w start i ++ its s u w e₁ n
-  gone-its s u start h =
-      let b = gone-end in
-      its-split s u (goneOut w n i d) start i (n - goneCount w n i d) h (omega arith)
-      ∙ rw (same-its s u w (goneOut w n i d) start i (8 * i) h (omega arith) gone-same, its-same s u w (goneOut w n i d) e₁ n i (n - goneCount w n i d) (n - e₁) (omega arith) (omega arith) gone-bytes)
-
--- item i has a new value
-module _ (w : List ℕ) (n i o x : ℕ) (hi : i < n) (room : 8 * n ≤ length w) (ho : o < 16777216) where
-  abbrev turned : List ℕ
-  turned = put (8 * i + 4) (refBytes o x) w
-
-  turned-bytes : Moved w turned (i + 1) (i + 1) (n - (i + 1))
-  unfolding Moved
-  turned-bytes = λ k h. ref-above w i o x (omega arith) ho (8 * (i + 1) + k) (omega arith)
-
-  pub turned-after : (s u : List ℕ) → its s u turned (i + 1) n ≡ its s u w (i + 1) n
-  turned-after s u = its-same s u w turned (i + 1) n (i + 1) n (n - (i + 1)) (omega arith) (omega arith) turned-bytes
-
-  pub turned-before : (s u : List ℕ) (start : ℕ) → start ≤ i → its s u turned start (i + 1) ≡ its s u w start i ++ (item (depthOf w i) (codeOf w i) (textFrom (source x s u) o) ∷ [])
-  turned-before s u start h =
-      its-snoc s u turned start i h
-      ∙ rw (same-its s u w turned start i (8 * i) h (omega arith) (ref-below w i o x (omega arith) ho), ref-put w i o x (omega arith) ho s u)
-
--- the plans
+-- what an act comes to on the run of depth d that starts at start
 module _ (s u : List ℕ) (at q : ℕ) (w : List ℕ) (n start d : ℕ) (hs : start ≤ n) where
-  pub insert-valued : (v : List ℕ) → getD u (at + 6) 0 ≡ 1 → DeedSays s u at q w n start d true v (Not 6)
+  -- an insert under a value
+  insert-valued : (v : List ℕ) → getD u (at + 6) 0 ≡ 1 → DeedSays s u at q w n start d true v (Not 6)
   unfolding DeedSays editFlat
   insert-valued v kind us rest = rw (act-insert u at q us rest kind)
 
-  pub insert-far : (v : List ℕ) (m : ℕ) → getD u (at + 6) 0 ≡ 1 → m ≡ twins w start n d (u16 u at) → m + 1 < u16 u (at + 2) → DeedSays s u at q w n start d false v (Not 9)
+  -- an insert with an index that is too large
+  insert-far : (v : List ℕ) (m : ℕ) → getD u (at + 6) 0 ≡ 1 → m ≡ twins w start n d (u16 u at) → m + 1 < u16 u (at + 2) → DeedSays s u at q w n start d false v (Not 9)
   unfolding DeedSays editFlat
   insert-far v m kind e h us rest =
       rw (act-insert u at q us rest kind, twins-list s u w start n d (u16 u at) hs, ← e, lt-ltb (suc m) (u16 u (at + 2)) (omega arith))
 
-  pub insert-led : (m j : ℕ) (v : List ℕ) → getD u (at + 6) 0 ≡ 1 → at + 8 ≤ 16777216 → 8 * n + 8 ≤ length w → d < 65536 → u16 u at < 65536
+  -- an insert at its place
+  insert-led : (m j : ℕ) (v : List ℕ) → getD u (at + 6) 0 ≡ 1 → at + 8 ≤ 16777216 → 8 * n + 8 ≤ length w → d < 65536 → u16 u at < 65536
       → m ≡ twins w start n d (u16 u at) → u16 u (at + 2) ≤ m + 1 → j ≡ spotOf w start n d (u16 u at) (u16 u (at + 2)) m
       → v ≡ put (8 * j) (itemBytes d (u16 u at) (at + 7) 1) (opened (8 * n) (8 * j) 8 w) → DeedSays s u at q w n start d false v (Lead j (n + 1))
   unfolding DeedSays editFlat source
@@ -158,19 +91,23 @@ module _ (s u : List ℕ) (at q : ℕ) (w : List ℕ) (n start d : ℕ) (hs : st
         size = omega arith;
       })
 
-  -- in the words of the code
+  -- inserts in the words of the code
   module _ (barren : Bool) (kind : getD u (at + 6) 0 ≡ 1) where
+    -- under a value
     pub insert-6 : (v : List ℕ) → barren ≡ true → DeedSays s u at q w n start d barren v (Not 6)
     insert-6 v e = rw e (insert-valued v kind)
 
     module _ (eh : barren ≡ false) (code k m : ℕ) (ec : code ≡ u16 u at) (ek : k ≡ u16 u (at + 2)) (em : m ≡ twins w start n d code) where
+      -- with an index that is too large
       pub insert-9 : (v : List ℕ) → m + 1 < k → DeedSays s u at q w n start d barren v (Not 9)
       insert-9 v h = rw eh (insert-far v m kind (rw ec at em) (omega arith))
 
+      -- at its place
       pub insert-lead : (j : ℕ) (v : List ℕ) → at + 8 ≤ 16777216 → 8 * n + 8 ≤ length w → d < 65536 → code < 65536 → k ≤ m + 1 → j ≡ spotOf w start n d code k m
           → v ≡ put (8 * j) (itemBytes d code (at + 7) 1) (opened (8 * n) (8 * j) 8 w) → DeedSays s u at q w n start d barren v (Lead j (n + 1))
       insert-lead j v low room hd hc h ej ev = rw eh (insert-led m j v kind low room hd (omega arith) (rw ec at em) (omega arith) (rw (ec, ek) at ej) (rw ec at ev))
 
+  -- a delete or a modify of an item that is not there
   pub alter-absent : (barren : Bool) (v : List ℕ) → (getD u (at + 6) 0 ≡ 1 → ⊥) → n ≤ placeOf w start n d (u16 u at) (u16 u (at + 2)) → DeedSays s u at q w n start d barren v (Not 9)
   unfolding DeedSays editFlat bind
   alter-absent barren v kind h us rest =
@@ -180,10 +117,13 @@ module _ (s u : List ℕ) (at q : ℕ) (w : List ℕ) (n start d : ℕ) (hs : st
       (λ (z : getD u (at + 6) 0 ≡ 2 → ⊥). rw (act-modify u at q us rest kind z, none))
       (eq-or-ne (getD u (at + 6) 0) 2)
 
+  -- of item i
   module _ (i : ℕ) (ei : i ≡ placeOf w start n d (u16 u at) (u16 u (at + 2))) (hi : i < n) (room : 8 * n ≤ length w) where
+    -- it stands in the run
     low-i : start ≤ i
     low-i = omega (arith, place-bound w start n d (u16 u at) (u16 u (at + 2)) hs)
 
+    -- a delete
     pub alter-gone : (barren : Bool) (v : List ℕ) (m : ℕ) → getD u (at + 6) 0 ≡ 2 → m ≡ n - goneCount w n i d → v ≡ goneOut w n i d → DeedSays s u at q w n start d barren v (Gone m)
     unfolding DeedSays editFlat bind
     alter-gone barren v m kind em ev =
@@ -202,12 +142,14 @@ module _ (s u : List ℕ) (at q : ℕ) (w : List ℕ) (n start d : ℕ) (hs : st
           size = omega arith;
         })
 
+    -- a modify that sends a value to an item with children
     pub alter-beside : (barren : Bool) (v : List ℕ) → (getD u (at + 6) 0 ≡ 1 → ⊥) → (getD u (at + 6) 0 ≡ 2 → ⊥)
         → both (valued (textFrom u (at + 7))) (deeperAt w n (i + 1) (d + 1)) ≡ true → DeedSays s u at q w n start d barren v (Not 6)
     unfolding DeedSays editFlat bind
     alter-beside barren v k₁ k₂ t us rest =
         rw (act-modify u at q us rest k₁ k₂, place-there q s u w start n d (u16 u at) (u16 u (at + 2)) i hs ei hi, ← add-one d, deeper-list s u w (i + 1) n (d + 1), t)
 
+    -- any other modify
     pub alter-led : (barren : Bool) (v : List ℕ) → (getD u (at + 6) 0 ≡ 1 → ⊥) → (getD u (at + 6) 0 ≡ 2 → ⊥) → at + 8 ≤ 16777216
         → both (valued (textFrom u (at + 7))) (deeperAt w n (i + 1) (d + 1)) ≡ false → v ≡ put (8 * i + 4) (refBytes (at + 7) 1) w → DeedSays s u at q w n start d barren v (Lead i n)
     unfolding DeedSays editFlat bind source

@@ -1,4 +1,7 @@
 pub mod SearchLaws
+pub mod ListLaws
+pub mod ChangeLaws
 pub mod DeedLaws
 pub mod ReadLaws
+pub mod TurnLaws
 pub mod LinkLaws

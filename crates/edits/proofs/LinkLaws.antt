@@ -3,11 +3,10 @@ use mathlib.Core.Path.{_≡_, refl, sym, ap, _∙_}
 use mathlib.Core.List.{List, [], _∷_, _++_, append-nil}
 use mathlib.Core.Logic.{⊎-elim}
 use mathlib.Core.Bool.{Bool, true, false}
-use Prim.Native.Nat.{ℕ, zero, suc, _+_, _-_, _*_, _≤_, _<_}
+use Prim.Native.Nat.{ℕ, zero, suc, _+_, _≤_, _<_}
 use native.Mathlib.Numerals.{add-one}
 use native.Mathlib.Omega.{arith}
 use lib.ListN.{length, getD}
-use lib.Dec.{eqb}
 use borrow.Author.Tests.{eq-eqb, ne-eqb}
 use Rattle.base.specs.Choice.{pick}
 use Rattle.base.specs.Check.{Check, ok, no, bind, refuse, pass, passed}
@@ -25,7 +24,7 @@ use Rattle.forest.specs.Edit.{edit}
 use Rattle.forest.specs.Flat.{Item, flat, editFlat}
 use Rattle.forest.proofs.Numbers.{lt-or-le, eq-or-ne}
 use Rattle.forest.proofs.CheckLaws.{never, ok-same, bind-inv, no-same}
-use Rattle.forest.proofs.FlatLaws.{Stop, s-end}
+use Rattle.forest.proofs.FlatLaws.{s-end}
 use Rattle.forest.proofs.Splice.{edit-splice}
 use Rattle.rules.specs.Trees.{instructionOf, utupOf, attrActs}
 use Rattle.rules.specs.Modify.{actAttr}

@@ -1,29 +1,28 @@
--- Laws of the searches by index, and what they are on lists of items. Assumes nothing.
+-- Laws of the searches among the items, by index. Assumes nothing.
 use mathlib.Core.Path.{_≡_, refl, sym, ap, _∙_}
-use mathlib.Core.List.{List, []}
-use mathlib.Core.Logic.{_⊎_, inl, inr, ⊎-elim}
+use mathlib.Core.List.{List}
+use mathlib.Core.Logic.{⊎-elim}
 use mathlib.Core.Bool.{Bool, true, false, not}
-use Prim.Native.Nat.{ℕ, zero, suc, _+_, _-_, _*_, _≤_, _<_}
+use Prim.Native.Nat.{ℕ, zero, suc, _+_, _-_, _≤_, _<_}
 use native.Mathlib.Nat.{sub-eq-zero-of-le}
-use native.Mathlib.Numerals.{add-one}
 use native.Mathlib.Omega.{arith}
-use lib.ListN.{length}
 use lib.Dec.{ltb, eqb}
 use borrow.Author.Tests.{lt-ltb, le-ltb, eq-eqb, ne-eqb}
 use Rattle.base.specs.Choice.{pick}
-use Rattle.base.specs.Check.{Check, ok, refuse}
-use Rattle.memory.proofs.SpliceLaws.{length-splicedIn}
 use Rattle.forest.specs.Flat as F
-use Rattle.forest.specs.Flat.{Split, split, push, over, countFlat, spot, pushed, deeper}
 use Rattle.forest.proofs.Numbers.{lt-or-le, eq-or-ne}
-use Rattle.items.specs.Items.{depthOf, codeOf, itemAt, its, twinAt}
-use Rattle.items.proofs.ItemLaws.{its-end, its-more, twin-depth, twin-code, twin-once, twin-is}
-use Rattle.edits.specs.Search.{placeUpTo, placeOf, endUpTo, endOf, twinsUpTo, twins, behindLast, spotOf, deeperAt, goneCount, goneOut}
+use Rattle.items.specs.Items.{depthOf, codeOf, twinAt}
+use Rattle.items.proofs.ItemLaws.{twin-depth, twin-code, twin-once}
+use Rattle.edits.specs.Search.{placeUpTo, placeOf, endUpTo, endOf, twinsUpTo, twins, behindLast, spotOf, goneCount}
 
+-- ---- number k of a code in a run
+
+-- at the end of the items
 pub place-end : (w : List ℕ) (i n d c k : ℕ) → n ≤ i → placeOf w i n d c k ≡ n
 unfolding placeOf placeUpTo
 place-end w i n d c k h = rw (sub-eq-zero-of-le h)
 
+-- one item and the others
 place-open : (w : List ℕ) (i n d c k : ℕ) → i < n
     → placeOf w i n d c k ≡ pick (ltb (depthOf w i) d) n (pick (eqb (twinAt w i d c) 1) (pick (eqb k 1) i (placeOf w (i + 1) n d c (k - 1))) (placeOf w (i + 1) n d c k))
 unfolding placeOf placeUpTo
@@ -33,37 +32,23 @@ place-open w i n d c k h = go (n - i) refl
     go zero e = absurd (omega arith)
     go (suc m) e = let f : n - (i + 1) ≡ m = omega arith in rw (e, f, lt-ltb i n h)
 
+-- an item further out ends the run
 pub place-out : (w : List ℕ) (i n d c k : ℕ) → i < n → depthOf w i < d → placeOf w i n d c k ≡ n
 place-out w i n d c k h l = place-open w i n d c k h ∙ rw (lt-ltb (depthOf w i) d l)
 
+-- the first twin, where that is asked for
 pub place-here : (w : List ℕ) (i n d c k : ℕ) → i < n → d ≤ depthOf w i → twinAt w i d c ≡ 1 → k ≡ 1 → placeOf w i n d c k ≡ i
 place-here w i n d c k h l t e = place-open w i n d c k h ∙ rw (le-ltb (depthOf w i) d l, eq-eqb (twinAt w i d c) 1 t, eq-eqb k 1 e)
 
+-- the first twin, where a later one is asked for
 pub place-count : (w : List ℕ) (i n d c k : ℕ) → i < n → d ≤ depthOf w i → twinAt w i d c ≡ 1 → (k ≡ 1 → ⊥) → placeOf w i n d c k ≡ placeOf w (i + 1) n d c (k - 1)
 place-count w i n d c k h l t e = place-open w i n d c k h ∙ rw (le-ltb (depthOf w i) d l, eq-eqb (twinAt w i d c) 1 t, ne-eqb k 1 e)
 
+-- no twin
 pub place-skip : (w : List ℕ) (i n d c k : ℕ) → i < n → d ≤ depthOf w i → (twinAt w i d c ≡ 1 → ⊥) → placeOf w i n d c k ≡ placeOf w (i + 1) n d c k
 place-skip w i n d c k h l t = place-open w i n d c k h ∙ rw (le-ltb (depthOf w i) d l, ne-eqb (twinAt w i d c) 1 t)
 
-pub end-end : (w : List ℕ) (i n d : ℕ) → n ≤ i → endOf w i n d ≡ n
-unfolding endOf endUpTo
-end-end w i n d h = rw (sub-eq-zero-of-le h)
-
-end-open : (w : List ℕ) (i n d : ℕ) → i < n → endOf w i n d ≡ pick (ltb (depthOf w i) d) i (endOf w (i + 1) n d)
-unfolding endOf endUpTo
-end-open w i n d h = go (n - i) refl
-  where
-    go : (m : ℕ) → n - i ≡ m → endUpTo (n - i) w i n d ≡ pick (ltb (depthOf w i) d) i (endUpTo (n - (i + 1)) w (i + 1) n d)
-    go zero e = absurd (omega arith)
-    go (suc m) e = let f : n - (i + 1) ≡ m = omega arith in rw (e, f, lt-ltb i n h)
-
-pub end-here : (w : List ℕ) (i n d : ℕ) → i < n → depthOf w i < d → endOf w i n d ≡ i
-end-here w i n d h l = end-open w i n d h ∙ rw (lt-ltb (depthOf w i) d l)
-
-pub end-on : (w : List ℕ) (i n d : ℕ) → i < n → d ≤ depthOf w i → endOf w i n d ≡ endOf w (i + 1) n d
-end-on w i n d h l = end-open w i n d h ∙ rw (le-ltb (depthOf w i) d l)
-
--- where they lie
+-- among at most m items
 place-up-to-bound : (m : ℕ) (w : List ℕ) (i n d c k : ℕ) → i ≤ n → (i ≤ placeUpTo m w i n d c k) × (placeUpTo m w i n d c k ≤ n)
 unfolding placeUpTo
 place-up-to-bound zero w i n d c k h = (h, omega arith)
@@ -82,33 +67,20 @@ place-up-to-bound (suc m) w i n d c k h =
     go false true false a b = a
     go false false t a b = b
 
+-- it is among the items, or their end
 pub place-bound : (w : List ℕ) (i n d c k : ℕ) → i ≤ n → (i ≤ placeOf w i n d c k) × (placeOf w i n d c k ≤ n)
 unfolding placeOf
 place-bound w i n d c k h = place-up-to-bound (n - i) w i n d c k h
 
-end-up-to-bound : (m : ℕ) (w : List ℕ) (i n d : ℕ) → i ≤ n → (i ≤ endUpTo m w i n d) × (endUpTo m w i n d ≤ n)
-unfolding endUpTo
-end-up-to-bound zero w i n d h = (h, omega arith)
-end-up-to-bound (suc m) w i n d h =
-    ⊎-elim
-    (λ l. rw (lt-ltb i n l)
-    (let a = end-up-to-bound m w (i + 1) n d (omega arith) in
-    go (ltb (depthOf w i) d) (omega arith, a .1)))
-    (λ l. rw (le-ltb i n l) (h, omega arith))
-    (lt-or-le i n)
-  where
-    go : {x : ℕ} (r : Bool) → (i ≤ x) × (x ≤ n) → (i ≤ pick r i x) × (pick r i x ≤ n)
-    go true a = (omega arith, h)
-    go false a = a
+-- an index that is such a place
+pub place-within : (w : List ℕ) (i n d c k r : ℕ) → i ≤ n → r ≡ placeOf w i n d c k → (r ≡ placeOf w i n d c k) × (i ≤ r)
+place-within w i n d c k r h e = let b = place-bound w i n d c k h in (e, omega arith)
 
-pub end-bound : (w : List ℕ) (i n d : ℕ) → i ≤ n → (i ≤ endOf w i n d) × (endOf w i n d ≤ n)
-unfolding endOf
-end-bound w i n d h = end-up-to-bound (n - i) w i n d h
-
--- a turn of locate: k is the number looked for, taken down by one at each twin
+-- as the code has it: the number that is left is taken down by one at each twin
 pub place-found : (w : List ℕ) (i n d c k : ℕ) → i < n → d ≤ depthOf w i → 1 ≤ k → k ≡ twinAt w i d c → placeOf w i n d c k ≡ i
 place-found w i n d c k h l o e = place-here w i n d c k h l (omega (arith, twin-once w i d c)) (omega (arith, twin-once w i d c))
 
+-- where the item is not it
 pub place-next : (w : List ℕ) (i n d c k : ℕ) → i < n → d ≤ depthOf w i → 1 ≤ k → (k ≡ twinAt w i d c → ⊥) → placeOf w i n d c k ≡ placeOf w (i + 1) n d c (k - twinAt w i d c)
 place-next w i n d c k h l o ne =
     ⊎-elim
@@ -116,79 +88,7 @@ place-next w i n d c k h l o ne =
     (λ t. let z : k ≡ k - twinAt w i d c = omega (arith, twin-once w i d c, t) in place-skip w i n d c k h l t ∙ ap (placeOf w (i + 1) n d c) z)
     (eq-or-ne (twinAt w i d c) 1)
 
-pub gone-bound : (w : List ℕ) (n i d : ℕ) → i < n → (1 ≤ goneCount w n i d) × (goneCount w n i d + i ≤ n)
-unfolding goneCount
-gone-bound w n i d h = let b = end-bound w (i + 1) n (d + 1) (omega arith) in (omega arith, omega arith)
-
-pub gone-length : (w : List ℕ) (n i d : ℕ) → i < n → 8 * n ≤ length w → length (goneOut w n i d) ≡ length w
-unfolding goneOut
-gone-length w n i d h l = length-splicedIn (8 * n) (8 * i) (8 * goneCount w n i d) [] w
-
-pub twins-end : (w : List ℕ) (i n d c : ℕ) → n ≤ i → twins w i n d c ≡ 0
-unfolding twins twinsUpTo
-twins-end w i n d c h = rw (sub-eq-zero-of-le h)
-
-twins-open : (w : List ℕ) (i n d c : ℕ) → i < n → twins w i n d c ≡ pick (ltb (depthOf w i) d) 0 (twinAt w i d c + twins w (i + 1) n d c)
-unfolding twins twinsUpTo
-twins-open w i n d c h = go (n - i) refl
-  where
-    go : (m : ℕ) → n - i ≡ m → twinsUpTo (n - i) w i n d c ≡ pick (ltb (depthOf w i) d) 0 (twinAt w i d c + twinsUpTo (n - (i + 1)) w (i + 1) n d c)
-    go zero e = absurd (omega arith)
-    go (suc m) e = let f : n - (i + 1) ≡ m = omega arith in rw (e, f, lt-ltb i n h)
-
-pub twins-out : (w : List ℕ) (i n d c : ℕ) → i < n → depthOf w i < d → twins w i n d c ≡ 0
-twins-out w i n d c h l = twins-open w i n d c h ∙ rw (lt-ltb (depthOf w i) d l)
-
-pub twins-on : (w : List ℕ) (i n d c : ℕ) → i < n → d ≤ depthOf w i → twins w i n d c ≡ twinAt w i d c + twins w (i + 1) n d c
-twins-on w i n d c h l = twins-open w i n d c h ∙ rw (le-ltb (depthOf w i) d l)
-
-unfoldable pub foundAt : ℕ → List ℕ → List ℕ → List ℕ → ℕ → ℕ → ℕ → Check Split
-foundAt q s u w i n j = pick (ltb j n) (ok (split (its s u w i j) (its s u w (j + 1) n))) (refuse 9 q)
-
-push-found : (q : ℕ) (s u w : List ℕ) (i n j : ℕ) → i < j → pushed (itemAt s u w i) (foundAt q s u w (i + 1) n j) ≡ foundAt q s u w i n j
-unfolding foundAt pushed push
-push-found q s u w i n j h =
-    ⊎-elim (λ l. rw (lt-ltb j n l, its-more s u w i j h)) (λ l. rw (le-ltb j n l)) (lt-or-le j n)
-
-place-by : (q : ℕ) (m : ℕ) (s u w : List ℕ) (i n d c k : ℕ) → i + m ≡ n → F.locate q d c k (its s u w i n) ≡ foundAt q s u w i n (placeOf w i n d c k)
-unfolding F.locate foundAt itemAt
-place-by q zero s u w i n d c k e = rw (its-end s u w i n (omega arith), place-end w i n d c k (omega arith), le-ltb n n (omega arith))
-place-by q (suc m) s u w i n d c k e = go (place-by q m s u w (i + 1) n d c k (omega arith)) (place-by q m s u w (i + 1) n d c (k - 1) (omega arith))
-  where
-    l : i < n
-    l = omega arith
-
-    go : F.locate q d c k (its s u w (i + 1) n) ≡ foundAt q s u w (i + 1) n (placeOf w (i + 1) n d c k)
-        → F.locate q d c (k - 1) (its s u w (i + 1) n) ≡ foundAt q s u w (i + 1) n (placeOf w (i + 1) n d c (k - 1))
-        → F.locate q d c k (its s u w i n) ≡ foundAt q s u w i n (placeOf w i n d c k)
-    go p r =
-        ⊎-elim
-        (λ (o : depthOf w i < d). rw (its-more s u w i n l, lt-ltb (depthOf w i) d o, place-out w i n d c k l o, le-ltb n n (omega arith)))
-        (λ (o : d ≤ depthOf w i).
-        ⊎-elim
-        (λ (t : twinAt w i d c ≡ 1).
-        ⊎-elim
-        (λ (z : k ≡ 1). rw (its-more s u w i n l, le-ltb (depthOf w i) d o, twin-is s u w i d c, t, eq-eqb k 1 z, place-here w i n d c k l o t z, lt-ltb i n l, its-end s u w i i (omega arith)))
-        (λ (z : k ≡ 1 → ⊥). rw (its-more s u w i n l, le-ltb (depthOf w i) d o, twin-is s u w i d c, t, ne-eqb k 1 z, r, place-count w i n d c k l o t z)
-        (push-found q s u w i n _ (omega (arith, place-bound w (i + 1) n d c (k - 1) (omega arith)))))
-        (eq-or-ne k 1))
-        (λ (t : twinAt w i d c ≡ 1 → ⊥). rw (its-more s u w i n l, le-ltb (depthOf w i) d o, twin-is s u w i d c, ne-eqb (twinAt w i d c) 1 t, p, place-skip w i n d c k l o t)
-        (push-found q s u w i n _ (omega (arith, place-bound w (i + 1) n d c k (omega arith)))))
-        (eq-or-ne (twinAt w i d c) 1))
-        (lt-or-le (depthOf w i) d)
-
-pub place-list : (q : ℕ) (s u w : List ℕ) (i n d c k : ℕ) → i ≤ n → F.locate q d c k (its s u w i n) ≡ foundAt q s u w i n (placeOf w i n d c k)
-place-list q s u w i n d c k h = place-by q (n - i) s u w i n d c k (omega arith)
-
-pub place-absent : (q : ℕ) (s u w : List ℕ) (i n d c k : ℕ) → i ≤ n → n ≤ placeOf w i n d c k → F.locate q d c k (its s u w i n) ≡ refuse 9 q
-unfolding foundAt
-place-absent q s u w i n d c k h l = place-list q s u w i n d c k h ∙ rw (le-ltb (placeOf w i n d c k) n l)
-
-pub place-there : (q : ℕ) (s u w : List ℕ) (i n d c k j : ℕ) → i ≤ n → j ≡ placeOf w i n d c k → j < n → F.locate q d c k (its s u w i n) ≡ ok (split (its s u w i j) (its s u w (j + 1) n))
-unfolding foundAt
-place-there q s u w i n d c k j h e l = place-list q s u w i n d c k h ∙ rw (← e, lt-ltb j n l)
-
--- what stands there
+-- by the number of items
 place-is-by : (m : ℕ) (w : List ℕ) (i n d c k : ℕ) → i + m ≡ n → placeOf w i n d c k < n → twinAt w (placeOf w i n d c k) d c ≡ 1
 place-is-by zero w i n d c k e h = absurd (omega (arith, place-end w i n d c k (omega arith)))
 place-is-by (suc m) w i n d c k e h = go (place-is-by m w (i + 1) n d c k (omega arith)) (place-is-by m w (i + 1) n d c (k - 1) (omega arith))
@@ -212,6 +112,7 @@ place-is-by (suc m) w i n d c k e h = go (place-is-by m w (i + 1) n d c k (omega
         (eq-or-ne (twinAt w i d c) 1))
         (lt-or-le (depthOf w i) d)
 
+-- a twin has the depth and the code
 twin-inv : (w : List ℕ) (i d c : ℕ) → twinAt w i d c ≡ 1 → (depthOf w i ≡ d) × (codeOf w i ≡ c)
 twin-inv w i d c t =
     ⊎-elim
@@ -219,10 +120,11 @@ twin-inv w i d c t =
     (λ (x : depthOf w i ≡ d → ⊥). absurd (omega (arith, twin-depth w i d c x)))
     (eq-or-ne (depthOf w i) d)
 
+-- so has the item that was found
 pub place-is : (w : List ℕ) (i n d c k j : ℕ) → i ≤ n → j ≡ placeOf w i n d c k → j < n → (depthOf w j ≡ d) × (codeOf w j ≡ c)
 place-is w i n d c k j h e l = rw e (twin-inv w (placeOf w i n d c k) d c (place-is-by (n - i) w i n d c k (omega arith) (omega arith)))
 
--- number 0 is nowhere
+-- among at most m items
 place-up-to-zero : (m : ℕ) (w : List ℕ) (i n d c : ℕ) → placeUpTo m w i n d c 0 ≡ n
 unfolding placeUpTo
 place-up-to-zero zero w i n d c = refl
@@ -234,90 +136,98 @@ place-up-to-zero (suc m) w i n d c = go (place-up-to-zero m w (i + 1) n d c) (lt
     go p true false false = p
     go p false y z = refl
 
+-- number 0 is nowhere
 pub place-zero : (w : List ℕ) (i n d c k : ℕ) → k ≡ 0 → placeOf w i n d c k ≡ n
 unfolding placeOf
 place-zero w i n d c k e = rw e (place-up-to-zero (n - i) w i n d c)
 
--- past the items of depth d or more
-end-by : (m : ℕ) (s u w : List ℕ) (i n d : ℕ) → i + m ≡ n → over d (its s u w i n) ≡ split (its s u w i (endOf w i n d)) (its s u w (endOf w i n d) n)
-unfolding over itemAt push
-end-by zero s u w i n d e = let z : i ≡ n = omega arith in rw (end-end w i n d (omega arith), its-end s u w i n (omega arith), its-end s u w n n (omega arith))
-end-by (suc m) s u w i n d e = go (end-by m s u w (i + 1) n d (omega arith))
+-- ---- past the items of a depth or more
+
+-- at the end of the items
+pub end-end : (w : List ℕ) (i n d : ℕ) → n ≤ i → endOf w i n d ≡ n
+unfolding endOf endUpTo
+end-end w i n d h = rw (sub-eq-zero-of-le h)
+
+-- one item and the others
+end-open : (w : List ℕ) (i n d : ℕ) → i < n → endOf w i n d ≡ pick (ltb (depthOf w i) d) i (endOf w (i + 1) n d)
+unfolding endOf endUpTo
+end-open w i n d h = go (n - i) refl
   where
-    l : i < n
-    l = omega arith
+    go : (m : ℕ) → n - i ≡ m → endUpTo (n - i) w i n d ≡ pick (ltb (depthOf w i) d) i (endUpTo (n - (i + 1)) w (i + 1) n d)
+    go zero e = absurd (omega arith)
+    go (suc m) e = let f : n - (i + 1) ≡ m = omega arith in rw (e, f, lt-ltb i n h)
 
-    go : over d (its s u w (i + 1) n) ≡ split (its s u w (i + 1) (endOf w (i + 1) n d)) (its s u w (endOf w (i + 1) n d) n)
-        → over d (its s u w i n) ≡ split (its s u w i (endOf w i n d)) (its s u w (endOf w i n d) n)
-    go p =
-        ⊎-elim
-        (λ (o : depthOf w i < d). rw (end-here w i n d l o, its-end s u w i i (omega arith), its-more s u w i n l, lt-ltb (depthOf w i) d o))
-        (λ (o : d ≤ depthOf w i). rw (end-on w i n d l o, its-more s u w i n l, le-ltb (depthOf w i) d o, p, its-more s u w i (endOf w (i + 1) n d) (omega (arith, end-bound w (i + 1) n d (omega arith)))))
-        (lt-or-le (depthOf w i) d)
+-- an item further out
+pub end-here : (w : List ℕ) (i n d : ℕ) → i < n → depthOf w i < d → endOf w i n d ≡ i
+end-here w i n d h l = end-open w i n d h ∙ rw (lt-ltb (depthOf w i) d l)
 
-pub end-list : (s u w : List ℕ) (i n d : ℕ) → i ≤ n → over d (its s u w i n) ≡ split (its s u w i (endOf w i n d)) (its s u w (endOf w i n d) n)
-end-list s u w i n d h = end-by (n - i) s u w i n d (omega arith)
+-- an item of the depth or more
+pub end-on : (w : List ℕ) (i n d : ℕ) → i < n → d ≤ depthOf w i → endOf w i n d ≡ endOf w (i + 1) n d
+end-on w i n d h l = end-open w i n d h ∙ rw (le-ltb (depthOf w i) d l)
 
--- how many
-twins-by : (m : ℕ) (s u w : List ℕ) (i n d c : ℕ) → i + m ≡ n → countFlat d c (its s u w i n) ≡ twins w i n d c
-unfolding countFlat itemAt
-twins-by zero s u w i n d c e = rw (its-end s u w i n (omega arith), twins-end w i n d c (omega arith))
-twins-by (suc m) s u w i n d c e = go (twins-by m s u w (i + 1) n d c (omega arith))
+-- among at most m items
+end-up-to-bound : (m : ℕ) (w : List ℕ) (i n d : ℕ) → i ≤ n → (i ≤ endUpTo m w i n d) × (endUpTo m w i n d ≤ n)
+unfolding endUpTo
+end-up-to-bound zero w i n d h = (h, omega arith)
+end-up-to-bound (suc m) w i n d h =
+    ⊎-elim
+    (λ l. rw (lt-ltb i n l)
+    (let a = end-up-to-bound m w (i + 1) n d (omega arith) in
+    go (ltb (depthOf w i) d) (omega arith, a .1)))
+    (λ l. rw (le-ltb i n l) (h, omega arith))
+    (lt-or-le i n)
   where
-    l : i < n
-    l = omega arith
+    go : {x : ℕ} (r : Bool) → (i ≤ x) × (x ≤ n) → (i ≤ pick r i x) × (pick r i x ≤ n)
+    go true a = (omega arith, h)
+    go false a = a
 
-    go : countFlat d c (its s u w (i + 1) n) ≡ twins w (i + 1) n d c → countFlat d c (its s u w i n) ≡ twins w i n d c
-    go p =
-        ⊎-elim
-        (λ (o : depthOf w i < d). rw (twins-out w i n d c l o, its-more s u w i n l, lt-ltb (depthOf w i) d o))
-        (λ (o : d ≤ depthOf w i).
-        ⊎-elim
-        (λ (t : twinAt w i d c ≡ 1). rw (twins-on w i n d c l o, its-more s u w i n l, le-ltb (depthOf w i) d o, twin-is s u w i d c, t, p) (omega arith))
-        (λ (t : twinAt w i d c ≡ 1 → ⊥). rw (twins-on w i n d c l o, its-more s u w i n l, le-ltb (depthOf w i) d o, twin-is s u w i d c, ne-eqb (twinAt w i d c) 1 t, p) (omega (arith, twin-once w i d c, t)))
-        (eq-or-ne (twinAt w i d c) 1))
-        (lt-or-le (depthOf w i) d)
+-- it is among the items, or their end
+pub end-bound : (w : List ℕ) (i n d : ℕ) → i ≤ n → (i ≤ endOf w i n d) × (endOf w i n d ≤ n)
+unfolding endOf
+end-bound w i n d h = end-up-to-bound (n - i) w i n d h
 
-pub twins-list : (s u w : List ℕ) (i n d c : ℕ) → i ≤ n → countFlat d c (its s u w i n) ≡ twins w i n d c
-twins-list s u w i n d c h = twins-by (n - i) s u w i n d c (omega arith)
+-- at least the item goes, and no more than there are
+pub gone-bound : (w : List ℕ) (n i d : ℕ) → i < n → (1 ≤ goneCount w n i d) × (goneCount w n i d + i ≤ n)
+unfolding goneCount
+gone-bound w n i d h = let b = end-bound w (i + 1) n (d + 1) (omega arith) in (omega arith, omega arith)
 
--- an item below
-pub deeper-list : (s u w : List ℕ) (j n d : ℕ) → deeper d (its s u w j n) ≡ deeperAt w n j d
-unfolding deeper deeperAt itemAt
-deeper-list s u w j n d =
-    ⊎-elim (λ l. rw (lt-ltb j n l, its-more s u w j n l) (go (ltb (depthOf w j) d))) (λ l. rw (le-ltb j n l, its-end s u w j n l)) (lt-or-le j n)
+-- ---- how many twins there are
+
+-- at the end of the items
+pub twins-end : (w : List ℕ) (i n d c : ℕ) → n ≤ i → twins w i n d c ≡ 0
+unfolding twins twinsUpTo
+twins-end w i n d c h = rw (sub-eq-zero-of-le h)
+
+-- one item and the others
+twins-open : (w : List ℕ) (i n d c : ℕ) → i < n → twins w i n d c ≡ pick (ltb (depthOf w i) d) 0 (twinAt w i d c + twins w (i + 1) n d c)
+unfolding twins twinsUpTo
+twins-open w i n d c h = go (n - i) refl
   where
-    go : (t : Bool) → pick t false true ≡ not t
-    go true = refl
-    go false = refl
+    go : (m : ℕ) → n - i ≡ m → twinsUpTo (n - i) w i n d c ≡ pick (ltb (depthOf w i) d) 0 (twinAt w i d c + twinsUpTo (n - (i + 1)) w (i + 1) n d c)
+    go zero e = absurd (omega arith)
+    go (suc m) e = let f : n - (i + 1) ≡ m = omega arith in rw (e, f, lt-ltb i n h)
 
--- where a new item goes
+-- an item further out ends the run
+pub twins-out : (w : List ℕ) (i n d c : ℕ) → i < n → depthOf w i < d → twins w i n d c ≡ 0
+twins-out w i n d c h l = twins-open w i n d c h ∙ rw (lt-ltb (depthOf w i) d l)
+
+-- an item of the depth or more
+pub twins-on : (w : List ℕ) (i n d c : ℕ) → i < n → d ≤ depthOf w i → twins w i n d c ≡ twinAt w i d c + twins w (i + 1) n d c
+twins-on w i n d c h l = twins-open w i n d c h ∙ rw (le-ltb (depthOf w i) d l)
+
+-- ---- where a new item goes
+
+-- where there is no twin
 pub behind-none : (w : List ℕ) (i n d c m : ℕ) → m ≡ 0 → behindLast w i n d c m ≡ endOf w i n d
 unfolding behindLast
 behind-none w i n d c m e = rw (eq-eqb m 0 e)
 
+-- where there are twins
 pub behind-some : (w : List ℕ) (i n d c m : ℕ) → 0 < m → behindLast w i n d c m ≡ endOf w (placeOf w i n d c m + 1) n (d + 1)
 unfolding behindLast
 behind-some w i n d c m h = rw (ne-eqb m 0 (λ e. omega arith))
 
-spot-behind : (w : List ℕ) (i n d c k m : ℕ) → (k ≡ 0) ⊎ (m < k) → spotOf w i n d c k m ≡ behindLast w i n d c m
-unfolding spotOf
-spot-behind w i n d c k m (inl z) = rw (eq-eqb k 0 z)
-spot-behind w i n d c k m (inr l) = rw (ne-eqb k 0 (λ e. omega arith), lt-ltb m k l)
-
-spot-before : (w : List ℕ) (i n d c k m : ℕ) → 0 < k → k ≤ m → spotOf w i n d c k m ≡ placeOf w i n d c k
-unfolding spotOf
-spot-before w i n d c k m h l = rw (ne-eqb k 0 (λ e. omega arith), le-ltb m k l)
-
-pub spot-zero : (w : List ℕ) (i n d c k m : ℕ) → k ≡ 0 → spotOf w i n d c k m ≡ behindLast w i n d c m
-spot-zero w i n d c k m z = spot-behind w i n d c k m (inl z)
-
-pub spot-past : (w : List ℕ) (i n d c k m : ℕ) → m < k → spotOf w i n d c k m ≡ behindLast w i n d c m
-spot-past w i n d c k m z = spot-behind w i n d c k m (inr z)
-
-pub spot-at : (w : List ℕ) (i n d c k m : ℕ) → (k ≡ 0 → ⊥) → k ≤ m → spotOf w i n d c k m ≡ placeOf w i n d c k
-spot-at w i n d c k m z l = spot-before w i n d c k m (omega (arith, z)) l
-
+-- it is among the items, or their end
 behind-bound : (w : List ℕ) (i n d c m : ℕ) → i ≤ n → (i ≤ behindLast w i n d c m) × (behindLast w i n d c m ≤ n)
 behind-bound w i n d c m h =
     ⊎-elim
@@ -330,6 +240,22 @@ behind-bound w i n d c m h =
     (lt-or-le (placeOf w i n d c m) n)))
     (eq-or-ne m 0)
 
+-- as number 0, which none is
+pub spot-zero : (w : List ℕ) (i n d c k m : ℕ) → k ≡ 0 → spotOf w i n d c k m ≡ behindLast w i n d c m
+unfolding spotOf
+spot-zero w i n d c k m z = rw (eq-eqb k 0 z)
+
+-- behind all twins
+pub spot-past : (w : List ℕ) (i n d c k m : ℕ) → m < k → spotOf w i n d c k m ≡ behindLast w i n d c m
+unfolding spotOf
+spot-past w i n d c k m l = rw (ne-eqb k 0 (λ e. omega arith), lt-ltb m k l)
+
+-- before one of them
+pub spot-at : (w : List ℕ) (i n d c k m : ℕ) → (k ≡ 0 → ⊥) → k ≤ m → spotOf w i n d c k m ≡ placeOf w i n d c k
+unfolding spotOf
+spot-at w i n d c k m z l = rw (ne-eqb k 0 z, le-ltb m k l)
+
+-- it is among the items, or their end
 pub spot-bound : (w : List ℕ) (i n d c k m : ℕ) → i ≤ n → (i ≤ spotOf w i n d c k m) × (spotOf w i n d c k m ≤ n)
 spot-bound w i n d c k m h =
     ⊎-elim
@@ -341,15 +267,12 @@ spot-bound w i n d c k m h =
     (lt-or-le m k))
     (eq-or-ne k 0)
 
-Parts : List ℕ → List ℕ → List ℕ → ℕ → ℕ → ℕ → Split
-Parts s u w i n j = split (its s u w i j) (its s u w j n)
+-- an index that is such a place
+pub spot-within : (w : List ℕ) (i n d c k m r : ℕ) → i ≤ n → r ≡ spotOf w i n d c k m → (r ≡ spotOf w i n d c k m) × (i ≤ r) × (r ≤ n)
+spot-within w i n d c k m r h e = let b = spot-bound w i n d c k m h in (e, omega arith, omega arith)
 
-push-parts : (s u w : List ℕ) (i n j : ℕ) → i < j → push (itemAt s u w i) (Parts s u w (i + 1) n j) ≡ Parts s u w i n j
-unfolding push Parts
-push-parts s u w i n j h = rw (its-more s u w i j h)
-
--- a new item goes after item i and what is below it, where that is the last of its code
-spot-last : (w : List ℕ) (i n d c k : ℕ) → i < n → d ≤ depthOf w i → twinAt w i d c ≡ 1 → twins w (i + 1) n d c ≡ 0 → (k ≡ 1 → ⊥)
+-- after item i and what is below it, where that is the last twin
+pub spot-last : (w : List ℕ) (i n d c k : ℕ) → i < n → d ≤ depthOf w i → twinAt w i d c ≡ 1 → twins w (i + 1) n d c ≡ 0 → (k ≡ 1 → ⊥)
     → spotOf w i n d c k (twins w i n d c) ≡ endOf w (i + 1) n (d + 1)
 spot-last w i n d c k l o t z ne =
     let one : twins w i n d c ≡ 1 = omega (arith, twins-on w i n d c l o) in
@@ -357,8 +280,8 @@ spot-last w i n d c k l o t z ne =
     (⊎-elim (λ (x : k ≡ 0). spot-zero w i n d c k 1 x) (λ (x : k ≡ 0 → ⊥). spot-past w i n d c k 1 (omega (arith, x, ne))) (eq-or-ne k 0)
     ∙ behind-some w i n d c 1 (omega arith) ∙ ap (λ (j : ℕ). endOf w (j + 1) n (d + 1)) (place-here w i n d c 1 l o t refl))
 
--- where there are later ones, it goes where it goes among them
-spot-later : (w : List ℕ) (i n d c k : ℕ) → i < n → d ≤ depthOf w i → twinAt w i d c ≡ 1 → (twins w (i + 1) n d c ≡ 0 → ⊥) → (k ≡ 1 → ⊥)
+-- where there are later twins, it goes where it goes among them
+pub spot-later : (w : List ℕ) (i n d c k : ℕ) → i < n → d ≤ depthOf w i → twinAt w i d c ≡ 1 → (twins w (i + 1) n d c ≡ 0 → ⊥) → (k ≡ 1 → ⊥)
     → spotOf w i n d c k (twins w i n d c) ≡ spotOf w (i + 1) n d c (k - 1) (twins w (i + 1) n d c)
 spot-later w i n d c k l o t z ne =
     let m : ℕ = twins w (i + 1) n d c in
@@ -378,57 +301,9 @@ spot-later w i n d c k l o t z ne =
     (eq-or-ne k 0))
 
 -- another item before it changes nothing
-spot-skip : (w : List ℕ) (i n d c k : ℕ) → i < n → d ≤ depthOf w i → (twinAt w i d c ≡ 1 → ⊥)
+pub spot-skip : (w : List ℕ) (i n d c k : ℕ) → i < n → d ≤ depthOf w i → (twinAt w i d c ≡ 1 → ⊥)
     → spotOf w i n d c k (twins w i n d c) ≡ spotOf w (i + 1) n d c k (twins w (i + 1) n d c)
 unfolding spotOf behindLast
 spot-skip w i n d c k l o t =
     let same : twins w i n d c ≡ twins w (i + 1) n d c = omega (arith, twins-on w i n d c l o, twin-once w i d c, t) in
     rw (same, end-on w i n d l o, place-skip w i n d c k l o t, place-skip w i n d c (twins w (i + 1) n d c) l o t)
-
-spot-by : (m : ℕ) (s u w : List ℕ) (i n d c k : ℕ) → i + m ≡ n → spot d c k (its s u w i n) ≡ Parts s u w i n (spotOf w i n d c k (twins w i n d c))
-unfolding spot itemAt Parts
-spot-by zero s u w i n d c k e =
-    let b = spot-bound w i n d c k (twins w i n d c) (omega arith) in
-    rw (its-end s u w i n (omega arith), its-end s u w i (spotOf w i n d c k (twins w i n d c)) (omega arith), its-end s u w (spotOf w i n d c k (twins w i n d c)) n (omega arith))
-spot-by (suc m) s u w i n d c k e = go (spot-by m s u w (i + 1) n d c k (omega arith)) (spot-by m s u w (i + 1) n d c (k - 1) (omega arith))
-  where
-    l : i < n
-    l = omega arith
-
-    go : spot d c k (its s u w (i + 1) n) ≡ Parts s u w (i + 1) n (spotOf w (i + 1) n d c k (twins w (i + 1) n d c))
-        → spot d c (k - 1) (its s u w (i + 1) n) ≡ Parts s u w (i + 1) n (spotOf w (i + 1) n d c (k - 1) (twins w (i + 1) n d c))
-        → spot d c k (its s u w i n) ≡ Parts s u w i n (spotOf w i n d c k (twins w i n d c))
-    go p r =
-        ⊎-elim
-        (λ (o : depthOf w i < d).
-        let here : spotOf w i n d c k (twins w i n d c) ≡ i =
-        ⊎-elim (λ (x : k ≡ 0). spot-zero w i n d c k (twins w i n d c) x) (λ (x : k ≡ 0 → ⊥). spot-past w i n d c k (twins w i n d c) (omega (arith, x, twins-out w i n d c l o))) (eq-or-ne k 0)
-        ∙ behind-none w i n d c (twins w i n d c) (twins-out w i n d c l o) ∙ end-here w i n d l o in
-        rw (here, its-end s u w i i (omega arith), its-more s u w i n l, lt-ltb (depthOf w i) d o))
-        (λ (o : d ≤ depthOf w i).
-        ⊎-elim
-        (λ (t : twinAt w i d c ≡ 1).
-        ⊎-elim
-        (λ (z : k ≡ 1).
-        let here : spotOf w i n d c k (twins w i n d c) ≡ i =
-        spot-at w i n d c k (twins w i n d c) (λ x. omega (arith, x)) (omega (arith, twins-on w i n d c l o)) ∙ place-here w i n d c k l o t z in
-        rw (here, its-end s u w i i (omega arith), its-more s u w i n l, le-ltb (depthOf w i) d o, twin-is s u w i d c, t, eq-eqb k 1 z))
-        (λ (z : k ≡ 1 → ⊥).
-        ⊎-elim
-        (λ (y : twins w (i + 1) n d c ≡ 0).
-        rw (spot-last w i n d c k l o t y z, its-more s u w i n l, le-ltb (depthOf w i) d o, twin-is s u w i d c, t, ne-eqb k 1 z, twins-list s u w (i + 1) n d c (omega arith), eq-eqb (twins w (i + 1) n d c) 0 y, ← add-one d, end-list s u w (i + 1) n (d + 1) (omega arith))
-        (push-parts s u w i n (endOf w (i + 1) n (d + 1)) (omega (arith, end-bound w (i + 1) n (d + 1) (omega arith)))))
-        (λ (y : twins w (i + 1) n d c ≡ 0 → ⊥).
-        rw (spot-later w i n d c k l o t y z, its-more s u w i n l, le-ltb (depthOf w i) d o, twin-is s u w i d c, t, ne-eqb k 1 z, twins-list s u w (i + 1) n d c (omega arith), ne-eqb (twins w (i + 1) n d c) 0 y, r)
-        (push-parts s u w i n _ (omega (arith, spot-bound w (i + 1) n d c (k - 1) (twins w (i + 1) n d c) (omega arith)))))
-        (eq-or-ne (twins w (i + 1) n d c) 0))
-        (eq-or-ne k 1))
-        (λ (t : twinAt w i d c ≡ 1 → ⊥).
-        rw (spot-skip w i n d c k l o t, its-more s u w i n l, le-ltb (depthOf w i) d o, twin-is s u w i d c, ne-eqb (twinAt w i d c) 1 t, p)
-        (push-parts s u w i n _ (omega (arith, spot-bound w (i + 1) n d c k (twins w (i + 1) n d c) (omega arith)))))
-        (eq-or-ne (twinAt w i d c) 1))
-        (lt-or-le (depthOf w i) d)
-
-pub spot-list : (s u w : List ℕ) (i n d c k j : ℕ) → i ≤ n → j ≡ spotOf w i n d c k (twins w i n d c) → spot d c k (its s u w i n) ≡ split (its s u w i j) (its s u w j n)
-unfolding Parts
-spot-list s u w i n d c k j h e = rw e (spot-by (n - i) s u w i n d c k (omega arith))

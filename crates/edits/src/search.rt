@@ -63,8 +63,8 @@ pub fn tally(w: &[u8], start: usize, n: usize, depth: usize, code: usize) -> usi
 
 // The item that the tuple at `at` names by code and index; n where there is none.
 pub fn addressed(u: &[u8], at: usize, w: &[u8], n: usize, start: usize, depth: usize) -> usize
-    requires { ⌜ (at + 8 ≤ length (now u)) × (8 * n ≤ length (now w)) ⌝ }
-    ensures { λ r. ⌜ r ≡ placeOf (now (w .entry)) start n depth (u16 (now (u .entry)) at) (u16 (now (u .entry)) (at + 2)) ⌝ }
+    requires { ⌜ (at + 8 ≤ length (now u)) × (8 * n ≤ length (now w)) × (start ≤ n) ⌝ }
+    ensures { λ r. ⌜ (r ≡ placeOf (now (w .entry)) start n depth (u16 (now (u .entry)) at) (u16 (now (u .entry)) (at + 2))) × (start ≤ r) ⌝ }
 {
     let code = number(u, at);
     let k = number(u, at + 2);
@@ -97,7 +97,7 @@ pub fn spot(
     m: usize,
 ) -> usize
     requires { ⌜ (8 * n ≤ length (now w)) × (start ≤ n) × (depth ≤ start) ⌝ }
-    ensures { λ r. ⌜ r ≡ spotOf (now (w .entry)) start n depth code k m ⌝ }
+    ensures { λ r. ⌜ (r ≡ spotOf (now (w .entry)) start n depth code k m) × (start ≤ r) × (r ≤ n) ⌝ }
 {
     if k == 0 {
         return behind_last(w, start, n, depth, code, m);

@@ -1,5 +1,5 @@
 -- Laws of the working form. Assumes nothing.
-use mathlib.Core.Path.{_≡_, refl, sym, ap, _∙_}
+use mathlib.Core.Path.{_≡_, refl, ap, _∙_}
 use mathlib.Core.List.{List, [], _∷_, _++_}
 use Prim.Native.Nat.{ℕ, zero, suc, _+_, _-_, _*_, _/_, _%_, _≤_, _<_}
 use native.Mathlib.Nat.{sub-eq-zero-of-le, add-zero}
@@ -14,7 +14,7 @@ use Rattle.fields.proofs.ByteLaws.{le2}
 use Rattle.memory.specs.Put.{put}
 use Rattle.memory.proofs.PutLaws.{getD-put-below, getD-put-above, getD-put-in}
 use Rattle.forest.specs.Flat.{Item, item, named}
-use Rattle.items.specs.Items.{u16, textFrom, depthOf, codeOf, offsetOf, sourceOf, source, valueOf, itemAt, itemsFrom, its, refBytes, itemBytes, under, twinAt, Same}
+use Rattle.items.specs.Items.{u16, textFrom, depthOf, codeOf, offsetOf, source, valueOf, itemAt, itemsFrom, its, refBytes, itemBytes, under, twinAt, Same}
 
 -- no items
 pub its-end : (s u w : List ℕ) (i n : ℕ) → n ≤ i → its s u w i n ≡ []

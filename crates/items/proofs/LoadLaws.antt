@@ -7,7 +7,7 @@ use Prim.Native.Nat.{ℕ, zero, suc, _+_, _-_, _*_, _≤_, _<_}
 use native.Mathlib.Omega.{arith}
 use native.Mathlib.Numerals.{add-one}
 use lib.ListN.{length, length-append}
-use Rattle.base.specs.Check.{Check, ok, bind, pass, passed}
+use Rattle.base.specs.Check.{ok, pass, passed}
 use Rattle.base.specs.Lists.{each}
 use Rattle.memory.specs.Put.{put}
 use Rattle.memory.proofs.PutLaws.{length-put}
@@ -28,7 +28,7 @@ use Rattle.tree.specs.Source.{past}
 use Rattle.tree.proofs.CountLaws.{past-above}
 use Rattle.tree.proofs.TupleShape.{shape}
 use Rattle.items.specs.Items.{u16, textFrom, depthOf, source, itemAt, its, itemBytes, under, Same}
-use Rattle.items.specs.Tuples.{Tuples, tupleAt, tuplesTo}
+use Rattle.items.specs.Tuples.{Tuples, tuplesTo}
 use Rattle.items.specs.Loaded.{Loaded}
 use Rattle.items.proofs.ItemLaws.{its-end, its-more, its-snoc, same-its, item-put, depth-put, put-below}
 use Rattle.items.proofs.TupleLaws.{tuples-past, tuples-next, to-none, to-more, placed}

@@ -3,14 +3,13 @@ use mathlib.Core.Path.{_≡_, refl, sym, ap, _∙_}
 use mathlib.Core.List.{List, [], _∷_, _++_}
 use mathlib.Core.Logic.{⊎-elim}
 use mathlib.Core.Bool.{Bool, true, false}
-use Prim.Native.Nat.{ℕ, zero, suc, _+_, _-_, _*_, _≤_, _<_}
+use Prim.Native.Nat.{ℕ, zero, suc, _+_, _-_, _≤_, _<_}
 use native.Mathlib.Omega.{arith}
 use lib.ListN.{length, getD, take, drop, length-drop, take-append-drop}
 use lib.Seq.{length-take-le, take-append-le, drop-append-le, drop-drop, getD-take, getD-drop}
 use borrow.Author.Tests.{lt-ltb, le-ltb}
 use Rattle.base.specs.Choice.{pick}
-use Rattle.fields.specs.Bytes.{le, run, sep}
-use Rattle.fields.specs.Values.{Val, num, txt}
+use Rattle.fields.specs.Bytes.{run, sep}
 use Rattle.fields.specs.Content.{many}
 use Rattle.fields.specs.Places.{endingAt}
 use Rattle.fields.proofs.ByteLaws.{le1, le2}

@@ -18,8 +18,9 @@ fn after_three(f: &[u8], start: usize) -> Answer
     requires { ⌜ (length (now f) ≤ 16777216) × (firstThree (now f) ≡ done start) ⌝ }
     ensures { λ r. ⌜ r ≡ theAnswer (now (f .entry)) ⌝ }
 {
-    match later_records(f, start) {
-        Walked::Over(m) => match loose(f, start) {
+    let mut map = [0u8; 32768];
+    match later_records(f, start, &mut map) {
+        Walked::Over(m) => match loose(f, start, &mut map) {
             Linked::All => Answer {
                 number: 0,
                 file: 0,

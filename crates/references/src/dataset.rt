@@ -58,14 +58,14 @@ fn every_named(f: &[u8], start: usize, t: &[u32], n: usize, map: &[u8]) -> Linke
     Linked::All
 }
 
-// The first loose reference of a dataset whose records from start on, from the fourth on, have passed 1 to 7.
-pub fn loose(f: &[u8], start: usize) -> Linked
+// The first loose reference of a dataset whose records from start on, from the fourth on, have passed 1 to 7; the map is for the keys that can be named,
+// whatever it holds before.
+pub fn loose(f: &[u8], start: usize, map: &mut [u8]) -> Linked
     requires { ⌜ (outcomeFrom (now f) start 0 [] ≡ done tt) × (length (now f) ≤ 16777216) × (start ≤ length (now f)) ⌝ }
     ensures { λ r. ⌜ Answers (now (f .entry)) start r ⌝ }
 {
     let mut table = [start as u32; 4096];
-    let mut map = [0u8; 32768];
     let stride = (f.len() - start) / 131072 + 1;
-    let n = spread(f, start, stride, &mut table, &mut map);
-    every_named(f, start, &table, n, &map)
+    let n = spread(f, start, stride, &mut table, map);
+    every_named(f, start, &table, n, map)
 }

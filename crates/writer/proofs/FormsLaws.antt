@@ -10,7 +10,7 @@ use lib.Dec.{eqb, ltb}
 use Rattle.base.specs.Choice.{pick}
 use Rattle.base.specs.Check.{ok, no, bind, fault, Passed, pass}
 use Rattle.base.specs.Lists.{each}
-use Rattle.base.specs.Walk.{Got, before}
+use Rattle.base.specs.Walk.{Got}
 use Rattle.base.proofs.CheckLaws.{bind-inv, ok-inj}
 use Rattle.skeleton.specs.File.{Field, recordsFrom, recordsOf}
 use Rattle.skeleton.specs.Place.{between, fieldsAt}

@@ -1,14 +1,14 @@
 -- Laws of the loop that measures a file's written form, and what its answer says of 12 and of the length. Assumes nothing.
 use Prim.Native.Nat.{ℕ, _+_, _*_, _^_, _≤_, _<_}
 use mathlib.Core.Path.{_≡_, refl, sym, ap, _∙_}
-use mathlib.Core.Bool.{Bool, true, false}
+use mathlib.Core.Bool.{Bool, false}
 use mathlib.Core.List.{List, [], _∷_}
 use native.Mathlib.Omega.{arith}
 use borrow.Author.Tests.{lt-ltb, le-ltb}
-use lib.ListN.{length, take, drop, length-take, length-drop}
+use lib.ListN.{length, length-take, length-drop}
 use lib.Dec.{ltb}
 use Rattle.base.specs.Choice.{pick}
-use Rattle.base.specs.Check.{no, fault, pass}
+use Rattle.base.specs.Check.{no, fault}
 use Rattle.skeleton.specs.File.{Field}
 use Rattle.skeleton.specs.Emit.{lengthOf, emits}
 use Rattle.skeleton.specs.Place.{between, fieldsAt}
@@ -18,12 +18,11 @@ use Rattle.skeleton.specs.declared.leader.Head.the-variants.{Good, Refused}
 use Rattle.skeleton.proofs.RecordLaws.{right, record-in, record-falls, record-word, record-bounded}
 use Rattle.skeleton.proofs.EmitFileLaws.{length-emits}
 use Rattle.rules.specs.Written.{fieldWidth, writtenLength, number12}
-use Rattle.rules.specs.Outcome.{Outcome, done, refused, andThen, at, everyRecord}
+use Rattle.rules.specs.Outcome.{done, refused, andThen, at, everyRecord}
 use Rattle.sequence.proofs.Tests.{by-bool}
 use Rattle.writing.specs.House.{inHouseForm}
-use Rattle.writer.specs.Forms.{formsOf, formsFrom, lengths}
+use Rattle.writer.specs.Forms.{formsFrom, lengths}
 use Rattle.writer.specs.Measured.{measuredFrom}
-use Rattle.writer.specs.declared.Measured.{Measured}
 use Rattle.writer.specs.declared.Measured.the-variants.{Total, TooLong}
 use Rattle.writer.proofs.FormsLaws.{forms-over, forms-refused, forms-more}
 

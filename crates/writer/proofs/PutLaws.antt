@@ -1,8 +1,8 @@
 -- Laws of the loop that puts out a file's written form. Assumes nothing.
 use Prim.Native.Nat.{ℕ, _+_, _^_, _≤_, _<_}
 use mathlib.Core.Path.{_≡_, refl, sym, ap, _∙_}
-use mathlib.Core.Bool.{Bool, true, false}
-use mathlib.Core.List.{List, [], _∷_, _++_}
+use mathlib.Core.Bool.{true, false}
+use mathlib.Core.List.{List, []}
 use native.Mathlib.Omega.{arith}
 use borrow.Author.Tests.{ne-eqb}
 use lib.ListN.{length}
@@ -20,7 +20,7 @@ use Rattle.skeleton.proofs.RecordLaws.{right, record-in, record-falls, record-w
 use Rattle.rules.specs.Written.{fieldWidth, writtenLength}
 use Rattle.writing.specs.House.{inHouseForm}
 use Rattle.writing.proofs.WriterLaws.{put-on, put-all}
-use Rattle.writer.specs.Forms.{formsOf, formsFrom, lengths}
+use Rattle.writer.specs.Forms.{formsFrom, lengths}
 use Rattle.writer.proofs.FormsLaws.{forms-over, forms-refused, forms-more}
 use Rattle.writer.proofs.MeasureLaws.{part-small, lengths-emits}
 

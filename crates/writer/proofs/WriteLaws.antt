@@ -5,7 +5,7 @@ use mathlib.Core.Bool.{true}
 use mathlib.Core.List.{List, _++_}
 use native.Mathlib.Omega.{arith}
 use borrow.Author.Tests.{lt-ltb, le-ltb}
-use lib.ListN.{length, take, replicate}
+use lib.ListN.{length, take}
 use Rattle.base.specs.Check.{fault}
 use Rattle.base.specs.declared.Fault.{Fault}
 use Rattle.memory.specs.Hold.{zeros, hold}
@@ -13,14 +13,14 @@ use Rattle.memory.specs.Wrote.{Wrote}
 use Rattle.memory.proofs.WroteLaws.{wrote-length, wrote-take}
 use Rattle.skeleton.specs.Emit.{emits}
 use Rattle.fields.specs.Valid.{Bytes}
-use Rattle.rules.specs.Written.{Dataset, fieldWidth, number12, written, writtenBytes, count}
-use Rattle.rules.specs.Outcome.{Outcome, done, refused, andThen, everyRecord}
+use Rattle.rules.specs.Written.{Dataset, fieldWidth, written, writtenBytes, count}
+use Rattle.rules.specs.Outcome.{Outcome, done, refused, andThen}
 use Rattle.rules.specs.File.{writable}
 use Rattle.rules.specs.Answers.{refusal, success, notTooLong, readOutcome, readAnswer, read, Output, Written, roomFor, outputOf, writeOutcome, write}
 use Rattle.rules.specs.declared.Answer.{Answer}
 use Rattle.numbers.specs.Zero.{Done}
 use Rattle.numbers.proofs.Answers.{zero-is-done}
-use Rattle.writer.specs.Forms.{formsOf, formsFrom, lengths}
+use Rattle.writer.specs.Forms.{formsFrom, lengths}
 use Rattle.writer.specs.Measured.{measuredFrom}
 use Rattle.writer.specs.Ready.{Ready}
 use Rattle.writer.specs.declared.Measured.{Measured}
@@ -115,14 +115,16 @@ pub ruleset out-ways = (out-long, out-short, out-room, out-end, out-done, arith)
 
 module _ (f : List ℕ) (a : Answer) (ea : a ≡ read f) where
   -- what the reader refuses
-  pub answer-refused : (room : ℕ) (o : List ℕ) → (a .number ≡ 0 → ⊥) → o ≡ zeros room → Answers f room a o
+  pub answer-refused : (a .number ≡ 0 → ⊥) → (room : ℕ) (r : Answer) (o : List ℕ)
+      → r ≡ record { number = a .number; file = a .file; rec = a .rec; length = 0; count = 0 } → o ≡ zeros room → Answers f room r o
   unfolding read readAnswer writeOutcome andThen refusal success
-  answer-refused room o z eo = go (readOutcome f) refl
+  answer-refused z room r o er eo = go (readOutcome f) refl
     where
-      go : (c : Outcome Dataset) → readOutcome f ≡ c → Answers f room a o
+      go : (c : Outcome Dataset) → readOutcome f ≡ c → Answers f room r o
       go (done d) h = absurd (z (ap (λ (y : Answer). y .number) (ea ∙ ap readAnswer h)))
       go (refused file n x) h =
-          answers-refused f room file n x a o (unfold writeOutcome andThen in rw h) (ea ∙ ap readAnswer h) eo
+          let said = ap {B = Answer} (λ y. record { number = y .number; file = y .file; rec = y .rec; length = 0; count = 0 }) (ea ∙ ap readAnswer h) in
+          answers-refused f room file n x r o (unfold writeOutcome andThen in rw h) (er ∙ said) eo
 
   module _ (z : a .number ≡ 0) where
     is-done : Done (readOutcome f)
@@ -154,5 +156,3 @@ module _ (f : List ℕ) (a : Answer) (ea : a ≡ read f) where
       answer-long n x room r o =
           let s = first-long 1 0 n (written (is-done .0)) (sym (ap (measuredFrom 1 0) forms-are) ∙ sym em ∙ x) in
           answers-refused f room 1 n (fault 12 0 0) r o (rw (is-done .1) (rw s))
-
-pub ruleset write-ways = (answer-refused, answer-small, answer-ready, answer-long)

@@ -125,8 +125,7 @@ pub fn write(dataset: &[u8], out: &mut [u8]) -> Answer
 {
     let a = read(dataset);
     if a.number != 0 {
-        zero(out);
-        return a;
+        return refuse(a.number, a.file, a.rec, out);
     }
     match measure(dataset) {
         Measured::Total(size) => put_out(dataset, size, a.count, out),

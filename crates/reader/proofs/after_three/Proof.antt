@@ -8,11 +8,17 @@ use Rattle.reader.proofs.after_three.Lts as lts
 use Rattle.dataset.proofs.walk.later_records.Reads as later-records-reads
 use Rattle.references.proofs.dataset.loose.Reads as loose-reads
 
+slice-aggregate-later-records : tie.Need-slice-aggregate-later-records
+slice-aggregate-later-records c = search needs
+
 later-records-requires : tie.Need-later-records-requires
 later-records-requires c κs = search after-ways
 
 enum-known-m : tie.Need-enum-known-m
 enum-known-m c = search needs
+
+slice-aggregate-loose : tie.Need-slice-aggregate-loose
+slice-aggregate-loose c = search needs
 
 loose-requires : tie.Need-loose-requires
 loose-requires c κs = search after-ways
@@ -20,8 +26,8 @@ loose-requires c κs = search after-ways
 enum-told : tie.Need-enum-told
 enum-told c = search needs
 
-add-t11 : tie.Need-add-t11
-add-t11 c = search after-ways
+add-t16 : tie.Need-add-t16
+add-t16 c = search after-ways
 
 enum-known-n : tie.Need-enum-known-n
 enum-known-n c = search needs
@@ -42,11 +48,13 @@ pub after-three-spec : {M : Type 1} → statement M
 after-three-spec =
     tie.close
     (tie.spec
+    slice-aggregate-later-records
     later-records-requires
     enum-known-m
+    slice-aggregate-loose
     loose-requires
     enum-told
-    add-t11
+    add-t16
     enum-known-n
     enum-known-k
     returns

@@ -1,11 +1,10 @@
-use Rattle.writer.proofs.WriteLaws.{write-ways, answer-refused, answer-ready, answer-long}
+use Rattle.writer.proofs.WriteLaws.{answer-refused, answer-small, answer-ready, answer-long}
 use native.Mathlib.Omega.{arith}
 use borrow.Author.Needs.{needs}
 use Rattle.writer.proofs.write.Statement.{statement}
 use Rattle.writer.proofs.write.Tie as tie
 use Rattle.writer.proofs.write.Reads as reads
 use Rattle.writer.proofs.write.Lts as lts
-use Rattle.memory.proofs.zero.Reads as zero-reads
 use Rattle.reader.proofs.read.Reads as read-reads
 use Rattle.writer.proofs.measure.Reads as measure-reads
 use Rattle.writer.proofs.put_out.Reads as put-out-reads
@@ -14,8 +13,8 @@ use Rattle.writer.proofs.refuse.Reads as refuse-reads
 read-requires : tie.Need-read-requires
 read-requires c κs = search needs
 
-zero-requires : tie.Need-zero-requires
-zero-requires c κs = search needs
+refuse-requires : tie.Need-refuse-requires
+refuse-requires c κs = search needs
 
 same-length : tie.Need-same-length
 same-length c = search needs
@@ -25,10 +24,10 @@ returns c =
     let z = c .before .before in
     let t = z .before .before in
     let r = t .before .before in
-    answer-refused _ _ (r .read .ensures) _ _ (t .if1 .taken) (z .zero .ensures)
+    answer-refused _ _ (r .read .ensures) (t .if1 .taken) _ _ _ (z .refuse .ensures .0) (z .refuse .ensures .1)
 
 measure-requires : tie.Need-measure-requires
-measure-requires c κs = search write-ways
+measure-requires c κs = search answer-small
 
 enum-known-size : tie.Need-enum-known-size
 enum-known-size c = search needs
@@ -39,13 +38,13 @@ put-out-requires c κs =
     let t = m .before in
     let r = t .before .before in
     let g = r .before .before in
-    (search write-ways, answer-ready _ _ (r .read .ensures) (t .if1 .left) (λ k. omega (arith, g .shared-slice-known .given k)) _ (m .measure .ensures) _ (search needs))
+    (search answer-small, answer-ready _ _ (r .read .ensures) (t .if1 .left) (λ k. omega (arith, g .shared-slice-known .given k)) _ (m .measure .ensures) _ (search needs))
 
 enum-known-n : tie.Need-enum-known-n
 enum-known-n c = search needs
 
-refuse-requires : tie.Need-refuse-requires
-refuse-requires c κs = search needs
+refuse-requires-2 : tie.Need-refuse-requires-2
+refuse-requires-2 c κs = search needs
 
 same-length-2 : tie.Need-same-length-2
 same-length-2 c = search needs
@@ -63,21 +62,22 @@ returns-3 c =
     let t = m .before in
     let r = t .before .before in
     let g = r .before .before in
-    answer-long _ _ (r .read .ensures) (t .if1 .left) (λ k. omega (arith, g .shared-slice-known .given k)) _ (m .measure .ensures) _ (f .before .before .before .n .given .1) _ _ _ (f .refuse .ensures .0) (f .refuse .ensures .1)
+    answer-long _ _ (r .read .ensures) (t .if1 .left) (λ k. omega (arith, g .shared-slice-known .given k)) _ (m .measure .ensures) _ (f .before .before .before .n .given .1) _ _ _ (f .refuse2 .ensures .0)
+    (f .refuse2 .ensures .1)
 
 pub write-spec : {M : Type 1} → statement M
 write-spec =
     tie.close
     (tie.spec
     read-requires
-    zero-requires
+    refuse-requires
     same-length
     returns
     measure-requires
     enum-known-size
     put-out-requires
     enum-known-n
-    refuse-requires
+    refuse-requires-2
     same-length-2
     returns-2
     same-length-3

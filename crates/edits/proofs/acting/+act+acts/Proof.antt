@@ -1,12 +1,12 @@
-use mathlib.Core.Path.{_≡_, refl, sym, ap, _∙_}
-use mathlib.Core.List.{List, []}
-use lib.ListN.{length}
+use mathlib.Core.Path.{refl, sym, _∙_}
+use mathlib.Core.List.{[]}
 use Rattle.tree.proofs.CountLaws.{past-above}
 use Rattle.items.proofs.TupleLaws.{tuples-past, tuples-next}
-use Rattle.edits.proofs.ReadLaws.{valued-text, act-refused, act-gone, act-led, act-lead, ActsAt, acts-start, acts-end, acts-other, acts-no, acts-past, acts-turn}
+use Rattle.edits.proofs.ReadLaws.{valued-text}
+use Rattle.edits.proofs.TurnLaws.{act-refused, act-gone, act-led, act-lead, ActsAt, acts-start, acts-end, acts-other, acts-no, acts-past, acts-turn}
 use borrow.Author.Needs.{needs}
 use native.Mathlib.Omega.{arith}
-use Prim.Native.Nat.{ℕ, _+_, _-_, _*_, _≤_, _<_}
+use Prim.Native.Nat.{ℕ, _+_, _-_, _*_, _<_}
 use borrow.Fn.Kinds.{In}
 use borrow.Fn.PlainCycle.{Measures, is, falls, and}
 use Rattle.edits.proofs.acting.act.Reads as act
@@ -67,7 +67,12 @@ act-perform-requires : (t : ℕ) → act-lts.Need-perform-requires (
   acts-below t,
   acts.Post,
 ) (act-at t) act.Post
-act-perform-requires t c κs = let f = tuples-past _ _ _ (c .before .before .before .before .pre .1 .0) (c .before .before .before .before .pre .1 .1) in let g = past-above (c .before .before .before .before .args .u .now) (c .before .before .before .before .args .at) in (rw (c .before .behind .ensures) (sym (valued-text _ _)), omega arith, omega arith, omega arith, c .before .before .before .before .pre .1 .8, c .before .before .before .before .pre .1 .5, c .before .before .before .before .pre .1 .6)
+act-perform-requires t c κs =
+    let o = c .before .before .before .before in
+    let p = o .pre .1 in
+    let f = tuples-past _ _ _ (p .0) (p .1) in
+    let g = past-above (o .args .u .now) (o .args .at) in
+    (rw (c .before .behind .ensures) (sym (valued-text _ _)), omega arith, omega arith, omega arith, p .8, p .5, p .6)
 
 act-enum-known-deed : (t : ℕ) → act-lts.Need-enum-known-deed (
   behind-reads.Asked,
@@ -127,7 +132,10 @@ act-add-acts-2 : (t : ℕ) → act-lts.Need-add-acts-2 (
   acts-below t,
   acts.Post,
 ) (act-at t) act.Post
-act-add-acts-2 t c = let l = act-led _ (c .before .before .before .before .before .before .before .before .before .before .before .args .end) _ (c .before .before .before .before .before .before .before .before .before .before .before .args .place) _ _ _ _ _ [] _ _ _ _ (c .before .before .before .before .before .before .perform .ensures [] _) (c .before .before .deed3 .given .1) in omega (arith, c .before .before .before .before .before .before .before .before .before .before .before .pre)
+act-add-acts-2 t c =
+    let o = c .before .before .before .before .before .before .before .before .before .before .before in
+    let l = act-led _ (o .args .end) _ (o .args .place) _ _ _ _ _ [] _ _ _ _ (c .before .before .before .before .before .before .perform .ensures [] _) (c .before .before .deed3 .given .1) in
+    omega (arith, o .pre)
 
 act-add-acts-3 : (t : ℕ) → act-lts.Need-add-acts-3 (
   behind-reads.Asked,
@@ -148,12 +156,13 @@ act-acts-requires : (t : ℕ) → act-lts.Need-acts-requires (
   acts.Post,
 ) (act-at t) act.Post
 act-acts-requires t c κs =
-    let l = act-led _ (c .before .before .before .before .before .before .before .before .before .before .before .args .end) _ (c .before .before .before .before .before .before .before .before .before .before .before .args .place) _ _ _ _ _ [] _ _ _ _ (c .before .before .before .before .before .before .perform .ensures [] _) (c .before .before .deed3 .given .1) in
-    let f = tuples-past _ _ _ (c .before .before .before .before .before .before .before .before .before .before .before .pre .1 .0) (c .before .before .before .before .before .before .before .before .before .before .before .pre .1 .1) in
-    let g = past-above (c .before .before .before .before .before .before .before .before .before .before .before .args .u .now) (c .before .before .before .before .before .before .before .before .before .before .before .args .at) in
+    let o = c .before .before .before .before .before .before .before .before .before .before .before in
+    let p = o .pre .1 in
+    let l = act-led _ (o .args .end) _ (o .args .place) _ _ _ _ _ [] _ _ _ _ (c .before .before .before .before .before .before .perform .ensures [] _) (c .before .before .deed3 .given .1) in
+    let f = tuples-past _ _ _ (p .0) (p .1) in
+    let g = past-above (o .args .u .now) (o .args .at) in
     let e = c .before .before .before .before .before .before .before .before .behind .ensures in
     let k = c .before .before .before .before .before .before .perform .kept .1 .1 .1 .0 in
-    let p = c .before .before .before .before .before .before .before .before .before .before .before .pre .1 in
     (omega arith, (rw e (tuples-next _ _ _ (p .0) (p .1)), p .2, p .3, omega arith, omega arith, omega arith, omega arith, omega arith))
 
 act-same-length : (t : ℕ) → act-lts.Need-same-length (
@@ -194,7 +203,9 @@ act-returns-2 : (t : ℕ) → act-lts.Need-returns-2 (
   acts-below t,
   acts.Post,
 ) (act-at t) act.Post
-act-returns-2 t c = λ s. act-gone _ _ _ _ _ _ _ _ _ s _ _ _ _ (c .before .before .before .before .before .perform .ensures s _) (c .before .deed2 .given .1) (c .before .before .before .before .before .before .before .behind .ensures) (tuples-past _ _ _ (c .before .before .before .before .before .before .before .before .before .before .pre .1 .0) (c .before .before .before .before .before .before .before .before .before .before .pre .1 .1))
+act-returns-2 t c =
+    let p = c .before .before .before .before .before .before .before .before .before .before .pre .1 in
+    λ s. act-gone _ _ _ _ _ _ _ _ _ s _ _ _ _ (c .before .before .before .before .before .perform .ensures s _) (c .before .deed2 .given .1) (c .before .before .before .before .before .before .before .behind .ensures) (tuples-past _ _ _ (p .0) (p .1))
 
 act-same-length-3 : (t : ℕ) → act-lts.Need-same-length-3 (
   behind-reads.Asked,
@@ -214,7 +225,10 @@ act-returns-3 : (t : ℕ) → act-lts.Need-returns-3 (
   acts-below t,
   acts.Post,
 ) (act-at t) act.Post
-act-returns-3 t c = λ s. act-lead _ _ _ _ _ _ _ _ _ s _ _ _ _ _ _ _ (act-led _ (c .before .before .before .before .before .before .before .before .before .before .before .before .before .before .args .end) _ (c .before .before .before .before .before .before .before .before .before .before .before .before .before .before .args .place) _ _ _ _ _ s _ _ _ _ (c .before .before .before .before .before .before .before .before .before .perform .ensures s _) (c .before .before .before .before .before .deed3 .given .1)) (c .before .before .before .before .before .before .before .before .before .before .before .behind .ensures) (tuples-past _ _ _ (c .before .before .before .before .before .before .before .before .before .before .before .before .before .before .pre .1 .0) (c .before .before .before .before .before .before .before .before .before .before .before .before .before .before .pre .1 .1)) refl (c .before .before .acts .ensures s)
+act-returns-3 t c =
+    let o = c .before .before .before .before .before .before .before .before .before .before .before .before .before .before in
+    let p = o .pre .1 in
+    λ s. act-lead _ _ _ _ _ _ _ _ _ s _ _ _ _ _ _ _ (act-led _ (o .args .end) _ (o .args .place) _ _ _ _ _ s _ _ _ _ (c .before .before .before .before .before .before .before .before .before .perform .ensures s _) (c .before .before .before .before .before .deed3 .given .1)) (c .before .before .before .before .before .before .before .before .before .before .before .behind .ensures) (tuples-past _ _ _ (p .0) (p .1)) refl (c .before .before .acts .ensures s)
 
 abbrev acts-Inv-loop : acts-lts.InvT-loop
 acts-Inv-loop u end at parent place w₀ n start depth barren a₀ q₀ m₀ w a q m = ActsAt u end at parent place w₀ n start depth barren w a q m
@@ -296,7 +310,10 @@ acts-returns-2 : (t : ℕ) → acts-lts.Need-returns-2 (
   act-below t,
   act.Post,
 ) (acts-at t) acts.Post acts-Inv-loop acts-μ-loop
-acts-returns-2 t c = λ s. acts-no _ _ _ _ _ _ _ _ _ _ _ _ _ _ (c .before .before .before .before .before .before .before .before .before .before .loop .inv) (c .before .before .before .before .before .before .before .before .before .loop-test .taken) (sym (c .before .before .before .before .before .before .before .before .number .ensures .0) ∙ c .before .before .before .before .before .before .before .if1 .left) _ _ (c .before .before .before .before .before .act .ensures) s _ _ (c .before .one .given .1)
+acts-returns-2 t c =
+    let o = c .before .before .before .before .before .before .before .before .before .before in
+    let did = c .before .before .before .before .before in
+    λ s. acts-no _ _ _ _ _ _ _ _ _ _ _ _ _ _ (o .loop .inv) (c .before .before .before .before .before .before .before .before .before .loop-test .taken) (sym (c .before .before .before .before .before .before .before .before .number .ensures .0) ∙ c .before .before .before .before .before .before .before .if1 .left) _ _ (did .act .ensures) s _ _ (c .before .one .given .1)
 
 acts-enum-known-one-2 : (t : ℕ) → acts-lts.Need-enum-known-one-2 (
   number-reads.Asked,
@@ -312,7 +329,10 @@ acts-loop-less : (t : ℕ) → acts-lts.Need-loop-less (
   act-below t,
   act.Post,
 ) (acts-at t) acts.Post acts-Inv-loop acts-μ-loop
-acts-loop-less t c = omega (arith, acts-past _ _ _ _ _ _ _ _ _ _ _ _ _ _ (c .before .before .before .before .before .before .before .before .before .before .loop .inv) (c .before .before .before .before .before .before .before .before .before .loop-test .taken) (sym (c .before .before .before .before .before .before .before .before .number .ensures .0) ∙ c .before .before .before .before .before .before .before .if1 .left) _ _ (c .before .before .before .before .before .act .ensures) _ _ _ (c .before .one2 .given .1))
+acts-loop-less t c =
+    let o = c .before .before .before .before .before .before .before .before .before .before in
+    let did = c .before .before .before .before .before in
+    omega (arith, acts-past _ _ _ _ _ _ _ _ _ _ _ _ _ _ (o .loop .inv) (c .before .before .before .before .before .before .before .before .before .loop-test .taken) (sym (c .before .before .before .before .before .before .before .before .number .ensures .0) ∙ c .before .before .before .before .before .before .before .if1 .left) _ _ (did .act .ensures) _ _ _ (c .before .one2 .given .1))
 
 acts-loop-again : (t : ℕ) → acts-lts.Need-loop-again (
   number-reads.Asked,
@@ -320,7 +340,10 @@ acts-loop-again : (t : ℕ) → acts-lts.Need-loop-again (
   act-below t,
   act.Post,
 ) (acts-at t) acts.Post acts-Inv-loop acts-μ-loop
-acts-loop-again t c = acts-turn _ _ _ _ _ _ _ _ _ _ _ _ _ _ (c .before .before .before .before .before .before .before .before .before .before .loop .inv) (c .before .before .before .before .before .before .before .before .before .loop-test .taken) (sym (c .before .before .before .before .before .before .before .before .number .ensures .0) ∙ c .before .before .before .before .before .before .before .if1 .left) _ _ (c .before .before .before .before .before .act .ensures) _ _ _ (c .before .one2 .given .1) (c .before .before .before .before .before .act .kept .1 .1 .1 .1 .0)
+acts-loop-again t c =
+    let o = c .before .before .before .before .before .before .before .before .before .before in
+    let did = c .before .before .before .before .before in
+    acts-turn _ _ _ _ _ _ _ _ _ _ _ _ _ _ (o .loop .inv) (c .before .before .before .before .before .before .before .before .before .loop-test .taken) (sym (c .before .before .before .before .before .before .before .before .number .ensures .0) ∙ c .before .before .before .before .before .before .before .if1 .left) _ _ (did .act .ensures) _ _ _ (c .before .one2 .given .1) (did .act .kept .1 .1 .1 .1 .0)
 
 acts-same-length-3 : (t : ℕ) → acts-lts.Need-same-length-3 (
   number-reads.Asked,

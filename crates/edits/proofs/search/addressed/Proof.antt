@@ -1,10 +1,5 @@
-use mathlib.Core.Path.{_≡_, refl, sym, ap, _∙_}
-use Prim.Native.Nat.{ℕ, _+_, _-_, _*_, _≤_, _<_}
-use borrow.Author.Tests.{lt-ltb, le-ltb, eq-eqb, ne-eqb}
-use Rattle.items.specs.Items.{u16}
-use Rattle.edits.specs.Search.{placeOf, endOf, behindLast, spotOf, deeperAt, goneCount, goneOut}
-use Rattle.edits.proofs.SearchLaws.{behind-none, behind-some, spot-zero, spot-past, spot-at, place-zero, place-bound, end-bound}
-use native.Mathlib.Omega.{arith}
+use mathlib.Core.Path.{sym, _∙_}
+use Rattle.edits.proofs.SearchLaws.{place-within, place-zero}
 use borrow.Author.Needs.{needs}
 use Rattle.edits.proofs.search.addressed.Statement.{statement}
 use Rattle.edits.proofs.search.addressed.Tie as tie
@@ -23,13 +18,13 @@ number-requires-2 : tie.Need-number-requires-2
 number-requires-2 c κs = search needs
 
 returns : tie.Need-returns
-returns c = sym (place-zero _ _ _ _ _ _ (sym (c .before .number2 .ensures .0) ∙ c .if1 .taken))
+returns c = place-within _ _ _ _ _ _ _ (c .before .before .before .before .before .pre .2) (sym (place-zero _ _ _ _ _ _ (sym (c .before .number2 .ensures .0) ∙ c .if1 .taken)))
 
 locate-requires : tie.Need-locate-requires
 locate-requires c κs = search needs
 
 returns-2 : tie.Need-returns-2
-returns-2 c = rw (← c .before .before .number2 .ensures .0, ← c .before .before .before .number .ensures .0) (c .locate .ensures)
+returns-2 c = place-within _ _ _ _ _ _ _ (c .before .before .before .before .before .before .pre .2) (rw (← c .before .before .number2 .ensures .0, ← c .before .before .before .number .ensures .0) (c .locate .ensures))
 
 pub addressed-spec : {M : Type 1} → statement M
 addressed-spec =

@@ -1,9 +1,7 @@
-use mathlib.Core.Path.{_≡_, refl, sym, ap, _∙_}
-use Prim.Native.Nat.{ℕ, _+_, _-_, _*_, _≤_, _<_}
-use borrow.Author.Tests.{lt-ltb, le-ltb, eq-eqb, ne-eqb}
-use Rattle.items.specs.Items.{u16}
-use Rattle.edits.specs.Search.{placeOf, endOf, behindLast, spotOf, deeperAt, goneCount, goneOut}
-use Rattle.edits.proofs.SearchLaws.{behind-none, behind-some, spot-zero, spot-past, spot-at, place-zero, place-bound, end-bound}
+use mathlib.Core.Path.{sym, ap, _∙_}
+use Prim.Native.Nat.{ℕ, _+_}
+use Rattle.edits.specs.Search.{endOf}
+use Rattle.edits.proofs.SearchLaws.{behind-none, behind-some, place-bound}
 use native.Mathlib.Omega.{arith}
 use borrow.Author.Needs.{needs}
 use Rattle.edits.proofs.search.behind_last.Statement.{statement}
@@ -23,7 +21,9 @@ locate-requires : tie.Need-locate-requires
 locate-requires c κs = search needs
 
 add-run-end : tie.Need-add-run-end
-add-run-end c = omega (arith, place-bound (c .before .before .before .args .w .now) (c .before .before .before .args .start) (c .before .before .before .args .n) (c .before .before .before .args .depth) (c .before .before .before .args .code) (c .before .before .before .args .m) (c .before .before .before .pre .1), c .locate .ensures)
+add-run-end c =
+    let a = c .before .before .before .args in
+    omega (arith, place-bound (a .w .now) (a .start) (a .n) (a .depth) (a .code) (a .m) (c .before .before .before .pre .1), c .locate .ensures)
 
 add-run-end-2 : tie.Need-add-run-end-2
 add-run-end-2 c = search needs
@@ -32,7 +32,11 @@ run-end-requires-2 : tie.Need-run-end-requires-2
 run-end-requires-2 c κs = search needs
 
 returns-2 : tie.Need-returns-2
-returns-2 c = c .run-end2 .ensures ∙ ap (λ (j : ℕ). endOf (c .before .before .before .before .args .w .now) (j + 1) (c .before .before .before .before .args .n) (c .before .before .before .before .args .depth + 1)) (c .before .locate .ensures) ∙ sym (behind-some _ _ _ _ _ _ (omega (arith, c .before .before .if1 .left)))
+returns-2 c =
+    let a = c .before .before .before .before .args in
+    c .run-end2 .ensures
+    ∙ ap (λ (j : ℕ). endOf (a .w .now) (j + 1) (a .n) (a .depth + 1)) (c .before .locate .ensures)
+    ∙ sym (behind-some _ _ _ _ _ _ (omega (arith, c .before .before .if1 .left)))
 
 pub behind-last-spec : {M : Type 1} → statement M
 behind-last-spec =

@@ -1,9 +1,8 @@
-use mathlib.Core.Path.{_≡_, refl, sym, ap, _∙_}
-use Prim.Native.Nat.{ℕ, _+_, _-_, _≤_, _<_}
+use mathlib.Core.Path.{_≡_}
+use Prim.Native.Nat.{_+_, _-_, _≤_, _<_}
 use Rattle.items.specs.Items.{depthOf}
 use Rattle.edits.specs.Search.{twins}
 use Rattle.edits.proofs.SearchLaws.{twins-end, twins-out, twins-on}
-use borrow.Author.Needs.{needs}
 use native.Mathlib.Omega.{arith}
 use Rattle.edits.proofs.search.tally.Statement.{statement}
 use Rattle.edits.proofs.search.tally.Tie as tie
@@ -28,7 +27,11 @@ number-requires : tie.Need-number-requires Inv-loop μ-loop
 number-requires c κs = omega arith
 
 returns : tie.Need-returns Inv-loop μ-loop
-returns c = (let z : depthOf (c .before .before .before .before .before .args .w .now) (c .before .before .before .loop .i) < c .before .before .before .before .before .args .depth = omega (arith, c .before .number .ensures) in omega (arith, twins-out (c .before .before .before .before .before .args .w .now) (c .before .before .before .loop .i) (c .before .before .before .before .before .args .n) (c .before .before .before .before .before .args .depth) (c .before .before .before .before .before .args .code) (c .before .before .loop-test .taken) z, c .before .before .before .loop .inv .0), omega arith)
+returns c =
+    let a = c .before .before .before .before .before .args in
+    let l = c .before .before .before .loop in
+    let out : depthOf (a .w .now) (l .i) < a .depth = omega (arith, c .before .number .ensures .0) in
+    (omega (arith, twins-out (a .w .now) (l .i) (a .n) (a .depth) (a .code) (c .before .before .loop-test .taken) out, l .inv .0), omega arith)
 
 twin-requires : tie.Need-twin-requires Inv-loop μ-loop
 twin-requires c κs = omega arith
@@ -43,10 +46,17 @@ loop-less : tie.Need-loop-less Inv-loop μ-loop
 loop-less c = omega arith
 
 loop-again : tie.Need-loop-again Inv-loop μ-loop
-loop-again c = (let z : c .before .before .before .before .before .before .args .depth ≤ depthOf (c .before .before .before .before .before .before .args .w .now) (c .before .before .before .before .loop .i) = omega (arith, c .before .before .number .ensures) in omega (arith, twins-on (c .before .before .before .before .before .before .args .w .now) (c .before .before .before .before .loop .i) (c .before .before .before .before .before .before .args .n) (c .before .before .before .before .before .before .args .depth) (c .before .before .before .before .before .before .args .code) (c .before .before .before .loop-test .taken) z, c .before .before .before .before .loop .inv .0, c .twin .ensures .0), omega arith, omega arith)
+loop-again c =
+    let a = c .before .before .before .before .before .before .args in
+    let l = c .before .before .before .before .loop in
+    let in-run : a .depth ≤ depthOf (a .w .now) (l .i) = omega (arith, c .before .before .number .ensures .0) in
+    (omega (arith, twins-on (a .w .now) (l .i) (a .n) (a .depth) (a .code) (c .before .before .before .loop-test .taken) in-run, l .inv .0, c .twin .ensures .0), omega arith, omega arith)
 
 returns-2 : tie.Need-returns-2 Inv-loop μ-loop
-returns-2 c = (omega (arith, twins-end (c .before .before .before .args .w .now) (c .before .loop .i) (c .before .before .before .args .n) (c .before .before .before .args .depth) (c .before .before .before .args .code) (c .loop-test .left), c .before .loop .inv .0), omega arith)
+returns-2 c =
+    let a = c .before .before .before .args in
+    let l = c .before .loop in
+    (omega (arith, twins-end (a .w .now) (l .i) (a .n) (a .depth) (a .code) (c .loop-test .left), l .inv .0), omega arith)
 
 pub tally-spec : {M : Type 1} → statement M
 tally-spec =

@@ -1,13 +1,6 @@
-use mathlib.Core.Path.{_≡_, refl, sym, ap, _∙_}
-use Prim.Native.Nat.{ℕ, _+_, _-_, _*_, _≤_, _<_}
-use mathlib.Core.List.{List}
-use Rattle.items.specs.Items.{u16}
-use Rattle.memory.specs.Splice.{opened}
+use mathlib.Core.Path.{ap, _∙_}
 use Rattle.memory.specs.Put.{put}
-use Rattle.items.specs.Items.{itemBytes}
-use Rattle.edits.specs.Search.{deeperAt}
-use Rattle.edits.proofs.SearchLaws.{place-bound, spot-bound}
-use Rattle.edits.proofs.DeedLaws.{insert-6, insert-9, insert-lead, alter-absent, alter-gone, alter-beside, alter-led}
+use Rattle.edits.proofs.DeedLaws.{insert-6, insert-9, insert-lead}
 use native.Mathlib.Omega.{arith}
 use borrow.Author.Needs.{needs}
 use Rattle.edits.proofs.single.insert.Statement.{statement}
@@ -42,7 +35,9 @@ same-length : tie.Need-same-length
 same-length c = search needs
 
 returns-2 : tie.Need-returns-2
-returns-2 c = λ s q. insert-9 s _ _ q _ _ _ _ (c .before .before .before .before .before .before .before .before .pre .5) _ (c .before .before .before .before .before .before .before .before .pre .0) (c .before .before .before .before .before .if1 .left) _ _ _ (c .before .before .before .before .number .ensures .0) (c .before .before .before .number2 .ensures .0) (c .before .tally .ensures .0) _ (c .if2 .taken)
+returns-2 c =
+    let p = c .before .before .before .before .before .before .before .before .pre in
+    λ s q. insert-9 s _ _ q _ _ _ _ (p .5) _ (p .0) (c .before .before .before .before .before .if1 .left) _ _ _ (c .before .before .before .before .number .ensures .0) (c .before .before .before .number2 .ensures .0) (c .before .tally .ensures .0) _ (c .if2 .taken)
 
 spot-requires : tie.Need-spot-requires
 spot-requires c κs = search needs
@@ -51,16 +46,16 @@ mul-open-gap : tie.Need-mul-open-gap
 mul-open-gap c = search needs
 
 mul-open-gap-2 : tie.Need-mul-open-gap-2
-mul-open-gap-2 c = omega (arith, c .before .spot .ensures, spot-bound (c .before .before .before .before .before .before .before .before .before .before .before .args .w .now) (c .before .before .before .before .before .before .before .before .before .before .before .args .start) (c .before .before .before .before .before .before .before .before .before .before .before .args .n) (c .before .before .before .before .before .before .before .before .before .before .before .args .depth) (c .before .before .before .before .before .before .before .number .result) (c .before .before .before .before .before .before .number2 .result) (c .before .before .before .before .tally .result) (c .before .before .before .before .before .before .before .before .before .before .before .pre .5))
+mul-open-gap-2 c = search needs
 
 open-gap-requires : tie.Need-open-gap-requires
-open-gap-requires c κs = omega (arith, c .before .spot .ensures, spot-bound (c .before .before .before .before .before .before .before .before .before .before .before .args .w .now) (c .before .before .before .before .before .before .before .before .before .before .before .args .start) (c .before .before .before .before .before .before .before .before .before .before .before .args .n) (c .before .before .before .before .before .before .before .before .before .before .before .args .depth) (c .before .before .before .before .before .before .before .number .result) (c .before .before .before .before .before .before .number2 .result) (c .before .before .before .before .tally .result) (c .before .before .before .before .before .before .before .before .before .before .before .pre .5))
+open-gap-requires c κs = search needs
 
 add-put-item : tie.Need-add-put-item
 add-put-item c = search needs
 
 put-item-requires : tie.Need-put-item-requires
-put-item-requires c κs = omega (arith, c .before .before .before .before .before .spot .ensures, spot-bound (c .before .before .before .before .before .before .before .before .before .before .before .before .before .before .before .args .w .now) (c .before .before .before .before .before .before .before .before .before .before .before .before .before .before .before .args .start) (c .before .before .before .before .before .before .before .before .before .before .before .before .before .before .before .args .n) (c .before .before .before .before .before .before .before .before .before .before .before .before .before .before .before .args .depth) (c .before .before .before .before .before .before .before .before .before .before .before .number .result) (c .before .before .before .before .before .before .before .before .before .before .number2 .result) (c .before .before .before .before .before .before .before .before .tally .result) (c .before .before .before .before .before .before .before .before .before .before .before .before .before .before .before .pre .5))
+put-item-requires c κs = search needs
 
 add-t21 : tie.Need-add-t21
 add-t21 c = search needs
@@ -69,7 +64,12 @@ same-length-2 : tie.Need-same-length-2
 same-length-2 c = search needs
 
 returns-3 : tie.Need-returns-3
-returns-3 c = λ s q. insert-lead s _ _ q _ _ _ _ (c .before .before .before .before .before .before .before .before .before .before .before .before .before .before .before .before .before .before .pre .5) _ (c .before .before .before .before .before .before .before .before .before .before .before .before .before .before .before .before .before .before .pre .0) (c .before .before .before .before .before .before .before .before .before .before .before .before .before .before .before .if1 .left) _ _ _ (c .before .before .before .before .before .before .before .before .before .before .before .before .before .before .number .ensures .0) (c .before .before .before .before .before .before .before .before .before .before .before .before .before .number2 .ensures .0) (c .before .before .before .before .before .before .before .before .before .before .before .tally .ensures .0) _ _ (c .before .before .before .before .before .before .before .before .before .before .before .before .before .before .before .before .before .before .pre .2) (c .before .before .before .before .before .before .before .before .before .before .before .before .before .before .before .before .before .before .pre .3) (omega (arith, c .before .before .before .before .before .before .before .before .before .before .before .before .before .before .before .before .before .before .pre)) (c .before .before .before .before .before .before .before .before .before .before .before .before .before .before .number .ensures .1) (c .before .before .before .before .before .before .before .before .before .before .if2 .left) (c .before .before .before .before .before .before .before .before .spot .ensures) (c .before .before .put-item .ensures ∙ ap (put (8 * c .before .before .before .before .before .before .before .before .spot .result) (itemBytes (c .before .before .before .before .before .before .before .before .before .before .before .before .before .before .before .before .before .before .args .depth) (c .before .before .before .before .before .before .before .before .before .before .before .before .before .before .number .result) (c .before .before .before .before .before .before .before .before .before .before .before .before .before .before .before .before .before .before .args .at + 7) 1)) (c .before .before .before .before .before .before .open-gap .ensures .1))
+returns-3 c =
+    let p = c .before .before .before .before .before .before .before .before .before .before .before .before .before .before .before .before .before .before .pre in
+    let code = c .before .before .before .before .before .before .before .before .before .before .before .before .before .before .number .ensures in
+    let spot = c .before .before .before .before .before .before .before .before .spot .ensures .0 in
+    let stored = c .before .before .put-item .ensures ∙ ap (put _ _) (c .before .before .before .before .before .before .open-gap .ensures .1) in
+    λ s q. insert-lead s _ _ q _ _ _ _ (p .5) _ (p .0) (c .before .before .before .before .before .before .before .before .before .before .before .before .before .before .before .if1 .left) _ _ _ (code .0) (c .before .before .before .before .before .before .before .before .before .before .before .before .before .number2 .ensures .0) (c .before .before .before .before .before .before .before .before .before .before .before .tally .ensures .0) _ _ (p .2) (p .3) (omega arith) (code .1) (c .before .before .before .before .before .before .before .before .before .before .if2 .left) spot stored
 
 pub insert-spec : {M : Type 1} → statement M
 insert-spec =

@@ -1,14 +1,3 @@
-use mathlib.Core.Path.{_≡_, refl, sym, ap, _∙_}
-use Prim.Native.Nat.{ℕ, _+_, _-_, _*_, _≤_, _<_}
-use mathlib.Core.List.{List}
-use Rattle.items.specs.Items.{u16}
-use Rattle.memory.specs.Splice.{opened}
-use Rattle.memory.specs.Put.{put}
-use Rattle.items.specs.Items.{itemBytes}
-use Rattle.edits.specs.Search.{deeperAt}
-use Rattle.edits.proofs.SearchLaws.{place-bound, spot-bound}
-use Rattle.edits.proofs.DeedLaws.{insert-6, insert-9, insert-lead, alter-absent, alter-gone, alter-beside, alter-led}
-use native.Mathlib.Omega.{arith}
 use borrow.Author.Needs.{needs}
 use Rattle.edits.proofs.single.perform.Statement.{statement}
 use Rattle.edits.proofs.single.perform.Tie as tie

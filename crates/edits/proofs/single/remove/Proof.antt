@@ -1,9 +1,6 @@
-use mathlib.Core.Path.{_≡_, refl, sym, ap, _∙_}
-use Prim.Native.Nat.{ℕ, _+_, _-_, _*_, _≤_, _<_}
-use borrow.Author.Tests.{lt-ltb, le-ltb, eq-eqb, ne-eqb}
-use Rattle.items.specs.Items.{u16}
-use Rattle.edits.specs.Search.{placeOf, endOf, behindLast, spotOf, deeperAt, goneCount, goneOut}
-use Rattle.edits.proofs.SearchLaws.{behind-none, behind-some, spot-zero, spot-past, spot-at, place-zero, place-bound, end-bound}
+use Prim.Native.Nat.{_+_, _≤_}
+use Rattle.edits.specs.Search.{goneCount, goneOut}
+use Rattle.edits.proofs.SearchLaws.{end-bound}
 use native.Mathlib.Omega.{arith}
 use borrow.Author.Needs.{needs}
 use Rattle.edits.proofs.single.remove.Statement.{statement}
@@ -12,6 +9,13 @@ use Rattle.edits.proofs.single.remove.Reads as reads
 use Rattle.edits.proofs.single.remove.Lts as lts
 use Rattle.edits.proofs.search.run_end.Reads as run-end-reads
 use Rattle.memory.proofs.splicing.close_gap.Reads as close-gap-reads
+
+-- what is below the item ends behind it and among the items
+ends : (c : tie.After-run-end) → (c .before .before .before .args .i + 1 ≤ c .run-end .result) × (c .run-end .result ≤ c .before .before .before .args .n)
+ends c =
+    let a = c .before .before .before .args in
+    let b = end-bound (a .w .now) (a .i + 1) (a .n) (a .depth + 1) (omega arith) in
+    (omega (arith, c .run-end .ensures), omega (arith, c .run-end .ensures))
 
 add-run-end : tie.Need-add-run-end
 add-run-end c = search needs
@@ -29,19 +33,19 @@ mul-close-gap-2 : tie.Need-mul-close-gap-2
 mul-close-gap-2 c = search needs
 
 sub-close-gap : tie.Need-sub-close-gap
-sub-close-gap c = omega (arith, c .before .run-end .ensures, end-bound (c .before .before .before .before .args .w .now) (c .before .before .before .before .args .i + 1) (c .before .before .before .before .args .n) (c .before .before .before .before .args .depth + 1) (omega arith))
+sub-close-gap c = omega (arith, ends (c .before))
 
 mul-close-gap-3 : tie.Need-mul-close-gap-3
-mul-close-gap-3 c = omega (arith, c .before .run-end .ensures, end-bound (c .before .before .before .before .args .w .now) (c .before .before .before .before .args .i + 1) (c .before .before .before .before .args .n) (c .before .before .before .before .args .depth + 1) (omega arith))
+mul-close-gap-3 c = omega (arith, ends (c .before))
 
 close-gap-requires : tie.Need-close-gap-requires
-close-gap-requires c κs = omega (arith, c .before .run-end .ensures, end-bound (c .before .before .before .before .args .w .now) (c .before .before .before .before .args .i + 1) (c .before .before .before .before .args .n) (c .before .before .before .before .args .depth + 1) (omega arith))
+close-gap-requires c κs = omega (arith, ends (c .before))
 
 sub-result : tie.Need-sub-result
-sub-result c = omega (arith, c .before .before .before .before .run-end .ensures, end-bound (c .before .before .before .before .before .before .before .args .w .now) (c .before .before .before .before .before .before .before .args .i + 1) (c .before .before .before .before .before .before .before .args .n) (c .before .before .before .before .before .before .before .args .depth + 1) (omega arith))
+sub-result c = omega (arith, ends (c .before .before .before .before))
 
 sub-result-2 : tie.Need-sub-result-2
-sub-result-2 c = omega (arith, c .before .before .before .before .run-end .ensures, end-bound (c .before .before .before .before .before .before .before .args .w .now) (c .before .before .before .before .before .before .before .args .i + 1) (c .before .before .before .before .before .before .before .args .n) (c .before .before .before .before .before .before .before .args .depth + 1) (omega arith))
+sub-result-2 c = omega (arith, ends (c .before .before .before .before))
 
 same-length : tie.Need-same-length
 same-length c = search needs

@@ -1,5 +1,4 @@
-use mathlib.Core.Path.{_≡_, sym, ap, _∙_}
-use Prim.Native.Nat.{ℕ, _+_}
+use mathlib.Core.Path.{sym}
 use Rattle.items.proofs.ItemLaws.{under-zero, under-suc}
 use native.Mathlib.Omega.{arith}
 use borrow.Author.Needs.{needs}

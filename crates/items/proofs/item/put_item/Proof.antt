@@ -1,8 +1,8 @@
-use mathlib.Core.Path.{_≡_, sym, ap, _∙_}
+use mathlib.Core.Path.{_∙_}
 use native.Mathlib.Numerals.{towards-suc}
 use lib.ListN.{length-set}
 use Rattle.memory.specs.Put.{put}
-use Rattle.items.specs.Items.{refBytes, itemBytes}
+use Rattle.items.specs.Items.{itemBytes}
 use native.Mathlib.Omega.{arith}
 use borrow.Author.Needs.{needs}
 use Rattle.items.proofs.item.put_item.Statement.{statement}

@@ -1,7 +1,7 @@
 use native.Mathlib.Numerals.{towards-suc}
 use lib.ListN.{length-set}
 use Rattle.memory.specs.Put.{put}
-use Rattle.items.specs.Items.{refBytes, itemBytes}
+use Rattle.items.specs.Items.{refBytes}
 use native.Mathlib.Omega.{arith}
 use borrow.Author.Needs.{needs}
 use Rattle.items.proofs.item.put_ref.Statement.{statement}

@@ -1,10 +1,9 @@
 use Rattle.items.specs.Items.{under}
-use mathlib.Core.Path.{_≡_, refl, sym, ap, _∙_}
-use Prim.Native.Nat.{ℕ, _+_, _-_, _≤_}
+use mathlib.Core.Path.{ap, _∙_}
+use Prim.Native.Nat.{_+_, _-_, _≤_}
 use Rattle.tree.specs.Source.{past}
 use Rattle.tree.proofs.CountLaws.{past-above}
 use Rattle.items.proofs.LoadLaws.{LoadAt, load-field, load-fits, load-parent, load-turn, load-done}
-use borrow.Author.Needs.{needs}
 use native.Mathlib.Omega.{arith}
 use Rattle.items.proofs.loading.load.Statement.{statement}
 use Rattle.items.proofs.loading.load.Tie as tie
@@ -28,7 +27,9 @@ abbrev above : (c : tie.In-loop Inv-loop μ-loop) → c .before .loop .a + 8 ≤
 above c = past-above (c .before .before .before .before .args .b .now) (c .before .loop .a)
 
 loop-holds : tie.Need-loop-holds Inv-loop μ-loop
-loop-holds c = load-field _ _ _ _ _ (c .before .before .pre .0) (c .before .before .pre .1) (c .before .before .pre .3) (c .before .before .pre .5) (c .before .before .pre .6)
+loop-holds c =
+    let p = c .before .before .pre in
+    load-field _ _ _ _ _ (p .0) (p .1) (p .3) (p .5) (p .6)
 
 add-number : tie.Need-add-number Inv-loop μ-loop
 add-number c = omega (arith, fits c, above c)
@@ -58,13 +59,19 @@ loop-less : tie.Need-loop-less Inv-loop μ-loop
 loop-less c = omega (arith, fits (c .before .before .before .before .before .before .before .before .before), above (c .before .before .before .before .before .before .before .before .before), c .behind .ensures)
 
 loop-again : tie.Need-loop-again Inv-loop μ-loop
-loop-again c = load-turn _ _ _ _ _ _ _ _ (c .before .before .before .before .before .before .before .before .before .before .loop .inv) (c .before .before .before .before .before .before .before .before .before .loop-test .taken) (omega (arith, c .before .before .before .before .before .before .before .before .before .before .loop .inv .long)) (c .before .before .before .before .before .before .before .before .before .before .before .before .before .pre .2) (omega (arith, c .before .before .before .before .before .number2 .ensures)) _ (c .before .before .before .before .before .before .depth-under .ensures ∙ ap (under _) (c .before .before .before .before .before .before .before .before .number .ensures .0)) _ (c .before .before .before .before .before .number2 .ensures .0) _ (c .behind .ensures) _ (c .before .before .before .put-item .ensures)
+loop-again c =
+    let l = c .before .before .before .before .before .before .before .before .before .before .loop .inv in
+    let code = c .before .before .before .before .before .number2 .ensures in
+    let depth = c .before .before .before .before .before .before .depth-under .ensures ∙ ap (under _) (c .before .before .before .before .before .before .before .before .number .ensures .0) in
+    load-turn _ _ _ _ _ _ _ _ l (c .before .before .before .before .before .before .before .before .before .loop-test .taken) (omega (arith, l .long)) (c .before .before .before .before .before .before .before .before .before .before .before .before .before .pre .2) (omega arith) _ depth _ (code .0) _ (c .behind .ensures) _ (c .before .before .before .put-item .ensures)
 
 same-length : tie.Need-same-length Inv-loop μ-loop
 same-length c = c .before .loop .inv .long
 
 returns : tie.Need-returns Inv-loop μ-loop
-returns c = load-done _ _ _ _ _ _ _ _ (c .before .before .before .before .pre .0) (c .before .before .before .before .pre .1) (c .before .before .before .before .pre .5) (c .before .loop .inv) (c .loop-test .left)
+returns c =
+    let p = c .before .before .before .before .pre in
+    load-done _ _ _ _ _ _ _ _ (p .0) (p .1) (p .5) (c .before .loop .inv) (c .loop-test .left)
 
 pub load-spec : {M : Type 1} → statement M
 load-spec =

@@ -20,20 +20,17 @@ add-stride c = search needs
 slice-aggregate-spread : tie.Need-slice-aggregate-spread
 slice-aggregate-spread c = search needs
 
-slice-aggregate-spread-2 : tie.Need-slice-aggregate-spread-2
-slice-aggregate-spread-2 c = search needs
-
 spread-requires : tie.Need-spread-requires
 spread-requires c κs = (search needs, search loose-ways, search loose-ways)
 
 slice-aggregate-every-named : tie.Need-slice-aggregate-every-named
 slice-aggregate-every-named c = search needs
 
-slice-aggregate-every-named-2 : tie.Need-slice-aggregate-every-named-2
-slice-aggregate-every-named-2 c = search needs
-
 every-named-requires : tie.Need-every-named-requires
 every-named-requires c κs = (search needs, search loose-ways)
+
+same-length : tie.Need-same-length
+same-length c = search needs
 
 returns : tie.Need-returns
 returns c = search needs
@@ -46,9 +43,8 @@ loose-spec =
     sub-stride
     add-stride
     slice-aggregate-spread
-    slice-aggregate-spread-2
     spread-requires
     slice-aggregate-every-named
-    slice-aggregate-every-named-2
     every-named-requires
+    same-length
     returns)
