@@ -1,0 +1,1 @@
+// The records of an update's result, one by one.
