@@ -33,6 +33,10 @@ use Rattle.version.specs.Held.{Held}
 use Rattle.version.specs.declared.Version.{Version}
 use Rattle.composing.specs.Linked.{allStand, linked}
 
+-- the key of a tuple of SPAS
+abbrev pub tupleKey : List ℕ → List ℕ
+tupleKey b = spatialKey (spatialIn b)
+
 -- ---- tests in any order
 
 both-assoc : (a b c : Bool) → both (both a b) c ≡ both a (both b c)
@@ -118,10 +122,6 @@ module _ (stands : List ℕ → Bool) where
       ap₂ (λ (x y : List (List ℕ)). both (allStand stands x) (allStand stands y)) a b ∙ sym (stand-apart fs)
 
   -- ---- of a record that the workspace holds
-
-  -- the key of a tuple of SPAS
-  abbrev pub tupleKey : List ℕ → List ℕ
-  tupleKey b = spatialKey (spatialIn b)
 
   pub held-linked : (d u w : List ℕ) (v : Version) (r : Rec) → Held d u w v r
       → linked stands r ≡ both (allStand stands (each inasKey (bodiesOf d u (inasArea w) (v .inas)))) (allStand stands (each tupleKey (bodiesOf d u (spasArea w) (v .spas))))

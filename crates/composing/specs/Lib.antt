@@ -1,2 +1,6 @@
 pub mod Fate
 pub mod Linked
+pub mod Acts
+pub mod Settled
+pub mod Keys
+pub mod Told
