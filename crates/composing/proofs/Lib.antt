@@ -5,3 +5,5 @@ pub mod ActsLaws
 pub mod StandingLaws
 pub mod NamingLaws
 pub mod HeldLaws
+pub mod ComposingLaws
+pub mod ResultLaws

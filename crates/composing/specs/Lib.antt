@@ -4,3 +4,4 @@ pub mod Acts
 pub mod Settled
 pub mod Keys
 pub mod Told
+pub mod Composing
