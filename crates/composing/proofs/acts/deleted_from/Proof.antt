@@ -1,0 +1,93 @@
+use Rattle.composing.proofs.ActsLaws.{acts-turn}
+use lib.ListN.{length}
+use Prim.Native.Nat.{_-_}
+use mathlib.Core.Path.{_≡_, refl}
+use Rattle.keys.specs.Look.{Sound}
+use Rattle.composing.specs.Acts.{deletedFrom}
+use Rattle.base.specs.Choice.{either}
+use borrow.Author.Needs.{needs}
+use native.Mathlib.Omega.{arith}
+use Rattle.composing.proofs.acts.deleted_from.Statement.{statement}
+use Rattle.composing.proofs.acts.deleted_from.Tie as tie
+use Rattle.composing.proofs.acts.deleted_from.Reads as reads
+use Rattle.composing.proofs.acts.deleted_from.Lts as lts
+use Rattle.composing.proofs.acts.deletes.Reads as deletes-reads
+use Rattle.keys.proofs.look.key_at.Reads as key-at-reads
+use Rattle.skeleton.proofs.file.stated_at.Reads as stated-at-reads
+
+abbrev Inv-loop : tie.InvT-loop
+Inv-loop u us key p₀ gone₀ p gone = Sound u p × (either gone (deletedFrom u p key) ≡ deletedFrom u us key)
+
+abbrev μ-loop : tie.MeasureT-loop
+μ-loop u us key p₀ gone₀ p gone = length u - p
+
+loop-holds : tie.Need-loop-holds Inv-loop μ-loop
+loop-holds c = (search needs, refl)
+
+stated-at-requires : tie.Need-stated-at-requires Inv-loop μ-loop
+stated-at-requires c κs = search acts-turn
+
+enum-known-len : tie.Need-enum-known-len Inv-loop μ-loop
+enum-known-len c = search needs
+
+add-key-at : tie.Need-add-key-at Inv-loop μ-loop
+add-key-at c = search acts-turn
+
+key-at-requires : tie.Need-key-at-requires Inv-loop μ-loop
+key-at-requires c κs = search acts-turn
+
+add-deletes : tie.Need-add-deletes Inv-loop μ-loop
+add-deletes c = search acts-turn
+
+sub-deletes : tie.Need-sub-deletes Inv-loop μ-loop
+sub-deletes c = search acts-turn
+
+part-deletes-start : tie.Need-part-deletes-start Inv-loop μ-loop
+part-deletes-start c = search acts-turn
+
+part-deletes-end : tie.Need-part-deletes-end Inv-loop μ-loop
+part-deletes-end c = search acts-turn
+
+deletes-requires : tie.Need-deletes-requires Inv-loop μ-loop
+deletes-requires c κs = search acts-turn
+
+add-p : tie.Need-add-p Inv-loop μ-loop
+add-p c = search acts-turn
+
+loop-less : tie.Need-loop-less Inv-loop μ-loop
+loop-less c = search acts-turn
+
+loop-again : tie.Need-loop-again Inv-loop μ-loop
+loop-again c = (search acts-turn, search acts-turn)
+
+enum-told : tie.Need-enum-told Inv-loop μ-loop
+enum-told c = search needs
+
+returns : tie.Need-returns Inv-loop μ-loop
+returns c = search acts-turn
+
+returns-2 : tie.Need-returns-2 Inv-loop μ-loop
+returns-2 c = search acts-turn
+
+pub deleted-from-spec : {M : Type 1} → statement M
+deleted-from-spec =
+    tie.close
+    (tie.spec
+    Inv-loop
+    μ-loop
+    loop-holds
+    stated-at-requires
+    enum-known-len
+    add-key-at
+    key-at-requires
+    add-deletes
+    sub-deletes
+    part-deletes-start
+    part-deletes-end
+    deletes-requires
+    add-p
+    loop-less
+    loop-again
+    enum-told
+    returns
+    returns-2)

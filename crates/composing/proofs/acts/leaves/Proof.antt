@@ -1,0 +1,20 @@
+use Rattle.composing.proofs.ActsLaws.{names-ways}
+use native.Mathlib.Omega.{arith}
+use borrow.Author.Needs.{needs}
+use Rattle.composing.proofs.acts.leaves.Statement.{statement}
+use Rattle.composing.proofs.acts.leaves.Tie as tie
+use Rattle.composing.proofs.acts.leaves.Reads as reads
+use Rattle.composing.proofs.acts.leaves.Lts as lts
+use Rattle.composing.proofs.acts.ruin.Reads as ruin-reads
+
+ruin-requires : tie.Need-ruin-requires
+ruin-requires c κs = search needs
+
+returns : tie.Need-returns
+returns c = search names-ways
+
+returns-2 : tie.Need-returns-2
+returns-2 c = search names-ways
+
+pub leaves-spec : {M : Type 1} → statement M
+leaves-spec = tie.close (tie.spec ruin-requires returns returns-2)

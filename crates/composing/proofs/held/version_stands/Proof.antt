@@ -1,0 +1,23 @@
+use Rattle.composing.proofs.HeldLaws.{held-ways}
+use borrow.Author.Needs.{needs}
+use native.Mathlib.Omega.{arith}
+use Rattle.composing.proofs.held.version_stands.Statement.{statement}
+use Rattle.composing.proofs.held.version_stands.Tie as tie
+use Rattle.composing.proofs.held.version_stands.Reads as reads
+use Rattle.composing.proofs.held.version_stands.Lts as lts
+use Rattle.composing.proofs.held.area_stands.Reads as area-stands-reads
+
+area-stands-requires : tie.Need-area-stands-requires
+area-stands-requires c κs = search needs
+
+returns : tie.Need-returns
+returns c = search held-ways
+
+area-stands-requires-2 : tie.Need-area-stands-requires-2
+area-stands-requires-2 c κs = search needs
+
+returns-2 : tie.Need-returns-2
+returns-2 c = search held-ways
+
+pub version-stands-spec : {M : Type 1} → statement M
+version-stands-spec = tie.close (tie.spec area-stands-requires returns area-stands-requires-2 returns-2)

@@ -1,0 +1,120 @@
+// What update records do with the record whose key they name.
+use contents::identifier::ruin_byte;
+use keys::look::key_at;
+use rules::Kind;
+use skeleton::directory::Shape;
+use skeleton::file::stated_at;
+use skeleton::leader::Head;
+use skeleton::place::Place;
+use skeleton::place::place_at;
+ghost use mathlib.Core.Path.{_≡_};
+ghost use mathlib.Core.Bool.{not};
+ghost use Prim.Native.Nat.{_/_};
+ghost use lib.Dec.{eqb};
+ghost use Rattle.base.specs.Choice.{pick, both, either};
+ghost use Rattle.skeleton.specs.Place.{fieldsAt};
+ghost use Rattle.skeleton.specs.Shape.{Bounded};
+ghost use Rattle.keys.specs.Look.{Sound};
+ghost use Rattle.composing.specs.Acts.{kindAt, ruinWith, fateFrom, deletedFrom};
+
+// The kind of a key.
+fn kind_of(key: u64) -> Kind
+    ensures { λ k. ⌜ k ≡ kindAt (key / 4294967296) ⌝ }
+{
+    let r = key / 4294967296;
+    if r == 1 {
+        return Kind::Info;
+    }
+    if r == 2 {
+        return Kind::Point;
+    }
+    if r == 3 {
+        return Kind::Multi;
+    }
+    Kind::Feature
+}
+
+// RUIN of the update record r, which names the key.
+fn ruin(r: &[u8], h: Shape, key: u64) -> u8
+    requires { ⌜ Bounded h ⌝ }
+    ensures { λ n. ⌜ n ≡ ruinWith key (fieldsAt (now (r .entry)) h 24) ⌝ }
+{
+    match place_at(r, h, 24) {
+        Place::At {
+            tag: _,
+            start,
+            end,
+            next: _,
+        } => ruin_byte(r, start, end, kind_of(key)),
+        Place::Done => 0,
+    }
+}
+
+// Whether a record stands under the key after the update record r, which names `found`; before: whether one stood.
+fn leaves(r: &[u8], h: Shape, found: u64, key: u64, before: bool) -> bool
+    requires { ⌜ Bounded h ⌝ }
+    ensures { λ b. ⌜ b ≡ pick (eqb found key) (not (eqb (ruinWith key (fieldsAt (now (r .entry)) h 24)) 2)) before ⌝ }
+{
+    if found == key {
+        return ruin(r, h, key) != 2;
+    }
+    before
+}
+
+// Whether the update record r, which names `found`, deletes the key, or one before it did.
+fn deletes(r: &[u8], h: Shape, found: u64, key: u64, before: bool) -> bool
+    requires { ⌜ Bounded h ⌝ }
+    ensures { λ b. ⌜ b ≡ either before (both (eqb found key) (eqb (ruinWith key (fieldsAt (now (r .entry)) h 24)) 2)) ⌝ }
+{
+    if before {
+        return true;
+    }
+    if found == key {
+        return ruin(r, h, key) == 2;
+    }
+    false
+}
+
+// Whether a record stands under the key after the update records from us on; before: whether one stood.
+pub fn fate(u: &[u8], us: usize, key: u64, before: bool) -> bool
+    requires { ⌜ Sound (now u) us ⌝ }
+    ensures { λ b. ⌜ b ≡ fateFrom (now (u .entry)) us key before ⌝ }
+{
+    let mut p = us;
+    let mut stands = before;
+    while p < u.len() {
+        match stated_at(u, p) {
+            Head::Good { len, base, a, b } => {
+                let found = key_at(u, p + base);
+                stands = leaves(&u[p..p + len], Shape { base, a, b }, found, key, stands);
+                p += len;
+            }
+            Head::Refused(_) => {
+                return stands;
+            }
+        }
+    }
+    stands
+}
+
+// Whether one of the update records from us on deletes the key.
+pub fn deleted_from(u: &[u8], us: usize, key: u64) -> bool
+    requires { ⌜ Sound (now u) us ⌝ }
+    ensures { λ b. ⌜ b ≡ deletedFrom (now (u .entry)) us key ⌝ }
+{
+    let mut p = us;
+    let mut gone = false;
+    while p < u.len() {
+        match stated_at(u, p) {
+            Head::Good { len, base, a, b } => {
+                let found = key_at(u, p + base);
+                gone = deletes(&u[p..p + len], Shape { base, a, b }, found, key, gone);
+                p += len;
+            }
+            Head::Refused(_) => {
+                return gone;
+            }
+        }
+    }
+    gone
+}

@@ -1,0 +1,5 @@
+// The records of an update's result, one by one.
+pub mod acts;
+pub mod held;
+pub mod naming;
+pub mod standing;
