@@ -35,15 +35,15 @@ use Rattle.writing.proofs.PartsLaws.{wrote-as}
 -- ---- one write of several
 
 -- what is left to write after a write
-put-on : {p p′ : ℕ} {xs out out′ : List ℕ} (ys : List ℕ) → Wrote p xs out p′ out′ → put p′ ys out′ ≡ put p (xs ++ ys) out
+pub put-on : {p p′ : ℕ} {xs out out′ : List ℕ} (ys : List ℕ) → Wrote p xs out p′ out′ → put p′ ys out′ ≡ put p (xs ++ ys) out
 put-on {p} {p′} {xs} {out} {out′} ys w = rw (w .is, w .next) (put-put p xs ys out)
 
 -- all was written
-put-all : {at p : ℕ} {ys out out₀ : List ℕ} (xs : List ℕ) → put p xs out ≡ put at ys out₀ → xs ≡ [] → p ≡ at + length ys → Wrote at ys out₀ p out
+pub put-all : {at p : ℕ} {ys out out₀ : List ℕ} (xs : List ℕ) → put p xs out ≡ put at ys out₀ → xs ≡ [] → p ≡ at + length ys → Wrote at ys out₀ p out
 put-all {at} {p} {ys} {out} {out₀} xs e z n = record { next = n; is = sym (put-nil p out) ∙ ap (λ (l : List ℕ). put p l out) (sym z) ∙ e }
 
 -- an entry is 14 bytes long
-length-entry : (tag size pos : ℕ) → length (entryBytes tag size pos) ≡ 14
+pub length-entry : (tag size pos : ℕ) → length (entryBytes tag size pos) ≡ 14
 unfolding entryBytes
 length-entry tag size pos =
     let a = length-digits 5 size in
