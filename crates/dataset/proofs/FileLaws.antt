@@ -1,4 +1,4 @@
--- Every refusal of a dataset's own records is at file 1. Assumes nothing.
+-- Every refusal of a file's own records is at that file: of a dataset, 1. Assumes nothing.
 use mathlib.Core.Path.{_≡_, refl, sym, _∙_, ap}
 use mathlib.Core.Bool.{Bool, true, false}
 use mathlib.Core.List.{List, [], _∷_, _++_}
@@ -11,7 +11,7 @@ use Rattle.base.specs.Check.{Check, ok, no, fault, Passed}
 use Rattle.base.specs.Walk.{Got}
 use Rattle.base.specs.declared.Fault.{Fault}
 use Rattle.base.proofs.ChoiceLaws.{by-test}
-use Rattle.skeleton.specs.File.{Field}
+use Rattle.skeleton.specs.File.{Field, recordsFrom}
 use Rattle.skeleton.specs.declared.leader.Head.{Head}
 use Rattle.skeleton.specs.declared.leader.Head.the-variants.{Good, Refused}
 use Rattle.rules.specs.Record.{Rec}
@@ -25,65 +25,71 @@ use Rattle.dataset.specs.Walk.{wholeFrom, walkedBy}
 use Rattle.dataset.specs.declared.walk.Walked.{Walked}
 use Rattle.dataset.specs.declared.walk.Walked.the-variants.{Over, Stopped}
 use Rattle.rules.specs.General.{generalRecord}
+use Rattle.rules.specs.declared.Mode.{Mode}
 use Rattle.rules.specs.declared.Mode.the-variants.{InDataset}
 
--- a refusal is at file 1
-unfoldable FileOne : {A : Type 0} → Outcome A → Type 0
-FileOne (done a) = Unit {0}
-FileOne (refused file n x) = file ≡ 1
+-- a refusal is at this file
+unfoldable pub AtFile : ℕ → {A : Type 0} → Outcome A → Type 0
+AtFile file (done a) = Unit {0}
+AtFile file (refused other n x) = other ≡ file
 
-one-then : {A B : Type 0} (c : Outcome A) (k : A → Outcome B) → FileOne c → ((a : A) → FileOne (k a)) → FileOne (andThen c k)
-unfolding andThen FileOne
-one-then (done a) k e f = f a
-one-then (refused file n x) k e f = e
+module _ (file : ℕ) where
+  pub file-then : {A B : Type 0} (c : Outcome A) (k : A → Outcome B) → AtFile file c → ((a : A) → AtFile file (k a)) → AtFile file (andThen c k)
+  unfolding andThen AtFile
+  file-then (done a) k e f = f a
+  file-then (refused other n x) k e f = e
 
-one-at : {A : Type 0} (n : ℕ) (c : Check A) → FileOne (at 1 n c)
-unfolding at FileOne
-one-at n (ok a) = tt
-one-at n (no x) = refl
+  pub file-at : {A : Type 0} (n : ℕ) (c : Check A) → AtFile file (at file n c)
+  unfolding at AtFile
+  file-at n (ok a) = tt
+  file-at n (no x) = refl
 
-one-done : {A : Type 0} (a : A) → FileOne (done a)
-unfolding FileOne
-one-done a = tt
+  pub file-done : {A : Type 0} (a : A) → AtFile file (done a)
+  unfolding AtFile
+  file-done a = tt
 
-one-refused : (A : Type 0) (n : ℕ) (x : Fault) → FileOne {A = A} (refused 1 n x)
-unfolding FileOne
-one-refused A n x = refl
+  file-refused : (A : Type 0) (n : ℕ) (x : Fault) → AtFile file {A = A} (refused file n x)
+  unfolding AtFile
+  file-refused A n x = refl
 
-one-tested : (n : ℕ) (test : List Field → Passed) (f : List ℕ) (p : ℕ) (q : Head) → FileOne (testedBy 1 n test f p q)
-one-tested n test f p (Good len base a b) = one-then _ _ (one-at n _) (λ _. one-done _)
-one-tested n test f p (Refused k) = one-refused ℕ n _
+  file-tested : (n : ℕ) (test : List Field → Passed) (f : List ℕ) (p : ℕ) (q : Head) → AtFile file (testedBy file n test f p q)
+  file-tested n test f p (Good len base a b) = file-then _ _ (file-at n _) (λ _. file-done _)
+  file-tested n test f p (Refused k) = file-refused ℕ n _
 
-one-carried : (n : ℕ) (test : List Field → Passed) (f : List ℕ) (p : ℕ) → FileOne (carried 1 n test f p)
-unfolding carried
-one-carried n test f p = one-tested n test f p (headAt f n p)
+  pub file-carried : (n : ℕ) (test : List Field → Passed) (f : List ℕ) (p : ℕ) → AtFile file (carried file n test f p)
+  unfolding carried
+  file-carried n test f p = file-tested n test f p (headAt f n p)
 
-one-three : (f : List ℕ) → FileOne (firstThree f)
-unfolding firstThree firstTwo
-one-three f =
-    one-then _ _ (one-then _ _ (one-carried 1 unread f 0) (λ p. one-carried 2 (generalRecord InDataset) f p)) (λ p. one-carried 3 beginsCsid f p)
+  pub file-two : (m : Mode) (f : List ℕ) → AtFile file (firstTwo file m f)
+  unfolding firstTwo
+  file-two m f = file-then _ _ (file-carried 1 unread f 0) (λ p. file-carried 2 (generalRecord m) f p)
 
-one-through : (n : ℕ) (seen : List Rec) (items : List (List Field)) → FileOne (through datasetTest 1 n seen items)
-unfolding through
-one-through n seen [] = one-done _
-one-through n seen (fs ∷ rest) =
-    one-then _ _ (one-at n _) (λ new. one-then _ _ (one-through (n + 1) (new ++ seen) rest) (λ later. one-done _))
+  module _ (test : ℕ → List Rec → List Field → Check (List Rec)) where
+    file-through : (n : ℕ) (seen : List Rec) (items : List (List Field)) → AtFile file (through test file n seen items)
+    unfolding through
+    file-through n seen [] = file-done _
+    file-through n seen (fs ∷ rest) =
+        file-then _ _ (file-at n _) (λ new. file-then _ _ (file-through (n + 1) (new ++ seen) rest) (λ later. file-done _))
 
-one-ending : (least n e : ℕ) (a : List Rec) → FileOne (ending 1 least n e a)
-unfolding ending
-one-ending least n e a =
-    by-test FileOne (eqb e 0) _ _ (λ _. by-test FileOne (leb n least) _ _ (λ _. one-refused (List Rec) n _) (λ _. one-done a)) (λ _. one-refused (List Rec) n _)
+    file-ending : (least n e : ℕ) (a : List Rec) → AtFile file (ending file least n e a)
+    unfolding ending
+    file-ending least n e a =
+        by-test (AtFile file) (eqb e 0) _ _ (λ _. by-test (AtFile file) (leb n least) _ _ (λ _. file-refused (List Rec) n _) (λ _. file-done a)) (λ _. file-refused (List Rec) n _)
 
-one-fourth : (f : List ℕ) (start : ℕ) → FileOne (fromFourth f start)
-unfolding taken
-one-fourth f start = one-then _ _ (one-through 4 [] _) (λ recs. one-ending 3 _ _ recs)
+    pub file-taken : (least n : ℕ) (seen : List Rec) (g : Got (List Field)) → AtFile file (taken test file least n seen g)
+    unfolding taken
+    file-taken least n seen g = file-then _ _ (file-through n seen _) (λ recs. file-ending least _ _ recs)
+
+one-three : (f : List ℕ) → AtFile 1 (firstThree f)
+unfolding firstThree
+one-three f = file-then 1 _ _ (file-two 1 InDataset f) (λ p. file-carried 1 3 beginsCsid f p)
 
 -- ---- what code answers, in the words of the rules
 
-shut-is : (c : Outcome ℕ) → FileOne c → (k n i j : ℕ) → Shut k n i j ≡ openedBy c → c ≡ refused 1 n (fault k i j)
-unfolding openedBy FileOne
-shut-is (done a) o k n i j e = absurd (let y : _≡_ {A = ℕ} 0 1 = cc in omega arith)
-shut-is (refused file m x) o k n i j e =
+pub shut-is : (file : ℕ) (c : Outcome ℕ) → AtFile file c → (k n i j : ℕ) → Shut k n i j ≡ openedBy c → c ≡ refused file n (fault k i j)
+unfolding openedBy AtFile
+shut-is file (done a) o k n i j e = absurd (let y : _≡_ {A = ℕ} 0 1 = cc in omega arith)
+shut-is file (refused other m x) o k n i j e =
     let a : k ≡ x .number = cc in
     let b : n ≡ m = cc in
     let c : i ≡ x .field = cc in
@@ -91,10 +97,10 @@ shut-is (refused file m x) o k n i j e =
     rw (o, a, b, c, d)
 
 pub first-shut : (f : List ℕ) (k n i j : ℕ) → Shut k n i j ≡ openedBy (firstThree f) → firstThree f ≡ refused 1 n (fault k i j)
-first-shut f k n i j e = shut-is (firstThree f) (one-three f) k n i j e
+first-shut f k n i j e = shut-is 1 (firstThree f) (one-three f) k n i j e
 
-later-is : (c : Outcome (List Rec)) → FileOne c → (m k n i j : ℕ) → Stopped k n i j ≡ walkedBy m (unreadOf c) → c ≡ refused 1 n (fault k i j)
-unfolding walkedBy FileOne unreadOf andThen
+later-is : (c : Outcome (List Rec)) → AtFile 1 c → (m k n i j : ℕ) → Stopped k n i j ≡ walkedBy m (unreadOf c) → c ≡ refused 1 n (fault k i j)
+unfolding walkedBy AtFile unreadOf andThen
 later-is (done a) o m k n i j e = absurd (let y : _≡_ {A = ℕ} 0 1 = cc in omega arith)
 later-is (refused file r x) o m k n i j e =
     let a : k ≡ x .number = cc in
@@ -105,7 +111,7 @@ later-is (refused file r x) o m k n i j e =
 
 pub later-stopped : (f : List ℕ) (start m k n i j : ℕ) → Stopped k n i j ≡ walkedBy m (wholeFrom f start) → fromFourth f start ≡ refused 1 n (fault k i j)
 unfolding outcomeFrom
-later-stopped f start m k n i j e = later-is (fromFourth f start) (one-fourth f start) m k n i j e
+later-stopped f start m k n i j e = later-is (fromFourth f start) (file-taken 1 datasetTest 3 4 [] (recordsFrom f start)) m k n i j e
 
 over-is : (c : Outcome (Unit {0})) (m count : ℕ) → Over m ≡ walkedBy count c → (m ≡ count) × (c ≡ done tt)
 unfolding walkedBy

@@ -119,13 +119,14 @@ pub ruleset placed-ways = (placed-five, placed-tag)
 abbrev pub seventh : List (List ℕ) → List Field → Kind → Check Rec
 seventh earlier fs k = pick (among (keyNamed k fs) earlier) (no (fault 7 1 0)) (bind (number7 fs) (λ _. ok (recOf k fs)))
 
-behind : (k : Kind) (b c : Passed) (g : Kind → Check Rec) → bind b (λ _. bind c (λ _. g k)) ≡ bind (bind b (λ _. bind c (λ _. ok k))) g
+behind : {A : Type 0} (k : Kind) (b c : Passed) (g : Kind → Check A) → bind b (λ _. bind c (λ _. g k)) ≡ bind (bind b (λ _. bind c (λ _. ok k))) g
 unfolding bind
 behind k (ok u) (ok v) g = refl
 behind k (ok u) (no y) g = refl
 behind k (no y) c g = refl
 
-regroup : (a : Check Kind) (b c : Kind → Passed) (g : Kind → Check Rec)
+-- three tests and then another are the three, with the kind that the first gives, and then the other
+pub regroup : {A : Type 0} (a : Check Kind) (b c : Kind → Passed) (g : Kind → Check A)
     → bind a (λ k. bind (b k) (λ _. bind (c k) (λ _. g k))) ≡ bind (bind a (λ k. bind (b k) (λ _. bind (c k) (λ _. ok k)))) g
 unfolding bind
 regroup (ok k) b c g = behind k (b k) (c k) g

@@ -16,13 +16,12 @@ use Rattle.base.specs.Walk.{Got, before}
 use Rattle.base.specs.declared.Fault.{Fault}
 use Rattle.base.proofs.ChoiceLaws.{by-test}
 use Rattle.skeleton.specs.File.{Field, recordsFrom, recordsOf}
-use Rattle.skeleton.specs.Place.{between, fieldsAt}
 use Rattle.skeleton.specs.Record.{recordAt}
 use Rattle.skeleton.specs.declared.leader.Head.{Head}
 use Rattle.skeleton.specs.declared.leader.Head.the-variants.{Good, Refused}
 use Rattle.base.proofs.WalkLaws.{by-measure}
 use Rattle.skeleton.proofs.FileLaws.{records-more, records-refused, records-over, records-all}
-use Rattle.skeleton.proofs.RecordLaws.{right, record-falls}
+use Rattle.skeleton.proofs.RecordLaws.{record-falls}
 use Rattle.rules.specs.Associations.{Mark, marks, number11}
 use Rattle.rules.specs.Record.{Rec, keyOf}
 use Rattle.rules.specs.General.{generalRecord}
@@ -31,12 +30,12 @@ use Rattle.rules.specs.Outcome.{Outcome, done, refused, andThen, at, everyRecor
 use Rattle.rules.specs.File.{Stored, storedAs, datasetTest, taken, datasetOf, references, readDataset}
 use Rattle.rules.specs.Answers.{refusal, success, notTooLong, readOutcome, readAnswer, read}
 use Rattle.rules.specs.declared.Mode.the-variants.{InDataset}
-use Rattle.rules.proofs.OutcomeLaws.{andThen-inv, done-inj}
-use Rattle.opening.specs.Carried.{headAt, testedBy, carried, beginsCsid, unread, firstTwo, firstThree, openedBy}
+use Rattle.rules.proofs.OutcomeLaws.{andThen-inv}
+use Rattle.opening.specs.Carried.{carried, beginsCsid, unread, firstTwo, firstThree, openedBy}
 use Rattle.opening.specs.declared.carried.Opened.{Opened}
 use Rattle.opening.specs.declared.carried.Opened.the-variants.{Behind, Stopped as Shut}
 use Rattle.opening.proofs.CarriedLaws.{there, behind-in, behind-is}
-use Rattle.opening.proofs.OpeningLaws.{fromFourth, opened}
+use Rattle.opening.proofs.OpeningLaws.{carried-over, fromFourth, opened}
 use Rattle.keys.specs.Listed.{keysFrom}
 use Rattle.keys.specs.Standing.{outcomeFrom, referencesFrom, unread as unreadOf}
 use Rattle.keys.proofs.ReferenceLaws.{Reads, taken-reads, unread-done, references-start}
@@ -50,38 +49,17 @@ use Rattle.references.specs.declared.dataset.Linked.the-variants.{All, Loose}
 
 -- ---- the fields behind the third record
 
--- a record that was carried is one more of the file
-carried-more : (file n : ℕ) (test : List Field → Passed) (f : List ℕ) (p e : ℕ) → carried file n test f p ≡ done e
-    → (fs : List Field) × (recordsFrom f p ≡ before fs (recordsFrom f e)) × (p < length f)
-unfolding carried
-carried-more file n test f p e z = by-head (headAt f n p) refl z
-  where
-    by-head : (q : Head) → q ≡ headAt f n p → testedBy file n test f p q ≡ done e
-        → (fs : List Field) × (recordsFrom f p ≡ before fs (recordsFrom f e)) × (p < length f)
-    by-head (Refused k) eq y = absurd (let w : _≡_ {A = ℕ} 0 1 = cc in omega arith)
-    by-head (Good len base a b) eq y =
-        let r = there f n p (Good len base a b) eq len base a b refl in
-        let k = right f p (Good len base a b) r len base a b refl in
-        let h : p < length f = omega arith in
-        let i = andThen-inv (at file n (test (fieldsAt (between f p (p + len)) (record { base = base; a = a; b = b }) 24))) (λ _. done (p + len)) e y in
-        let w : p + len ≡ e = done-inj (p + len) e (i .2) in (
-          fieldsAt (between f p (p + len)) (record { base = base; a = a; b = b }) 24,
-          records-more f p h (Good len base a b) r len base a b refl ∙ ap (λ (m : ℕ). before (fieldsAt (between f p (p + len)) (record { base = base; a = a; b = b }) 24) (recordsFrom f m)) w,
-          h,
-        )
-
 -- the records of a file are the first three, and those from the place behind them on
 pub three-items : (f : List ℕ) (start : ℕ) → firstThree f ≡ done start → drop 3 ((recordsOf f) .items) ≡ (recordsFrom f start) .items
 unfolding firstThree firstTwo
 three-items f start z =
     let x = andThen-inv (andThen (carried 1 1 unread f 0) (λ p. carried 1 2 (generalRecord InDataset) f p)) (λ q. carried 1 3 beginsCsid f q) start z in
     let y = andThen-inv (carried 1 1 unread f 0) (λ p. carried 1 2 (generalRecord InDataset) f p) (x .0) (x .1) in
-    let a = carried-more 1 1 unread f 0 (y .0) (y .1) in
-    let b = carried-more 1 2 (generalRecord InDataset) f (y .0) (x .0) (y .2) in
-    let c = carried-more 1 3 beginsCsid f (x .0) start (x .2) in
-    let h : 0 < length f = a .2 in
-    let e : recordsOf f ≡ before (a .0) (before (b .0) (before (c .0) (recordsFrom f start)))
-    = records-all f (λ (w : length f ≡ 0). omega arith) ∙ a .1 ∙ ap (before (a .0)) (b .1 ∙ ap (before (b .0)) (c .1)) in
+    let a = carried-over 1 1 unread f 0 (y .0) (y .1) in
+    let b = carried-over 1 2 (generalRecord InDataset) f (y .0) (x .0) (y .2) in
+    let c = carried-over 1 3 beginsCsid f (x .0) start (x .2) in
+    let h : 0 < length f = a .inside in
+    let e = records-all f (λ (w : length f ≡ 0). omega arith) ∙ a .one-more ∙ ap (before _) (b .one-more ∙ ap (before _) (c .one-more)) in
     ap (λ (g : Got (List Field)). drop 3 (g .items)) e
 
 -- the place behind them lies in the file

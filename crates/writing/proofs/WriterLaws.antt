@@ -43,7 +43,7 @@ pub put-all : {at p : ℕ} {ys out out₀ : List ℕ} (xs : List ℕ) → put p 
 put-all {at} {p} {ys} {out} {out₀} xs e z n = record { next = n; is = sym (put-nil p out) ∙ ap (λ (l : List ℕ). put p l out) (sym z) ∙ e }
 
 -- an entry is 14 bytes long
-length-entry : (tag size pos : ℕ) → length (entryBytes tag size pos) ≡ 14
+pub length-entry : (tag size pos : ℕ) → length (entryBytes tag size pos) ≡ 14
 unfolding entryBytes
 length-entry tag size pos =
     let a = length-digits 5 size in

@@ -1,0 +1,6 @@
+pub mod PassedLaws
+pub mod NamingLaws
+pub mod OnceLaws
+pub mod SourceLaws
+pub mod MergingLaws
+pub mod WholeLaws

@@ -1,0 +1,3 @@
+pub mod SingleLaws
+pub mod ComingLaws
+pub mod FittingLaws
