@@ -1,7 +1,7 @@
 -- What the key of a record, or of a reference, is, where its field has its format. Assumes nothing.
 use mathlib.Core.Path.{_≡_, refl, sym, ap, _∙_}
 use mathlib.Core.List.{List, _∷_}
-use mathlib.Core.Bool.{Bool, true, not}
+use mathlib.Core.Bool.{Bool, true, false, not}
 use mathlib.Core.Option.{some}
 use Prim.Native.Nat.{ℕ, _+_, _*_, _≤_, _<_}
 use native.Mathlib.Omega.{arith}
@@ -33,6 +33,7 @@ use Rattle.rules.specs.Content.{identFormat, insertOnly, stands, filled as fill
 use Rattle.rules.specs.Record.{identOf, keyNamed}
 use Rattle.rules.specs.declared.Kind.{Kind}
 use Rattle.rules.specs.declared.Kind.the-variants.{Info, Point, Multi, Feature}
+use Rattle.rules.specs.declared.Mode.{Mode}
 use Rattle.rules.specs.declared.Mode.the-variants.{InDataset}
 use Rattle.keys.specs.Key.{rankOf, keyAt}
 use Rattle.keys.specs.Listed.{keyOf}
@@ -81,20 +82,29 @@ stands-fill i k b u e = go (not (empty (tupleOf k))) (tallyField (headOf k) (tup
     go t (Whole n) x h = count-fill (headOf k) (tupleOf k) b n x
     go t (Short j) x h = absurd (let z : _≡_ {A = ℕ} 0 1 = cc in omega arith)
 
--- the identifier of each kind, where every instruction is insert
-ident-opens : (k : Kind) (b : List ℕ) → fill (headOf (identFormat true k)) (tupleOf (identFormat true k)) b ≡ true → Opens (rcnm k) b
+-- the identifier of each kind, in a dataset and in an update
+ident-opens : (new : Bool) (k : Kind) (b : List ℕ) → fill (headOf (identFormat new k)) (tupleOf (identFormat new k)) b ≡ true → Opens (rcnm k) b
 unfolding identFormat headOf rcnm
-ident-opens Info b e = opens-of 150 _ b _ (filled _ _ b e .taken)
-ident-opens Point b e = opens-of 110 _ b _ (filled _ _ b e .taken)
-ident-opens Multi b e = opens-of 115 _ b _ (filled _ _ b e .taken)
-ident-opens Feature b e = opens-of 100 _ b _ (filled _ _ b e .taken)
+ident-opens true Info b e = opens-of 150 _ b _ (filled _ _ b e .taken)
+ident-opens true Point b e = opens-of 110 _ b _ (filled _ _ b e .taken)
+ident-opens true Multi b e = opens-of 115 _ b _ (filled _ _ b e .taken)
+ident-opens true Feature b e = opens-of 100 _ b _ (filled _ _ b e .taken)
+ident-opens false Info b e = opens-of 150 _ b _ (filled _ _ b e .taken)
+ident-opens false Point b e = opens-of 110 _ b _ (filled _ _ b e .taken)
+ident-opens false Multi b e = opens-of 115 _ b _ (filled _ _ b e .taken)
+ident-opens false Feature b e = opens-of 100 _ b _ (filled _ _ b e .taken)
 
-ident-rcid : (k : Kind) (b : List ℕ) → fill (headOf (identFormat true k)) (tupleOf (identFormat true k)) b ≡ true → (identOf k b) .rcid ≡ le 4 (drop 1 b)
+ident-rcid : (new : Bool) (k : Kind) (b : List ℕ) → fill (headOf (identFormat new k)) (tupleOf (identFormat new k)) b ≡ true
+    → (identOf k b) .rcid ≡ le 4 (drop 1 b)
 unfolding identOf identFormat coded headOf values
-ident-rcid Info b e = head-number _ _ b e 1 1 4 refl refl .1
-ident-rcid Point b e = head-number _ _ b e 1 1 4 refl refl .1
-ident-rcid Multi b e = head-number _ _ b e 1 1 4 refl refl .1
-ident-rcid Feature b e = head-number _ _ b e 1 1 4 refl refl .1
+ident-rcid true Info b e = head-number _ _ b e 1 1 4 refl refl .1
+ident-rcid true Point b e = head-number _ _ b e 1 1 4 refl refl .1
+ident-rcid true Multi b e = head-number _ _ b e 1 1 4 refl refl .1
+ident-rcid true Feature b e = head-number _ _ b e 1 1 4 refl refl .1
+ident-rcid false Info b e = head-number _ _ b e 1 1 4 refl refl .1
+ident-rcid false Point b e = head-number _ _ b e 1 1 4 refl refl .1
+ident-rcid false Multi b e = head-number _ _ b e 1 1 4 refl refl .1
+ident-rcid false Feature b e = head-number _ _ b e 1 1 4 refl refl .1
 
 rank-rcnm : (k : Kind) → rankOf (rcnm k) ≡ rank k
 unfolding rankOf rcnm rank
@@ -110,7 +120,7 @@ rank-some Point = omega arith
 rank-some Multi = omega arith
 rank-some Feature = omega arith
 
--- ---- a record of a dataset that has passed number 5
+-- ---- a record that has passed number 5
 
 -- its key, as the rules have it and as a number
 pub record Keyed (k : Kind) (fs : List Field) : Type 0 where
@@ -119,11 +129,11 @@ pub record Keyed (k : Kind) (fs : List Field) : Type 0 where
   pub kind : kindIn (keyOf fs) ≡ rank k
   pub some : keyOf fs ≡ 0 → ⊥
 
-keyed-of : (k : Kind) (fs : List Field) → fill (headOf (identFormat true k)) (tupleOf (identFormat true k)) (front fs) ≡ true → Keyed k fs
+keyed-of : (new : Bool) (k : Kind) (fs : List Field) → fill (headOf (identFormat new k)) (tupleOf (identFormat new k)) (front fs) ≡ true → Keyed k fs
 unfolding keyOf keyNamed numberOf
-keyed-of k fs e =
-    let o = ident-opens k (front fs) e in
-    let i = ident-rcid k (front fs) e in
+keyed-of new k fs e =
+    let o = ident-opens new k (front fs) e in
+    let i = ident-rcid new k (front fs) e in
     let s = o .small in
     let p = rank-some k in
     let r = rank-rcnm k in
@@ -136,8 +146,11 @@ keyed-of k fs e =
       some = λ z. omega arith;
     }
 
+pub keyed-by : (m : Mode) (k : Kind) (f : Field) (fs : List Field) (u : Unit {0}) → number5 m k (f ∷ fs) ≡ ok u → Keyed k (f ∷ fs)
+unfolding number5 front
+keyed-by m k f fs u e =
+    let r = bind-inv (stands 1 (identFormat (insertOnly m) k) (f .body)) _ u e in
+    keyed-of (insertOnly m) k (f ∷ fs) (stands-fill 1 (identFormat (insertOnly m) k) (f .body) (r .0) (r .1))
+
 pub keyed-passed : (k : Kind) (f : Field) (fs : List Field) (u : Unit {0}) → number5 InDataset k (f ∷ fs) ≡ ok u → Keyed k (f ∷ fs)
-unfolding number5 insertOnly front
-keyed-passed k f fs u e =
-    let r = bind-inv (stands 1 (identFormat true k) (f .body)) _ u e in
-    keyed-of k (f ∷ fs) (stands-fill 1 (identFormat true k) (f .body) (r .0) (r .1))
+keyed-passed k f fs u e = keyed-by InDataset k f fs u e

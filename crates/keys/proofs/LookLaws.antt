@@ -15,7 +15,7 @@ use Rattle.skeleton.specs.Leader.{within, statedOf}
 use Rattle.skeleton.specs.declared.digits.Number.{Number}
 use Rattle.skeleton.specs.declared.digits.Number.the-variants.{Value, NotDigits}
 use Rattle.skeleton.proofs.DigitsLaws.{number-small}
-use Rattle.skeleton.specs.File.{Field}
+use Rattle.skeleton.specs.File.{Field, recordsFrom}
 use Rattle.skeleton.specs.Place.{between, fieldsAt}
 use Rattle.skeleton.specs.Record.{recordAt, statedAt}
 use Rattle.skeleton.specs.declared.leader.Head.{Head}
@@ -69,9 +69,10 @@ module _ (f : List ℕ) (p : ℕ) (l : p < length f) (h : Head) (eh : h ≡ reco
   unfolding lookAt
   look-is n = let w = right f p h eh len base a b x in rw (w .again, first-key f p len base a b (w .walked) n) refl
 
--- the keys from p on are this one, and then those from p + len on
+-- the keys from p on are this one, and then those from p + len on, and so it is with the records
 pub record Found (f : List ℕ) (p len key : ℕ) : Type 0 where
   pub keys : keysFrom f p ≡ key ∷ keysFrom f (p + len)
+  pub later : drop 1 ((recordsFrom f p) .items) ≡ (recordsFrom f (p + len)) .items
   pub long : 0 < len
   pub inside : p + len ≤ length f
 
@@ -86,7 +87,12 @@ found-of f p k ks e n l (Good len base a b) eh =
     let g = keys-good f p l _ eh len base a b refl in
     let same : keyOf (fieldsAt (between f p (p + len)) (record { base = base; a = a; b = b }) 24) ≡ k = let c = sym g ∙ e in cc in
     rw (look-is f p l _ eh len base a b refl (λ z. n (sym same ∙ z)))
-    (record { keys = g; long = let x = w .long in omega arith; inside = w .inside })
+    (record {
+      keys = g;
+      later = ap (λ (m : Got (List Field)). drop 1 (m .items)) (records-more f p l _ eh len base a b refl);
+      long = let x = w .long in omega arith;
+      inside = w .inside;
+    })
 found-of f p k ks e n l (Refused j) eh = absurd (omega (arith, ap length e, ap length (keys-refused f p l _ eh j refl)))
 
 pub found : (f : List ℕ) (p k : ℕ) (ks : List ℕ) → keysFrom f p ≡ k ∷ ks → (k ≡ 0 → ⊥) → FoundBy f p (lookAt f p)

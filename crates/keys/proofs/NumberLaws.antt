@@ -46,7 +46,7 @@ module _ (a b : List ℕ) (p : Ranged a) (q : Ranged b) where
   unfolding numberOf
   number-b = rw (q .parts) refl
 
-  number-inj : numberOf b ≡ numberOf a → a ≡ b
+  pub number-inj : numberOf b ≡ numberOf a → a ≡ b
   number-inj e =
       let x = p .small in
       let y = q .small in

@@ -5,7 +5,8 @@ use mathlib.Core.Bool.{Bool, true, false, true≢false}
 use Prim.Native.Nat.{ℕ, _+_, _-_, _/_, _^_, _≤_, _<_}
 use native.Mathlib.Omega.{arith}
 use lib.ListN.{length, getD, drop}
-use lib.Seq.{drop-drop}
+use Rattle.base.specs.Walk.{Got}
+use Rattle.skeleton.specs.File.{recordsFrom}
 use Rattle.keys.specs.Bits.{flagOf}
 use Rattle.keys.specs.Listed.{keysFrom, hasFrom}
 use Rattle.keys.specs.Look.{lookAt, Sound}
@@ -17,7 +18,7 @@ use Rattle.keys.proofs.ListLaws.{listed-here, listed-drop}
 use Rattle.keys.proofs.LookLaws.{Found}
 use Rattle.keys.proofs.SoundLaws.{Next, sound-next, sound-word}
 use Rattle.keys.proofs.SlotLaws.{slots-say}
-use Rattle.keys.proofs.TableLaws.{tail-start}
+use Rattle.keys.proofs.TableLaws.{tail-start, drop-one}
 
 -- ---- `near`, by the look e at p
 
@@ -29,7 +30,8 @@ module _ (f : List ℕ) (start p : ℕ) (l : Tail f start p) (e : Look) (en : e 
   near-on = record {
     sound = next .sound;
     skipped = l .skipped + 1;
-    rest = sym (drop-drop 1 (l .skipped) (keysFrom f start)) ∙ ap (drop 1) (l .rest ∙ next .found .keys);
+    rest = drop-one (l .skipped) (keysFrom f start) (l .rest ∙ next .found .keys);
+    same = drop-one (l .skipped) ((recordsFrom f start) .items) (l .same) ∙ next .found .later;
   }
 
   pub near-word : p + len < 2 ^ 64

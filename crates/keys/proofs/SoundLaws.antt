@@ -1,14 +1,14 @@
 -- Laws of a walk over the records of a file that was found right. Assumes nothing.
-use mathlib.Core.Path.{_≡_, refl, sym, _∙_}
+use mathlib.Core.Path.{_≡_, refl, sym, ap, _∙_}
 use mathlib.Core.List.{List, _∷_}
 use mathlib.Core.Bool.{Bool, true, false}
 use Prim.Native.Nat.{ℕ, _+_, _-_, _^_, _≤_, _<_}
 use native.Mathlib.Omega.{arith}
 use borrow.Author.Tests.{lt-ltb, ltb-true, ltb-false}
-use lib.ListN.{length}
+use lib.ListN.{length, drop}
 use lib.Dec.{ltb}
 use Rattle.base.specs.Walk.{Got}
-use Rattle.skeleton.specs.File.{recordsFrom}
+use Rattle.skeleton.specs.File.{Field, recordsFrom}
 use Rattle.skeleton.specs.Place.{between, fieldsAt}
 use Rattle.skeleton.specs.Record.{recordAt, statedAt}
 use Rattle.skeleton.specs.declared.leader.Head.{Head}
@@ -42,7 +42,12 @@ next-of f p s l (Good len base a b) eh =
     let c : (recordsFrom f (p + len)) .ending ≡ 0 = rw (records-more f p l _ eh len base a b refl) at (s .clean) in
     rw (look-is f p l _ eh len base a b refl (not-first 0 (keyOf fs) (keysFrom f (p + len)) k))
     (record {
-      found = record { keys = g; long = let x = w .long in omega arith; inside = w .inside };
+      found = record {
+        keys = g;
+        later = ap (λ (m : Got (List Field)). drop 1 (m .items)) (records-more f p l _ eh len base a b refl);
+        long = let x = w .long in omega arith;
+        inside = w .inside;
+      };
       sound = record { small = s .small; inside = w .inside; clean = c; keyed = not-later 0 (keyOf fs) (keysFrom f (p + len)) k };
     })
 next-of f p s l (Refused j) eh =

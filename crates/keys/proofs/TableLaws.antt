@@ -6,10 +6,12 @@ use Prim.Native.Nat.{ℕ, _+_, _^_, _≤_, _<_}
 use native.Mathlib.Omega.{arith}
 use borrow.Author.Tests.{eqb-true, eqb-false}
 use lib.ListN.{length, getD, take, drop, set, length-set, length-drop, replicate, length-replicate, getD-replicate}
-use lib.Seq.{take-all, getD-set-same, getD-set-other}
+use lib.Seq.{take-all, drop-drop, getD-set-same, getD-set-other}
 use lib.Dec.{eqb}
 use Rattle.memory.specs.Hold.{zeros}
 use Rattle.memory.proofs.HoldLaws.{length-zeros}
+use Rattle.base.specs.Walk.{Got}
+use Rattle.skeleton.specs.File.{recordsFrom}
 use Rattle.keys.specs.Listed.{keysFrom}
 use Rattle.keys.specs.Look.{lookAt, Sound}
 use Rattle.keys.specs.Slots.{Slots, noted}
@@ -25,7 +27,7 @@ use Rattle.keys.proofs.SlotLaws.{slots-none, slots-more, noted-long}
 -- ---- places of records
 
 pub tail-start : (f : List ℕ) (start : ℕ) → Sound f start → Tail f start start
-tail-start f start s = record { sound = s; skipped = 0; rest = refl }
+tail-start f start s = record { sound = s; skipped = 0; rest = refl; same = refl }
 
 -- a table that names one place everywhere
 pub tails-same : (f : List ℕ) (start n : ℕ) → Sound f start → Tails f start (replicate n start)
@@ -57,22 +59,27 @@ set-long t u j p n e h = ap length e ∙ length-set t j p ∙ h
 pub put-past : (t : List ℕ) (i v : ℕ) → length t ≤ i → t ≡ set t i v
 put-past t i v h = sym (set-past t i v h)
 
+-- one more is left out
+pub drop-one : {A : Type 0} {m : List A} (i : ℕ) (l : List A) → drop i l ≡ m → drop (i + 1) l ≡ drop 1 m
+drop-one i l e = sym (drop-drop 1 i l) ∙ ap (drop 1) e
+
 -- ---- `spread`: i records were passed, the next begins at p, and the map has the keys of those
 
 pub record Passed (f : List ℕ) (start i p : ℕ) (map : List ℕ) : Type 0 where
   pub sound : Sound f p
   pub counted : i ≤ p
   pub rest : drop i (keysFrom f start) ≡ keysFrom f p
+  pub same : drop i ((recordsFrom f start) .items) ≡ (recordsFrom f p) .items
   pub slots : Slots (take i (keysFrom f start)) map
 
 pub passed-none : (f : List ℕ) (start : ℕ) (map : List ℕ) (n : ℕ) → Sound f start → map ≡ zeros n → Passed f start 0 start map
-passed-none f start map n s e = record { sound = s; counted = omega arith; rest = refl; slots = rw e (slots-none n) }
+passed-none f start map n s e = record { sound = s; counted = omega arith; rest = refl; same = refl; slots = rw e (slots-none n) }
 
 pub passed-sound : (f : List ℕ) (start i p : ℕ) (map : List ℕ) → Passed f start i p map → Sound f p
 passed-sound f start i p map s = s .sound
 
 pub passed-tail : (f : List ℕ) (start i p : ℕ) (map : List ℕ) → Passed f start i p map → Tail f start p
-passed-tail f start i p map s = record { sound = s .sound; skipped = i; rest = s .rest }
+passed-tail f start i p map s = record { sound = s .sound; skipped = i; rest = s .rest; same = s .same }
 
 pub passed-count : (f : List ℕ) (start i p : ℕ) (map : List ℕ) → Passed f start i p map → i ≤ 16777216
 passed-count f start i p map s = let a = s .counted in let b = s .sound .inside in let c = s .sound .small in omega arith
@@ -94,6 +101,7 @@ module _ (f : List ℕ) (start i p : ℕ) (map : List ℕ) (s : Passed f start i
         sound = n .sound;
         counted = omega arith;
         rest = split-drop (keysFrom f start) i key (keysFrom f (p + len)) k;
+        same = drop-one i ((recordsFrom f start) .items) (s .same) ∙ n .found .later;
         slots = rw (split-take (keysFrom f start) i key (keysFrom f (p + len)) k) (slots-more (take i (keysFrom f start)) map map' key (s .slots) em);
       }
 

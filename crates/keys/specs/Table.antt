@@ -3,6 +3,8 @@ use Prim.Native.Nat.{ℕ, _≤_, _<_}
 use mathlib.Core.Path.{_≡_}
 use mathlib.Core.List.{List}
 use lib.ListN.{length, getD, drop}
+use Rattle.base.specs.Walk.{Got}
+use Rattle.skeleton.specs.File.{recordsFrom}
 use Rattle.keys.specs.Listed.{keysFrom}
 use Rattle.keys.specs.Look.{Sound}
 use Rattle.keys.specs.Slots.{Slots}
@@ -12,6 +14,7 @@ pub record Tail (f : List ℕ) (start p : ℕ) : Type 0 where
   pub sound : Sound f p
   pub skipped : ℕ
   pub rest : drop skipped (keysFrom f start) ≡ keysFrom f p
+  pub same : drop skipped ((recordsFrom f start) .items) ≡ (recordsFrom f p) .items
 
 -- so it is at each entry of the table, whether it was filled or not
 unfoldable pub Tails : List ℕ → ℕ → List ℕ → Type 0
