@@ -47,7 +47,7 @@ pub record Sendable (fs : List Field) : Type 0 where
   pub tested : updateRecord fs ≡ ok kind
 
 -- what it passed
-tests : (fs : List Field) (k : Kind) → updateRecord fs ≡ ok k
+pub tests : (fs : List Field) (k : Kind) → updateRecord fs ≡ ok k
     → (number4 InUpdate 0 fs ≡ ok k) × (number5 InUpdate k fs ≡ pass) × (number6 InUpdate k fs ≡ pass) × (ruinByte k (front fs) ≡ 1 → number7 fs ≡ pass)
 unfolding updateRecord
 tests fs k e =

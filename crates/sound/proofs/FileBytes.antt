@@ -42,7 +42,7 @@ fields-at r h bytes p (At tag start end next) en later =
 fields-at r h bytes p Done en later = rw (fields-done r h p _ en refl) tt
 
 -- all fields of a record
-fields-bytes : (r : List ℕ) (h : Shape) → Bytes r → (p : ℕ) → Bodies (fieldsAt r h p)
+pub fields-bytes : (r : List ℕ) (h : Shape) → Bytes r → (p : ℕ) → Bodies (fieldsAt r h p)
 fields-bytes r h bytes p =
     by-measure (λ q. length r - q) (λ q. Bodies (fieldsAt r h q)) (λ q later. fields-at r h bytes q (placeAt r h q) refl later) p
 

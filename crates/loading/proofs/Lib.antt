@@ -1,0 +1,9 @@
+pub mod TakenLaws
+pub mod KeptLaws
+pub mod AttrLaws
+pub mod InasLaws
+pub mod CoordLaws
+pub mod SpasLaws
+pub mod FoidLaws
+pub mod FieldsLaws
+pub mod RecordLaws
