@@ -10,6 +10,7 @@ pub mod SlotLaws
 pub mod SoundLaws
 pub mod TableLaws
 pub mod PresentLaws
+pub mod SiteLaws
 pub mod NumberLaws
 pub mod IdentLaws
 pub mod PassedLaws

@@ -3,5 +3,6 @@ pub mod bits;
 pub mod look;
 pub mod once;
 pub mod present;
+pub mod sites;
 pub mod slots;
 pub mod table;

@@ -40,7 +40,7 @@ fn wide(x: u32) -> usize
 }
 
 // A place from which to look for the key, by halves: the right one where the keys ascend.
-fn start_near(f: &[u8], start: usize, t: &[u32], n: usize, map: &[u8], key: u64) -> usize
+pub fn start_near(f: &[u8], start: usize, t: &[u32], n: usize, map: &[u8], key: u64) -> usize
     requires { ⌜ Laid (now f) start (now t) n (now map) ⌝ }
     ensures { λ p. ⌜ Tail (now (f .entry)) start p ⌝ }
 {

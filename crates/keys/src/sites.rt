@@ -1,0 +1,89 @@
+// Where a record with a key stands in a file: by the map, there is none; or near by; or by a plain walk.
+use crate::bits::flag;
+use crate::look::Look;
+use crate::look::look_at;
+use crate::present::start_near;
+use crate::slots::slot;
+ghost use Prim.Native.Nat.{_<_};
+ghost use lib.ListN.{length};
+ghost use Rattle.keys.specs.Look.{Sound};
+ghost use Rattle.keys.specs.Table.{Tail, Sits, Sited, Laid};
+
+// A plain walk over the records from start on; the file's length where none has the key.
+fn site_plain(f: &[u8], start: usize, key: u64) -> usize
+    requires { ⌜ Sound (now f) start ⌝ }
+    ensures { λ r. ⌜ Sited (now (f .entry)) start key r ⌝ }
+{
+    let mut p = start;
+    while p < f.len() {
+        match look_at(f, p) {
+            Look::At { len, key: k } => {
+                if k == key {
+                    return p;
+                }
+                p += len;
+            }
+            Look::Nothing => {
+                return f.len();
+            }
+        }
+    }
+    f.len()
+}
+
+// The first of the next records, up to one whose key is larger, that has the key; the file's length where none is found.
+fn site_near(f: &[u8], start: usize, from: usize, steps: usize, key: u64) -> usize
+    requires { ⌜ Tail (now f) start from ⌝ }
+    ensures { λ r. ⌜ (r < length (now (f .entry)) → Sits (now (f .entry)) start key r) ⌝ }
+{
+    let mut p = from;
+    let mut left = steps;
+    while 0 < left {
+        match look_at(f, p) {
+            Look::At { len, key: k } => {
+                if k == key {
+                    return p;
+                }
+                if key < k {
+                    return f.len();
+                }
+                p += len;
+                left -= 1;
+            }
+            Look::Nothing => {
+                return f.len();
+            }
+        }
+    }
+    f.len()
+}
+
+// The same with the table, of which n entries are to be tried: near by, or else by a plain walk.
+fn site_walk(f: &[u8], start: usize, t: &[u32], n: usize, map: &[u8], key: u64) -> usize
+    requires { ⌜ Laid (now f) start (now t) n (now map) ⌝ }
+    ensures { λ r. ⌜ Sited (now (f .entry)) start key r ⌝ }
+{
+    let p = start_near(f, start, t, n, map, key);
+    let q = site_near(f, start, p, 512, key);
+    if q < f.len() {
+        return q;
+    }
+    site_plain(f, start, key)
+}
+
+// Where one of the records from start on has the key; the file's length where none has it.
+pub fn site(f: &[u8], start: usize, t: &[u32], n: usize, map: &[u8], key: u64) -> usize
+    requires { ⌜ Laid (now f) start (now t) n (now map) ⌝ }
+    ensures { λ r. ⌜ Sited (now (f .entry)) start key r ⌝ }
+{
+    let s = slot(key);
+    if s < 262144 {
+        if s / 8 < map.len() {
+            if flag(map, s) {
+                return site_walk(f, start, t, n, map, key);
+            }
+            return f.len();
+        }
+    }
+    site_walk(f, start, t, n, map, key)
+}
