@@ -205,18 +205,18 @@ fn place_row(k: usize) -> Sub
     }
 }
 
-// Any row.
+// Any row: those of which most fields are made by the fewest tests.
 pub fn row(k: usize) -> Sub
     requires { ⌜ k < rows ⌝ }
     ensures { λ r. ⌜ r ≡ getD table k Sub.Text ⌝ }
 {
-    if k < 22 {
-        return general_row(k);
-    }
-    if k < 42 {
-        return coded_row(k);
-    }
     if k < 58 {
+        if k < 22 {
+            return general_row(k);
+        }
+        if k < 42 {
+            return coded_row(k);
+        }
         return spatial_row(k);
     }
     if k < 78 {

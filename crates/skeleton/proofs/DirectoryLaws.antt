@@ -183,7 +183,10 @@ module _ (r : List ℕ) (a b p : ℕ) where
       unfolding entryAt
       entry-there w e x = simp (lt-leb _ _ h, ne-eqb _ _ n, le-ltb _ _ w, x)
 
-pub ruleset entry-ways = (entry-past, entry-end, entry-short, entry-there)
+      pub entry-fives : 4 + a + b ≤ length r - p → a ≡ 5 → b ≡ 5 → (e : Entry) → e ≡ entryIn r 5 5 p → e ≡ entryAt r a b p
+      entry-fives w i j e x = entry-there w e (rw (i, j) x)
+
+pub ruleset entry-ways = (entry-past, entry-end, entry-short, entry-there, entry-fives)
 
 -- what `entry_in` returns, by what it reads
 module _ (r : List ℕ) (a b p : ℕ) (m : Number) (em : m ≡ numberAt r (p + 4) a) where

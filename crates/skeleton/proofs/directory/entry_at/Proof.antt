@@ -1,7 +1,11 @@
 use Rattle.skeleton.proofs.DirectoryLaws.{entry-ways}
+use native.Mathlib.Omega.{arith}
 use borrow.Author.Needs.{needs}
 use Rattle.skeleton.proofs.directory.entry_at.Statement.{statement}
 use Rattle.skeleton.proofs.directory.entry_at.Tie as tie
+use Rattle.skeleton.proofs.directory.entry_at.Reads as reads
+use Rattle.skeleton.proofs.directory.entry_at.Lts as lts
+use Rattle.skeleton.proofs.directory.entry_in.Reads as entry-in-reads
 
 returns : tie.Need-returns
 returns c = search entry-ways
@@ -30,6 +34,12 @@ entry-in-requires c κs = search needs
 returns-4 : tie.Need-returns-4
 returns-4 c = search entry-ways
 
+entry-in-requires-2 : tie.Need-entry-in-requires-2
+entry-in-requires-2 c κs = search needs
+
+returns-5 : tie.Need-returns-5
+returns-5 c = search entry-ways
+
 pub entry-at-spec : {M : Type 1} → statement M
 entry-at-spec =
     tie.close
@@ -42,4 +52,6 @@ entry-at-spec =
     add-if3-2
     returns-3
     entry-in-requires
-    returns-4)
+    returns-4
+    entry-in-requires-2
+    returns-5)
