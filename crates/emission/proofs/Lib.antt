@@ -7,3 +7,4 @@ pub mod HeldLaws
 pub mod VersionLaws
 pub mod LengthLaws
 pub mod SmallLaws
+pub mod RecordLaws

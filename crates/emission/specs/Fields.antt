@@ -1,5 +1,5 @@
 -- The fields of the record that the workspace holds, from the bytes that they are copied from.
-use Prim.Native.Nat.{ℕ, _+_, _*_, _≤_}
+use Prim.Native.Nat.{ℕ, _+_, _*_, _≤_, _<_}
 use mathlib.Core.Path.{_≡_}
 use mathlib.Core.Bool.{Bool, true, false}
 use mathlib.Core.List.{List, [], _∷_, _++_}
@@ -58,6 +58,16 @@ lastFields d u w v = inasPart d u w v ++ listField (coordTag (v .kind)) (coordPa
 unfoldable pub versionFields : List ℕ → List ℕ → List ℕ → Version → List ℕ → List Field
 versionFields d u w v t =
     (fieldAs (tagOf (v .kind)) (identPart v) ∷ []) ++ listField FOID (foidPart d u v) ++ listField ATTR t ++ lastFields d u w v
+
+-- ---- the same fields from the cells of the INAS fields, and the bodies t of the attributes, c of the coordinates, s of the spatial associations
+
+-- what follows the attributes
+unfoldable pub lastOf : List ℕ → List ℕ → List ℕ → Version → List ℕ → List ℕ → List Field
+lastOf d u inas v c s = inasFields (bodiesOf d u inas (v .inas)) ++ listField (coordTag (v .kind)) c ++ listField SPAS s
+
+-- all fields
+unfoldable pub fieldsOf : List ℕ → List ℕ → List ℕ → Version → List ℕ → List ℕ → List ℕ → List Field
+fieldsOf d u inas v t c s = (fieldAs (tagOf (v .kind)) (identPart v) ∷ []) ++ listField FOID (foidPart d u v) ++ listField ATTR t ++ lastOf d u inas v c s
 
 -- ---- their sizes
 
@@ -124,3 +134,27 @@ pub record Measured (d u w : List ℕ) (v : Version) (m : Sizes) : Type 0 where
   pub attr-is : Sized d u (listArea w) (v .attr) (m .attr)
   pub inas-is : m .inas ≡ sizes (inasPart d u w v)
   pub inas-small : m .inas ≤ 220500000000
+
+-- what the directory stands on
+pub record Indexed (d u inas : List ℕ) (v : Version) (m : Sizes) : Type 0 where
+  pub few : Few v
+  pub foid-long : length (foidPart d u v) ≡ foidSize (v .foids)
+  pub attr-small : m .attr ≤ 1000000000000
+  pub inas-short : length inas ≤ 400000
+  pub inas-room : 7 * v .inas ≤ length inas
+  pub inas-is : m .inas ≡ sizes (inasFields (bodiesOf d u inas (v .inas)))
+  pub inas-small : m .inas ≤ 1000000000000
+
+-- what the coordinates and the spatial associations stand on
+pub record Placed (d u list spas : List ℕ) (v : Version) : Type 0 where
+  pub coord-room : 8 * v .coord ≤ length list
+  pub spas-room : 7 * v .spas ≤ length spas
+  pub spas-long : length (joined (bodiesOf d u spas (v .spas))) ≡ 15 * v .spas
+
+-- what the attributes stand on
+pub record Listed (d u list : List ℕ) (v : Version) (m : Sizes) : Type 0 where
+  pub old : length d ≤ 16777216
+  pub new : length u ≤ 16777216
+  pub short : length list < 524288
+  pub attr-room : 8 * v .attr ≤ length list
+  pub attr-is : Sized d u list (v .attr) (m .attr)
