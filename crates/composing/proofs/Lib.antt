@@ -7,3 +7,4 @@ pub mod NamingLaws
 pub mod HeldLaws
 pub mod ComposingLaws
 pub mod ResultLaws
+pub mod EmittedLaws

@@ -5,3 +5,4 @@ pub mod Settled
 pub mod Keys
 pub mod Told
 pub mod Composing
+pub mod Emitted
