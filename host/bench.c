@@ -96,15 +96,21 @@ static int orders(word length, word sorted) {
                       STREWN_KEYS | MIXED_KEYS | MIXED_REFERENCES, sorted);
 }
 
-int bench_read(word mebibytes) {
+/* The lines of a table for an eighth, a quarter, a half and all of so many MiB; what the last line took, or 0 for trouble. */
+static word lines(word (*line)(word length, word before), word mebibytes) {
     word took = 0;
+    for (word part = 8; part > 0; part /= 2) {
+        took = line(mebibytes * MEBIBYTE / part, took);
+        if (took == 0) return 0;
+    }
+    return took;
+}
+
+int bench_read(word mebibytes) {
     printf("read against a plain walk over the same sorted dataset, processor time, best of %d runs\n\n", RUNS);
     printf("       bytes   records         read   plain walk    times   growth\n");
-    for (word part = 8; part > 0; part /= 2) {
-        took = read_line(mebibytes * MEBIBYTE / part, took);
-        if (took == 0) return TROUBLE;
-    }
-    return orders(mebibytes * MEBIBYTE, took) ? DONE : TROUBLE;
+    word took = lines(read_line, mebibytes);
+    return took > 0 && orders(mebibytes * MEBIBYTE, took) ? DONE : TROUBLE;
 }
 
 /* One line of the writer's table; the time of write, or 0 for trouble. `before` is the time of half the size, or 0. */
@@ -127,12 +133,7 @@ static word write_line(word length, word before) {
 }
 
 int bench_write(word mebibytes) {
-    word took = 0;
     printf("write against read and a plain copy of the same sorted dataset, processor time, best of %d runs\n\n", RUNS);
     printf("       bytes        write         read         copy  beyond read  times copy   growth\n");
-    for (word part = 8; part > 0; part /= 2) {
-        took = write_line(mebibytes * MEBIBYTE / part, took);
-        if (took == 0) return TROUBLE;
-    }
-    return DONE;
+    return lines(write_line, mebibytes) > 0 ? DONE : TROUBLE;
 }
