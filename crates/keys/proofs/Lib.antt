@@ -7,6 +7,7 @@ pub mod BitLaws
 pub mod MapLaws
 pub mod OnceLaws
 pub mod SlotLaws
+pub mod OrderLaws
 pub mod SoundLaws
 pub mod TableLaws
 pub mod PresentLaws

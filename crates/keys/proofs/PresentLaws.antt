@@ -1,6 +1,6 @@
 -- Laws of a key that stands in a file. Assumes nothing.
-use mathlib.Core.Path.{_≡_, sym, ap, _∙_}
-use mathlib.Core.List.{List}
+use mathlib.Core.Path.{_≡_, refl, sym, ap, _∙_}
+use mathlib.Core.List.{List, _∷_}
 use mathlib.Core.Bool.{Bool, true, false, true≢false}
 use Prim.Native.Nat.{ℕ, _+_, _-_, _/_, _^_, _≤_, _<_}
 use native.Mathlib.Omega.{arith}
@@ -11,13 +11,15 @@ use Rattle.keys.specs.Bits.{flagOf}
 use Rattle.keys.specs.Listed.{keysFrom, hasFrom}
 use Rattle.keys.specs.Look.{lookAt, Sound}
 use Rattle.keys.specs.Slots.{slotOf}
-use Rattle.keys.specs.Table.{Tail, Tails, Laid}
+use Rattle.keys.specs.Order.{Ascending}
+use Rattle.keys.specs.Table.{Tail, Tails, Close, Laid}
 use Rattle.keys.specs.declared.look.Look.{Look}
 use Rattle.keys.specs.declared.look.Look.the-variants.{At}
 use Rattle.keys.proofs.ListLaws.{listed-here, listed-drop}
 use Rattle.keys.proofs.LookLaws.{Found}
 use Rattle.keys.proofs.SoundLaws.{Next, sound-next, sound-word}
 use Rattle.keys.proofs.SlotLaws.{slots-say}
+use Rattle.keys.proofs.OrderLaws.{before-smaller}
 use Rattle.keys.proofs.TableLaws.{tail-start, drop-one}
 
 -- ---- `near`, by the look e at p
@@ -41,6 +43,16 @@ module _ (f : List ℕ) (start p : ℕ) (l : Tail f start p) (e : Look) (en : e 
   unfolding hasFrom
   near-found k y z = listed-drop (l .skipped) (keysFrom f start) k (rw (l .rest, next .found .keys) (listed-here k key _ y))
 
+  -- `start_near`: where the keys ascend, none before one that is not above the key is the key
+  pub close-at : (k : ℕ) → key ≤ k → Close f start k p
+  unfolding hasFrom Ascending
+  close-at k h = record {
+    tail = l;
+    kept = λ a.
+        let q : drop (l .skipped) (keysFrom f start) ≡ key ∷ keysFrom f (p + len) = l .rest ∙ next .found .keys in
+        rw (l .rest) at (before-smaller 0 (l .skipped) (keysFrom f start) key (keysFrom f (p + len)) k a q h);
+  }
+
 pub near-not : (b : Bool) → false ≡ true → b ≡ true
 near-not b e = absurd (true≢false (sym e))
 
@@ -57,6 +69,12 @@ pub ruleset near-turn = (near-on, near-word, near-found, near-not, near-in, near
 module _ (f : List ℕ) (start : ℕ) (t : List ℕ) (n : ℕ) (map : List ℕ) (r : Laid f start t n map) where
   pub laid-start : Tail f start start
   laid-start = tail-start f start (r .sound)
+
+  pub close-start : (k : ℕ) → Close f start k start
+  close-start k = record { tail = laid-start; kept = λ _. refl }
+
+  pub laid-ascends : (b : Bool) → b ≡ flagOf map 262144 → b ≡ true → Ascending (keysFrom f start)
+  laid-ascends b e x = r .ordered (sym e ∙ x)
 
   pub laid-small : length f ≤ 16777216
   laid-small = r .sound .small
@@ -75,7 +93,7 @@ module _ (f : List ℕ) (start : ℕ) (t : List ℕ) (n : ℕ) (map : List ℕ) 
     pub laid-in : (q : ℕ) → q ≡ getD t (lo + (hi - lo) / 2) 0 → q ≤ length f
     laid-in q e = laid-tail q e .sound .inside
 
-pub ruleset half-turn = (laid-start, laid-small, laid-tail, laid-in, laid-room, arith)
+pub ruleset half-turn = (close-start, close-at, laid-small, laid-tail, laid-in, laid-room, arith)
 
 -- ---- `has`
 
@@ -87,4 +105,4 @@ has-flag f start t n map r k s e h g b x = x ∙ slots-say (keysFrom f start) ma
 pub has-near : (b h : Bool) → (b ≡ true → h ≡ true) → b ≡ true → true ≡ h
 has-near b h f e = sym (f e)
 
-pub ruleset has-ways = (has-flag, has-near, laid-small, laid-sound, arith)
+pub ruleset has-ways = (has-flag, has-near, laid-small, laid-sound, laid-ascends, arith)

@@ -7,13 +7,15 @@ use native.Mathlib.Omega.{arith}
 use borrow.Author.Tests.{eqb-true, eqb-false}
 use lib.ListN.{length, getD, take, drop, set, length-set, length-drop, replicate, length-replicate, getD-replicate}
 use lib.Seq.{take-all, drop-drop, getD-set-same, getD-set-other}
-use lib.Dec.{eqb}
+use lib.Dec.{eqb, ltb}
 use Rattle.memory.specs.Hold.{zeros}
 use Rattle.memory.proofs.HoldLaws.{length-zeros}
 use Rattle.base.specs.Walk.{Got}
 use Rattle.skeleton.specs.File.{recordsFrom}
 use Rattle.keys.specs.Listed.{keysFrom}
 use Rattle.keys.specs.Look.{lookAt, Sound}
+use Rattle.keys.specs.Bits.{flagOf}
+use Rattle.keys.specs.Order.{ascends, Ascending, ascendedTo, sealed}
 use Rattle.keys.specs.Slots.{Slots, noted}
 use Rattle.keys.specs.Table.{Tail, Tails, Laid}
 use Rattle.keys.specs.declared.look.Look.{Look}
@@ -23,6 +25,7 @@ use Rattle.keys.proofs.ListLaws.{split-take, split-drop}
 use Rattle.keys.proofs.LookLaws.{Found, keys-past}
 use Rattle.keys.proofs.SoundLaws.{Next, sound-next, sound-nothing, sound-bounds}
 use Rattle.keys.proofs.SlotLaws.{slots-none, slots-more, noted-long}
+use Rattle.keys.proofs.OrderLaws.{ascended-still, sealed-long, slots-sealed, unsealed-none, unsealed-more, sealed-so}
 
 -- ---- places of records
 
@@ -63,7 +66,7 @@ put-past t i v h = sym (set-past t i v h)
 pub drop-one : {A : Type 0} {m : List A} (i : ℕ) (l : List A) → drop i l ≡ m → drop (i + 1) l ≡ drop 1 m
 drop-one i l e = sym (drop-drop 1 i l) ∙ ap (drop 1) e
 
--- ---- `spread`: i records were passed, the next begins at p, and the map has the keys of those
+-- ---- `spread`: i records were passed, the next begins at p, and the map has the keys of those, and not yet the flag that says that they ascend
 
 pub record Passed (f : List ℕ) (start i p : ℕ) (map : List ℕ) : Type 0 where
   pub sound : Sound f p
@@ -71,9 +74,10 @@ pub record Passed (f : List ℕ) (start i p : ℕ) (map : List ℕ) : Type 0 whe
   pub rest : drop i (keysFrom f start) ≡ keysFrom f p
   pub same : drop i ((recordsFrom f start) .items) ≡ (recordsFrom f p) .items
   pub slots : Slots (take i (keysFrom f start)) map
+  pub unsealed : flagOf map 262144 ≡ false
 
 pub passed-none : (f : List ℕ) (start : ℕ) (map : List ℕ) (n : ℕ) → Sound f start → map ≡ zeros n → Passed f start 0 start map
-passed-none f start map n s e = record { sound = s; counted = omega arith; rest = refl; same = refl; slots = rw e (slots-none n) }
+passed-none f start map n s e = record { sound = s; counted = omega arith; rest = refl; same = refl; slots = rw e (slots-none n); unsealed = rw e (unsealed-none n) }
 
 pub passed-sound : (f : List ℕ) (start i p : ℕ) (map : List ℕ) → Passed f start i p map → Sound f p
 passed-sound f start i p map s = s .sound
@@ -103,17 +107,68 @@ module _ (f : List ℕ) (start i p : ℕ) (map : List ℕ) (s : Passed f start i
         rest = split-drop (keysFrom f start) i key (keysFrom f (p + len)) k;
         same = drop-one i ((recordsFrom f start) .items) (s .same) ∙ n .found .later;
         slots = rw (split-take (keysFrom f start) i key (keysFrom f (p + len)) k) (slots-more (take i (keysFrom f start)) map map' key (s .slots) em);
+        unsealed = rw em (unsealed-more map key (s .unsealed));
       }
 
   pub laid-nothing : p < length f → e ≡ Nothing → (t : List ℕ) (r : ℕ) → Laid f start t r map
   laid-nothing l x t r = absurd (sound-nothing f p (s .sound) e en l x)
 
-pub laid-done : (f : List ℕ) (start i p : ℕ) (t map : List ℕ) (n : ℕ) → Passed f start i p map → Sound f start → Tails f start t → length f ≤ p → n ≤ length t
-    → Laid f start t n map
-laid-done f start i p t map n s g ts h r =
+-- the keys ascended up to last: then they all ascend where the others go on so
+pub record Climbing (f : List ℕ) (start p last : ℕ) (so : Bool) : Type 0 where
+  pub rest : so ≡ true → ascends last (keysFrom f p) ≡ ascends 0 (keysFrom f start)
+
+pub climbing-none : (f : List ℕ) (start : ℕ) → Climbing f start start 0 true
+climbing-none f start = record { rest = λ _. refl }
+
+ascends-on : (last key : ℕ) (l : List ℕ) → ltb last key ≡ true → ascends last (key ∷ l) ≡ ascends key l
+unfolding ascends
+ascends-on last key l h = simp h
+
+pub climbing-more : (f : List ℕ) (start i p : ℕ) (map : List ℕ) → Passed f start i p map → (e : Look) → e ≡ lookAt f p → (len key : ℕ) → e ≡ At len key
+    → (last : ℕ) (so so' : Bool) → Climbing f start p last so → so' ≡ ascendedTo so last key → Climbing f start (p + len) key so'
+climbing-more f start i p map s e en len key x last so so' c z = record {
+  rest = λ h.
+      let b = ascended-still last key so (sym z ∙ h) in
+      let k = sound-next f p (s .sound) e en len key x .found .keys in
+      sym (ap (ascends last) k ∙ ascends-on last key (keysFrom f (p + len)) (b .1)) ∙ c .rest (b .0);
+}
+
+climbed : (f : List ℕ) (start p last : ℕ) (so : Bool) → Climbing f start p last so → length f ≤ p → so ≡ true → Ascending (keysFrom f start)
+unfolding Ascending ascends
+climbed f start p last so c h e = sym (c .rest e) ∙ ap (ascends last) (keys-past f p h)
+
+pub sealed-length : (t t' : List ℕ) (so : Bool) (n : ℕ) → t' ≡ sealed t so → length t ≡ n → length t' ≡ n
+sealed-length t t' so n e h = ap length e ∙ sealed-long t so ∙ h
+
+pub laid-done : (f : List ℕ) (start i p last : ℕ) (so : Bool) (t map map' : List ℕ) (n : ℕ) → Passed f start i p map → Climbing f start p last so → Sound f start
+    → Tails f start t → length f ≤ p → map' ≡ sealed map so → n ≤ length t → Laid f start t n map'
+laid-done f start i p last so t map map' n s c g ts h em r =
     let z : length (drop i (keysFrom f start)) ≡ 0 = rw (s .rest, keys-past f p h) refl in
     let a : take i (keysFrom f start) ≡ keysFrom f start = take-all i (keysFrom f start) (omega (arith, length-drop i (keysFrom f start))) in
-    record { sound = g; tails = ts; room = r; slots = rw a at (s .slots) }
+    record {
+      sound = g;
+      tails = ts;
+      room = r;
+      slots = rw em (slots-sealed (keysFrom f start) map so (rw a at (s .slots)));
+      ordered = λ z. climbed f start p last so c h (sealed-so map so (s .unsealed) (rw em at z));
+    }
 
-pub ruleset spread-turn =
-    (passed-none, passed-sound, passed-tail, passed-count, passed-word, passed-place, passed-more, laid-nothing, laid-done, tails-set, set-long, noted-long, length-zeros, sound-bounds)
+pub ruleset spread-turn = (
+  passed-none,
+  passed-sound,
+  passed-tail,
+  passed-count,
+  passed-word,
+  passed-place,
+  passed-more,
+  climbing-none,
+  climbing-more,
+  laid-nothing,
+  laid-done,
+  tails-set,
+  set-long,
+  noted-long,
+  sealed-length,
+  length-zeros,
+  sound-bounds,
+)

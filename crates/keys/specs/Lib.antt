@@ -5,6 +5,7 @@ pub mod Bits
 pub mod Map
 pub mod Once
 pub mod Slots
+pub mod Order
 pub mod Table
 pub mod Numbered
 pub mod Standing

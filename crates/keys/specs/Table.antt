@@ -1,7 +1,7 @@
 -- A table of places where records begin, and a map of keys: what is needed to find a key quickly.
 use Prim.Native.Nat.{ℕ, _≤_, _<_}
 use mathlib.Core.Path.{_≡_}
-use mathlib.Core.Bool.{false}
+use mathlib.Core.Bool.{true, false}
 use mathlib.Core.List.{List, _∷_}
 use lib.ListN.{length, getD, drop}
 use Rattle.base.specs.Walk.{Got}
@@ -9,6 +9,8 @@ use Rattle.skeleton.specs.File.{recordsFrom}
 use Rattle.keys.specs.Listed.{keysFrom, hasFrom}
 use Rattle.keys.specs.Look.{Sound}
 use Rattle.keys.specs.Slots.{Slots}
+use Rattle.keys.specs.Bits.{flagOf}
+use Rattle.keys.specs.Order.{Ascending}
 
 -- one of the records from start on begins at p, or they end there
 pub record Tail (f : List ℕ) (start p : ℕ) : Type 0 where
@@ -28,6 +30,11 @@ pub record Sited (f : List ℕ) (start key r : ℕ) : Type 0 where
   pub there : r < length f → Sits f start key r
   pub gone : length f ≤ r → hasFrom f start key ≡ false
 
+-- one of the records from start on begins at p, or they end there; where the keys ascend, no record with this key is before it
+pub record Close (f : List ℕ) (start key p : ℕ) : Type 0 where
+  pub tail : Tail f start p
+  pub kept : Ascending (keysFrom f start) → hasFrom f p key ≡ hasFrom f start key
+
 -- a record of the file, or its end, is at each entry of the table, whether it was filled or not
 unfoldable pub Tails : List ℕ → ℕ → List ℕ → Type 0
 Tails f start t = (j : ℕ) → j < length t → Tail f start (getD t j 0)
@@ -38,3 +45,4 @@ pub record Laid (f : List ℕ) (start : ℕ) (t : List ℕ) (n : ℕ) (map : Lis
   pub tails : Tails f start t
   pub room : n ≤ length t
   pub slots : Slots (keysFrom f start) map
+  pub ordered : flagOf map 262144 ≡ true → Ascending (keysFrom f start)

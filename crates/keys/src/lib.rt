@@ -2,6 +2,7 @@
 pub mod bits;
 pub mod look;
 pub mod once;
+pub mod order;
 pub mod present;
 pub mod sites;
 pub mod slots;

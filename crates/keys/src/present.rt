@@ -1,14 +1,16 @@
-// Whether a key stands in a file: by the map; or by a record near by that has it; or, where there is none, by a plain walk.
+// Whether a key stands in a file: by the map; or near by, where the keys ascend; or by a record near by that has it; or, where there is none, by a plain walk.
 use crate::bits::flag;
 use crate::look::Look;
 use crate::look::look_at;
+use crate::order::ordered;
+use crate::order::site_ordered;
 use crate::slots::slot;
 ghost use mathlib.Core.Path.{_≡_};
 ghost use mathlib.Core.Bool.{true};
 ghost use Prim.Native.Nat.{_<_};
 ghost use Rattle.keys.specs.Listed.{hasFrom};
 ghost use Rattle.keys.specs.Look.{Sound};
-ghost use Rattle.keys.specs.Table.{Tail, Laid};
+ghost use Rattle.keys.specs.Table.{Tail, Close, Laid};
 
 // A plain walk over the records from start on.
 fn has_plain(f: &[u8], start: usize, key: u64) -> bool
@@ -42,7 +44,7 @@ fn wide(x: u32) -> usize
 // A place from which to look for the key, by halves: the right one where the keys ascend.
 pub fn start_near(f: &[u8], start: usize, t: &[u32], n: usize, map: &[u8], key: u64) -> usize
     requires { ⌜ Laid (now f) start (now t) n (now map) ⌝ }
-    ensures { λ p. ⌜ Tail (now (f .entry)) start p ⌝ }
+    ensures { λ p. ⌜ Close (now (f .entry)) start key p ⌝ }
 {
     let mut p = start;
     let mut lo = 0;
@@ -106,6 +108,9 @@ pub fn has(f: &[u8], start: usize, t: &[u32], n: usize, map: &[u8], key: u64) ->
         }
     }
     let p = start_near(f, start, t, n, map, key);
+    if ordered(map) {
+        return site_ordered(f, start, p, key) < f.len();
+    }
     if near(f, start, p, 512, key) {
         return true;
     }

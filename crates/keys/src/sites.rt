@@ -2,6 +2,8 @@
 use crate::bits::flag;
 use crate::look::Look;
 use crate::look::look_at;
+use crate::order::ordered;
+use crate::order::site_ordered;
 use crate::present::start_near;
 use crate::slots::slot;
 ghost use Prim.Native.Nat.{_<_};
@@ -58,12 +60,15 @@ fn site_near(f: &[u8], start: usize, from: usize, steps: usize, key: u64) -> usi
     f.len()
 }
 
-// The same with the table, of which n entries are to be tried: near by, or else by a plain walk.
+// The same with the table, of which n entries are to be tried: near by, or else, if the keys do not ascend, by a plain walk.
 fn site_walk(f: &[u8], start: usize, t: &[u32], n: usize, map: &[u8], key: u64) -> usize
     requires { ⌜ Laid (now f) start (now t) n (now map) ⌝ }
     ensures { λ r. ⌜ Sited (now (f .entry)) start key r ⌝ }
 {
     let p = start_near(f, start, t, n, map, key);
+    if ordered(map) {
+        return site_ordered(f, start, p, key);
+    }
     let q = site_near(f, start, p, 512, key);
     if q < f.len() {
         return q;

@@ -1,6 +1,8 @@
 // A table of places where records begin, and a map of their keys, filled in one pass.
 use crate::look::Look;
 use crate::look::look_at;
+use crate::order::ascended_to;
+use crate::order::seal;
 use crate::slots::note;
 use memory::clearing::zero;
 ghost use mathlib.Core.Path.{_≡_};
@@ -30,7 +32,7 @@ fn used(i: usize, stride: usize, room: usize) -> usize
     room
 }
 
-// Fills the table with the place of one record in each stride, and the map with all keys; says how many entries are to be tried.
+// Fills the table with the place of one record in each stride, and the map with all keys and with whether they ascend; says how many entries are to be tried.
 pub fn spread(f: &[u8], start: usize, stride: usize, t: &mut [u32], map: &mut [u8]) -> usize
     requires { ⌜ (0 < stride) × (Sound (now f) start) × (Tails (now f) start (now t)) ⌝ }
     ensures { λ n. ⌜ Laid (now (f .entry)) start (now (t .exit)) n (now (map .exit)) ⌝ }
@@ -38,11 +40,15 @@ pub fn spread(f: &[u8], start: usize, stride: usize, t: &mut [u32], map: &mut [u
     zero(map);
     let mut p = start;
     let mut i = 0;
+    let mut last = 0;
+    let mut ascended = true;
     while p < f.len() {
         match look_at(f, p) {
             Look::At { len, key } => {
                 put(t, i / stride, p as u32);
                 note(map, key);
+                ascended = ascended_to(ascended, last, key);
+                last = key;
                 i += 1;
                 p += len;
             }
@@ -51,5 +57,6 @@ pub fn spread(f: &[u8], start: usize, stride: usize, t: &mut [u32], map: &mut [u
             }
         }
     }
+    seal(map, ascended);
     used(i, stride, t.len())
 }

@@ -1,10 +1,13 @@
 use Rattle.keys.proofs.PresentLaws.{has-ways}
+use Rattle.keys.proofs.SiteLaws.{sited-says}
 use borrow.Author.Needs.{needs}
 use Rattle.keys.proofs.present.has.Statement.{statement}
 use Rattle.keys.proofs.present.has.Tie as tie
 use Rattle.keys.proofs.present.has.Reads as reads
 use Rattle.keys.proofs.present.has.Lts as lts
 use Rattle.keys.proofs.bits.flag.Reads as flag-reads
+use Rattle.keys.proofs.order.ordered.Reads as ordered-reads
+use Rattle.keys.proofs.order.site_ordered.Reads as site-ordered-reads
 use Rattle.keys.proofs.present.has_plain.Reads as has-plain-reads
 use Rattle.keys.proofs.present.near.Reads as near-reads
 use Rattle.keys.proofs.present.start_near.Reads as start-near-reads
@@ -22,17 +25,26 @@ returns c = search has-ways
 start-near-requires : tie.Need-start-near-requires
 start-near-requires c κs = search needs
 
+ordered-requires : tie.Need-ordered-requires
+ordered-requires c κs = search needs
+
+site-ordered-requires : tie.Need-site-ordered-requires
+site-ordered-requires c κs = search has-ways
+
+returns-2 : tie.Need-returns-2
+returns-2 c = search sited-says
+
 near-requires : tie.Need-near-requires
 near-requires c κs = search needs
 
-returns-2 : tie.Need-returns-2
-returns-2 c = search has-ways
+returns-3 : tie.Need-returns-3
+returns-3 c = search has-ways
 
 has-plain-requires : tie.Need-has-plain-requires
 has-plain-requires c κs = search needs
 
-returns-3 : tie.Need-returns-3
-returns-3 c = search needs
+returns-4 : tie.Need-returns-4
+returns-4 c = search needs
 
 pub has-spec : {M : Type 1} → statement M
 has-spec =
@@ -42,7 +54,10 @@ has-spec =
     flag-requires
     returns
     start-near-requires
-    near-requires
+    ordered-requires
+    site-ordered-requires
     returns-2
+    near-requires
+    returns-3
     has-plain-requires
-    returns-3)
+    returns-4)

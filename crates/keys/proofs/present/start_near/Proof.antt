@@ -1,6 +1,6 @@
 use Rattle.keys.proofs.PresentLaws.{half-turn}
 use Prim.Native.Nat.{_-_, _≤_}
-use Rattle.keys.specs.Table.{Tail}
+use Rattle.keys.specs.Table.{Close}
 use borrow.Author.Needs.{needs}
 use Rattle.keys.proofs.present.start_near.Statement.{statement}
 use Rattle.keys.proofs.present.start_near.Tie as tie
@@ -10,7 +10,7 @@ use Rattle.keys.proofs.look.look_at.Reads as look-at-reads
 use Rattle.keys.proofs.present.wide.Reads as wide-reads
 
 abbrev Inv-loop : tie.InvT-loop
-Inv-loop f start t n map key p₀ lo₀ hi₀ p lo hi = (hi ≤ n) × Tail f start p
+Inv-loop f start t n map key p₀ lo₀ hi₀ p lo hi = (hi ≤ n) × Close f start key p
 
 abbrev μ-loop : tie.MeasureT-loop
 μ-loop f start t n map key p₀ lo₀ hi₀ p lo hi = hi - lo

@@ -3,23 +3,26 @@ use mathlib.Core.Path.{_≡_}
 use lib.ListN.{length}
 use Prim.Native.Nat.{_-_}
 use Rattle.keys.specs.Table.{Tails}
-use Rattle.keys.proofs.TableLaws.{Passed}
+use Rattle.keys.proofs.TableLaws.{Passed, Climbing}
 use borrow.Author.Needs.{needs}
 use Rattle.keys.proofs.table.spread.Statement.{statement}
 use Rattle.keys.proofs.table.spread.Tie as tie
 use Rattle.keys.proofs.table.spread.Reads as reads
 use Rattle.keys.proofs.table.spread.Lts as lts
 use Rattle.keys.proofs.look.look_at.Reads as look-at-reads
+use Rattle.keys.proofs.order.ascended_to.Reads as ascended-to-reads
+use Rattle.keys.proofs.order.seal.Reads as seal-reads
 use Rattle.keys.proofs.slots.note.Reads as note-reads
 use Rattle.keys.proofs.table.put.Reads as put-reads
 use Rattle.keys.proofs.table.used.Reads as used-reads
 use Rattle.memory.proofs.zero.Reads as zero-reads
 
 abbrev Inv-loop : tie.InvT-loop
-Inv-loop f start stride t₀ map₀ p₀ i₀ t map p i = (length t ≡ length t₀) × (length map ≡ length map₀) × Tails f start t × Passed f start i p map
+Inv-loop f start stride t₀ map₀ p₀ i₀ last₀ ascended₀ t map p i last ascended =
+    (length t ≡ length t₀) × (length map ≡ length map₀) × Tails f start t × Passed f start i p map × Climbing f start p last ascended
 
 abbrev μ-loop : tie.MeasureT-loop
-μ-loop f start stride t₀ map₀ p₀ i₀ t map p i = length f - p
+μ-loop f start stride t₀ map₀ p₀ i₀ last₀ ascended₀ t map p i last ascended = length f - p
 
 zero-requires : tie.Need-zero-requires Inv-loop μ-loop
 zero-requires c κs = search needs
@@ -45,6 +48,9 @@ put-requires c κs = search spread-turn
 note-requires : tie.Need-note-requires Inv-loop μ-loop
 note-requires c κs = search needs
 
+ascended-to-requires : tie.Need-ascended-to-requires Inv-loop μ-loop
+ascended-to-requires c κs = search needs
+
 add-i : tie.Need-add-i Inv-loop μ-loop
 add-i c = search spread-turn
 
@@ -55,7 +61,7 @@ loop-less : tie.Need-loop-less Inv-loop μ-loop
 loop-less c = search spread-turn
 
 loop-again : tie.Need-loop-again Inv-loop μ-loop
-loop-again c = (search spread-turn, search spread-turn, search spread-turn, search spread-turn)
+loop-again c = (search spread-turn, search spread-turn, search spread-turn, search spread-turn, search spread-turn)
 
 enum-told : tie.Need-enum-told Inv-loop μ-loop
 enum-told c = search needs
@@ -68,6 +74,9 @@ same-length-2 c = search spread-turn
 
 returns : tie.Need-returns Inv-loop μ-loop
 returns c = search spread-turn
+
+seal-requires : tie.Need-seal-requires Inv-loop μ-loop
+seal-requires c κs = search needs
 
 used-requires : tie.Need-used-requires Inv-loop μ-loop
 used-requires c κs = search spread-turn
@@ -95,6 +104,7 @@ spread-spec =
     cast-put
     put-requires
     note-requires
+    ascended-to-requires
     add-i
     add-p
     loop-less
@@ -103,6 +113,7 @@ spread-spec =
     same-length
     same-length-2
     returns
+    seal-requires
     used-requires
     same-length-3
     same-length-4
