@@ -35,9 +35,10 @@ use Rattle.rules.specs.ByTag.{withTag, bodies}
 use Rattle.rules.specs.Coordinates.{coordOf, coordsIn, sent, placeIn}
 use Rattle.rules.specs.Content.{formatOf, miscounts, counted}
 use Rattle.contents.specs.Fit.{fits}
-use Rattle.contents.specs.Answers.{sentIn, sendFrom, countedFrom, countedSince}
+use Rattle.contents.specs.Answers.{sentIn, sendFrom, countedFrom, since}
 use Rattle.contents.proofs.ListLaws.{each-length}
 use Rattle.contents.proofs.StepLaws.{step-bounds}
+use Rattle.contents.proofs.SinceLaws.{since-by}
 use Rattle.contents.proofs.FitLaws.{fit-here, fit-next}
 use Rattle.contents.proofs.FormatLaws.{of-cocc}
 
@@ -183,33 +184,11 @@ pub ruleset counted-turn = (counted-done, counted-wrong, counted-more, fit-here,
 
 -- ---- COCC noticed on the way: at place q, field i
 
-module _ (r : List ℕ) (h : Shape) (p : ℕ) where
-  -- what has to come out
-  abbrev whole : Verdict
-  whole = countedFrom r h p p 2
-
-  pub since-start : countedSince r h p p 2 false ≡ whole
-  unfolding countedSince
-  since-start = refl
-
-  pub since-plain : (q i : ℕ) (c : Bool) → countedSince r h p q i c ≡ whole → c ≡ false → countedFrom r h p q i ≡ whole
-  unfolding countedSince
-  since-plain q i c k z = rw z at k
-
-  module _ (q i : ℕ) (e : Place) (en : e ≡ placeAt r h q) (tag start end next : ℕ) (x : e ≡ At tag start end next) where
-    passed-by : (c t : Bool) → eqb tag COCC ≡ t → countedSince r h p q i c ≡ whole → countedSince r h p next (i + 1) (either c t) ≡ whole
-    unfolding countedSince
-    passed-by true t z k = refl
-    passed-by false true z k = refl
-    passed-by false false z k = counted-more r h p q i whole k e en tag start end next x false (simp z) refl
-
-    pub since-more : (c : Bool) → countedSince r h p q i c ≡ whole → (d : Bool) → d ≡ either c (eqb tag COCC) → countedSince r h p next (i + 1) d ≡ whole
-    since-more c k d ed = rw ed (passed-by c (eqb tag COCC) refl k)
-
-pub cocc-before : (t : ℕ) (c : Bool) → c ≡ true → true ≡ either c (eqb t COCC)
-cocc-before t c e = simp e
-
-pub cocc-now : (t : ℕ) (c : Bool) → c ≡ false → eqb t 0x434f4343 ≡ either c (eqb t COCC)
-cocc-now t c e = simp e
-
-pub ruleset cocc-ways = (cocc-before, cocc-now)
+pub cocc-more : (r : List ℕ) (h : Shape) (p q i : ℕ) (e : Place) → e ≡ placeAt r h q → (tag start end next : ℕ) → e ≡ At tag start end next → (c : Bool)
+    → since c (countedFrom r h p p 2) (countedFrom r h p q i) ≡ countedFrom r h p p 2 → (d : Bool) → d ≡ either c (eqb tag COCC)
+    → since d (countedFrom r h p p 2) (countedFrom r h p next (i + 1)) ≡ countedFrom r h p p 2
+cocc-more r h p q i e en tag start end next x c k d ed =
+    let whole = countedFrom r h p p 2 in
+    let turn : eqb tag COCC ≡ false → countedFrom r h p q i ≡ whole → countedFrom r h p next (i + 1) ≡ whole
+    = λ z inv. counted-more r h p q i whole inv e en tag start end next x false (simp z) refl in
+    rw ed (since-by whole (countedFrom r h p q i) (countedFrom r h p next (i + 1)) (eqb tag COCC) turn c k)

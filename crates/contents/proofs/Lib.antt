@@ -4,10 +4,11 @@ pub mod FormatLaws
 pub mod FitLaws
 pub mod IdentifierLaws
 pub mod ListLaws
+pub mod SinceLaws
 pub mod CountLaws
+pub mod TreeLaws
 pub mod ContentLaws
 pub mod ReaderLaws
-pub mod TreeLaws
 pub mod KeyLaws
 pub mod SpatialLaws
 pub mod EarlierLaws

@@ -1,12 +1,15 @@
 -- Number 7 field by field. Assumes nothing.
 use mathlib.Core.Path.{_≡_, refl, sym, ap, _∙_}
+use mathlib.Core.Bool.{Bool, false}
 use mathlib.Core.List.{List, _∷_, _++_, append-nil}
 use Prim.Native.Nat.{ℕ, _+_, _-_, _^_, _≤_, _<_}
 use native.Mathlib.Omega.{arith}
 use borrow.Author.Tests.{eq-eqb, ne-eqb}
+use lib.Dec.{eqb}
 use lib.ListN.{length, take, drop}
+use Rattle.base.specs.Choice.{either}
 use Rattle.base.specs.Check.{ok, no, bind, fault, Passed, pass}
-use Rattle.base.specs.Lists.{gather}
+use Rattle.base.specs.Lists.{empty, gather}
 use Rattle.base.specs.Verdict.{verdictOf}
 use Rattle.base.specs.declared.Fault.{Fault}
 use Rattle.base.specs.declared.Verdict.{Verdict}
@@ -17,6 +20,8 @@ use Rattle.skeleton.specs.declared.directory.Shape.{Shape}
 use Rattle.skeleton.specs.declared.place.Place.{Place}
 use Rattle.skeleton.specs.declared.place.Place.the-variants.{At, Done}
 use Rattle.skeleton.proofs.PlaceLaws.{fields-more, fields-done, place-falls}
+use Rattle.rules.specs.Tags.{INAS}
+use Rattle.rules.specs.ByTag.{withTag, has}
 use Rattle.rules.specs.Associations.{fieldMarks, marks, keysOnce}
 use Rattle.contents.specs.Keys.{fieldKeys, keysIn, seenBefore, topWith, told, spasFrom, inasOnce, fieldOnce, onceFrom}
 use Rattle.contents.specs.declared.keys.Keys.{Keys}
@@ -25,6 +30,7 @@ use Rattle.contents.proofs.StepLaws.{step-bounds}
 use Rattle.contents.proofs.FitLaws.{fit-here, fit-next}
 use Rattle.contents.proofs.KeyLaws.{once-apart, field-marked, field-fault, top-append}
 use Rattle.contents.proofs.EarlierLaws.{inas-filled, spas-filled}
+use Rattle.contents.proofs.NewLaws.{has-last}
 use Rattle.contents.proofs.ListLaws.{one-taken, gather-last}
 
 -- ---- one field
@@ -84,6 +90,9 @@ module _ (r : List ℕ) (h : Shape) (p n q : ℕ) (ed : drop n (fieldsAt r h p) 
     unfolding keysIn
     keys-next = ap (gather fieldKeys) ((one-taken (fieldsAt r h p) _ _ n one) .0) ∙ gather-last fieldKeys (take n (fieldsAt r h p)) field
 
+    pub keys-informed : (c : Bool) → c ≡ has INAS (take n (fieldsAt r h p)) → (d : Bool) → d ≡ either c (eqb tag INAS) → d ≡ has INAS (take (n + 1) (fieldsAt r h p))
+    keys-informed c ec d ed = rw ((one-taken (fieldsAt r h p) _ _ n one) .0) (rw (has-last INAS (take n (fieldsAt r h p)) field, ← ec) ed)
+
     pub keys-counts : n + 2 ≤ q → n + 1 + 2 ≤ next
     keys-counts l = let f = place-falls r h q e en tag start end next x in omega arith
 
@@ -126,8 +135,12 @@ pub keys-start : (r : List ℕ) (h : Shape) (p : ℕ) → 0 ≡ topWith 0 (keysI
 unfolding topWith keysIn gather
 keys-start r h p = refl
 
+pub informed-start : (r : List ℕ) (h : Shape) (p : ℕ) → false ≡ has INAS (take 0 (fieldsAt r h p))
+unfolding has withTag empty
+informed-start r h p = refl
+
 -- before any tuple of the next field
 pub keys-before : (r : List ℕ) (h : Shape) (p n top : ℕ) (b : List ℕ) → top ≡ topWith 0 (keysIn (take n (fieldsAt r h p))) → top ≡ topWith 0 (seenBefore r h p n b 0)
 keys-before r h p n top b e = rw (before-none r h p n b) e
 
-pub ruleset keys-turn = (keys-done, keys-place, keys-counts, keys-word, keys-number, keys-twice, keys-more, keys-top, keys-before, fit-here, fit-next, step-bounds)
+pub ruleset keys-turn = (keys-done, keys-place, keys-informed, keys-counts, keys-word, keys-number, keys-twice, keys-more, keys-top, keys-before, fit-here, fit-next, step-bounds)

@@ -3,7 +3,7 @@ use mathlib.Core.Path.{_≡_, refl, ap, _∙_}
 use mathlib.Core.Bool.{Bool, true, false}
 use mathlib.Core.Option.{Option, some, none}
 use mathlib.Core.List.{List, [], _∷_}
-use Prim.Native.Nat.{ℕ, _+_, _-_}
+use Prim.Native.Nat.{ℕ, _+_}
 use native.Mathlib.Omega.{arith}
 use borrow.Author.Tests.{eqb-true}
 use lib.Dec.{eqb, ltb}
@@ -14,11 +14,8 @@ use Rattle.base.proofs.CheckLaws.{bind-inv, ok-inj}
 use Rattle.base.specs.Verdict.{verdictOf}
 use Rattle.base.specs.declared.Verdict.{Verdict}
 use Rattle.skeleton.specs.File.{Field}
-use Rattle.skeleton.specs.Place.{between, placeAt, fieldsAt}
+use Rattle.skeleton.specs.Place.{fieldsAt}
 use Rattle.skeleton.specs.declared.directory.Shape.{Shape}
-use Rattle.skeleton.specs.declared.place.Place.{Place}
-use Rattle.skeleton.specs.declared.place.Place.the-variants.{At, Done}
-use Rattle.skeleton.proofs.PlaceLaws.{held, fields-more, fields-done}
 use Rattle.rules.specs.Tags.{IRID, PRID, MRID, FRID}
 use Rattle.rules.specs.ByTag.{firstTag}
 use Rattle.rules.specs.Kind.{tagOf, kindOf, rank}
@@ -30,6 +27,7 @@ use Rattle.rules.specs.declared.Kind.the-variants.{Info, Point, Multi, Feature}
 use Rattle.rules.specs.declared.Mode.{Mode}
 use Rattle.contents.specs.Fit.{allFit}
 use Rattle.contents.specs.Keys.{keysIn, onceFrom}
+use Rattle.contents.proofs.StepLaws.{second-entry}
 use Rattle.contents.proofs.FitLaws.{five-fit, all-any}
 
 -- ---- the record
@@ -43,7 +41,7 @@ ident-marks Multi f e = rw e
 ident-marks Feature f e = rw e
 
 -- there is one: no tag of a kind is 0
-kind-some : (k : Kind) → firstTag [] ≡ tagOf k → ⊥
+pub kind-some : (k : Kind) → firstTag [] ≡ tagOf k → ⊥
 unfolding firstTag tagOf
 kind-some Info e = omega arith
 kind-some Point e = omega arith
@@ -53,13 +51,7 @@ kind-some Feature e = omega arith
 module _ (r : List ℕ) (h : Shape) (m : Mode) (k : Kind) (five : number5 m k (fieldsAt r h 24) ≡ pass) (first : firstTag (fieldsAt r h 24) ≡ tagOf k) where
   -- the fields are the identifier and those from the second entry on
   parted : (f : Field) × (fieldsAt r h 24 ≡ f ∷ fieldsAt r h (28 + h .a + h .b))
-  parted = by-place (placeAt r h 24) refl
-    where
-      by-place : (e : Place) → e ≡ placeAt r h 24 → (f : Field) × (fieldsAt r h 24 ≡ f ∷ fieldsAt r h (28 + h .a + h .b))
-      by-place (At tag start end next) en =
-          let n : next ≡ 28 + h .a + h .b = let g = held r h 24 (At tag start end next) en tag start end next refl in omega arith in
-          (record { tag = tag; body = between r start end }, rw n at (fields-more r h 24 (At tag start end next) en tag start end next refl))
-      by-place Done en = absurd (kind-some k (rw (fields-done r h 24 Done en refl) at first))
+  parted = second-entry r h (λ e. kind-some k (rw e at first))
 
   pub seven-fit : allFit false (fieldsAt r h (28 + h .a + h .b)) ≡ true
   seven-fit =

@@ -1,11 +1,12 @@
 -- Laws of number 6. Assumes nothing.
 use mathlib.Core.Path.{_≡_, refl, sym, ap, _∙_}
-use mathlib.Core.Bool.{Bool, true, false}
+use mathlib.Core.Bool.{Bool, true, false, not}
 use mathlib.Core.List.{List}
 use Prim.Native.Nat.{ℕ, zero, suc, _+_}
-use borrow.Author.Tests.{eq-eqb, ne-eqb}
+use native.Mathlib.Omega.{arith}
+use borrow.Author.Tests.{eq-eqb, ne-eqb, eqb-true}
 use lib.Dec.{eqb}
-use Rattle.base.specs.Choice.{pick}
+use Rattle.base.specs.Choice.{pick, either}
 use Rattle.base.specs.Check.{Check, ok, no, bind, inField, pass, passed}
 use Rattle.base.specs.Verdict.{verdictOf}
 use Rattle.base.specs.declared.Verdict.{Verdict}
@@ -21,18 +22,16 @@ use Rattle.skeleton.specs.declared.place.Place.{Place}
 use Rattle.skeleton.specs.declared.place.Place.the-variants.{At, Done}
 use Rattle.skeleton.proofs.PlaceLaws.{fields-more, fields-done}
 use Rattle.rules.specs.Tags.{ATTR, INAS}
-use Rattle.rules.specs.Grammar.{ruinByte, asStored}
-use Rattle.rules.specs.Content.{inasFormat, formatOf, number5}
-use Rattle.rules.specs.Trees.{attrTree, inasTree, attrActs, treeStands, treesStand, number6}
-use Rattle.rules.specs.declared.Kind.{Kind}
-use Rattle.rules.specs.declared.Mode.{Mode}
+use Rattle.rules.specs.Content.{inasFormat, formatOf}
+use Rattle.rules.specs.Trees.{attrTree, inasTree, attrActs, treeStands, treesStand}
 use Rattle.tree.specs.Verdict.{faultyTuple, verdict}
 use Rattle.tree.proofs.VerdictLaws.{attr-verdict, acts-verdict, inas-verdict}
-use Rattle.contents.specs.Fit.{fits, allFit}
-use Rattle.contents.specs.Answers.{treesFrom}
+use Rattle.contents.specs.Fit.{fits}
+use Rattle.contents.specs.Answers.{treesFrom, breaks, since}
 use Rattle.contents.proofs.StepLaws.{step-bounds}
+use Rattle.contents.proofs.SinceLaws.{since-by}
 use Rattle.contents.proofs.FormatLaws.{of-attr, of-inas}
-use Rattle.contents.proofs.FitLaws.{fit-here, fit-next, fit-any, five-fit}
+use Rattle.contents.proofs.FitLaws.{fit-here, fit-next, fit-any}
 
 -- ---- one field
 
@@ -125,19 +124,32 @@ module _ (r : List ℕ) (h : Shape) (new : Bool) (q i : ℕ) (A : Verdict) (inv 
 
 pub ruleset trees-turn = (trees-done, trees-bad, trees-more, fit-here, fit-next, step-bounds)
 
--- ---- the record
+-- ---- broken trees noticed on the way: at place q, field i
 
-module _ (r : List ℕ) (h : Shape) (m : Mode) (k : Kind) (five : number5 m k (fieldsAt r h 24) ≡ pass) (e : Place) (en : e ≡ placeAt r h 24) where
-  pub six-none : e ≡ Done → Passed ≡ verdictOf (number6 m k (fieldsAt r h 24))
-  unfolding number6 verdictOf
-  six-none x = rw (fields-done r h 24 e en x)
+pub broken-before : (new : Bool) (f : Field) (c : Bool) → c ≡ true → true ≡ either c (breaks new f)
+broken-before new f c e = simp e
 
-  module _ (tag start end next : ℕ) (x : e ≡ At tag start end next) (new : Bool) (eb : new ≡ asStored m (ruinByte k (between r start end))) where
-    pub six-fit : allFit new (fieldsAt r h next) ≡ true
-    six-fit = rw eb (five-fit m k (record { tag = tag; body = between r start end }) (fieldsAt r h next) tt (rw (fields-more r h 24 e en tag start end next x) at five))
+pub broken-now : (new : Bool) (f : Field) (c : Bool) → c ≡ false → (j : ℕ) → j ≡ faultyTuple (treeStands new f) → not (eqb j 0) ≡ either c (breaks new f)
+unfolding breaks
+broken-now new f c e j ej = simp (e, ← ej)
 
-    pub six-rest : (w : Verdict) → w ≡ treesFrom r h new next 2 → w ≡ verdictOf (number6 m k (fieldsAt r h 24))
-    unfolding number6 treesFrom
-    six-rest w y = rw (fields-more r h 24 e en tag start end next x) (rw eb at y)
+pub ruleset broken-ways = (broken-before, broken-now)
 
-pub ruleset six-ways = (six-none, six-fit, six-rest)
+whole-tree : (new : Bool) (f : Field) → breaks new f ≡ false → faultyTuple (treeStands new f) ≡ 0
+unfolding breaks
+whole-tree new f e = go (eqb (faultyTuple (treeStands new f)) 0) refl e
+  where
+    go : (t : Bool) → eqb (faultyTuple (treeStands new f)) 0 ≡ t → not t ≡ false → faultyTuple (treeStands new f) ≡ 0
+    go true z y = eqb-true (faultyTuple (treeStands new f)) 0 z
+    go false z y = absurd (let u : _≡_ {A = ℕ} 0 1 = cc in omega arith)
+
+pub broken-more : (r : List ℕ) (h : Shape) (new : Bool) (p q i : ℕ) (e : Place) → e ≡ placeAt r h q → (tag start end next : ℕ) → e ≡ At tag start end next → (c : Bool)
+    → since c (treesFrom r h new p 2) (treesFrom r h new q i) ≡ treesFrom r h new p 2
+    → (d : Bool) → d ≡ either c (breaks new (record { tag = tag; body = between r start end }))
+    → since d (treesFrom r h new p 2) (treesFrom r h new next (i + 1)) ≡ treesFrom r h new p 2
+broken-more r h new p q i e en tag start end next x c k d ed =
+    let whole = treesFrom r h new p 2 in
+    let f : Field = record { tag = tag; body = between r start end } in
+    let turn : breaks new f ≡ false → treesFrom r h new q i ≡ whole → treesFrom r h new next (i + 1) ≡ whole
+    = λ z inv. trees-more r h new q i whole inv e en tag start end next x (faultyTuple (treeStands new f)) refl (whole-tree new f z) in
+    rw ed (since-by whole (treesFrom r h new q i) (treesFrom r h new next (i + 1)) (breaks new f) turn c k)

@@ -1,10 +1,13 @@
-// Number 5: subfields do not fill a field, or a value is out of its range.
-use crate::counts::check_counts;
+// Number 5: subfields do not fill a field, or a value is out of its range; and number 6, the tree rule, in the same walk over the fields.
+use crate::counts::counts_again;
 use crate::formats::format_of;
 use crate::formats::has_format;
 use crate::formats::ident_format;
 use crate::formats::insert_only;
 use crate::identifier::is_stored;
+use crate::passed::tag_passed;
+use crate::trees::tree_broken;
+use crate::trees::trees_again;
 use base::Verdict;
 use rules::Kind;
 use rules::Mode;
@@ -14,13 +17,12 @@ use skeleton::place::place_at;
 ghost use mathlib.Core.Path.{_≡_};
 ghost use Prim.Native.Nat.{_≤_};
 ghost use lib.ListN.{length};
-ghost use lib.Dec.{eqb};
-ghost use Rattle.base.specs.Choice.{either};
+ghost use Rattle.base.specs.Check.{bind};
 ghost use Rattle.base.specs.Verdict.{verdictOf};
 ghost use Rattle.skeleton.specs.Place.{between, fieldsAt};
 ghost use Rattle.skeleton.specs.Shape.{Bounded};
-ghost use Rattle.rules.specs.Tags.{COCC};
 ghost use Rattle.rules.specs.Content.{insertOnly, identFormat, formatOf, stands, number5};
+ghost use Rattle.rules.specs.Trees.{number6};
 ghost use Rattle.contents.specs.Answers.{restRight};
 
 // Whether field i, r[start..end], has the format that its tag asks for.
@@ -40,17 +42,7 @@ fn ident_stands(r: &[u8], start: usize, end: usize, mode: Mode, k: Kind) -> Verd
     has_format(1, ident_format(insert_only(mode), k), &r[start..end])
 }
 
-// Whether a COCC (0x434f4343) was passed, now that a field with this tag is.
-fn cocc_passed(before: bool, tag: u32) -> bool
-    ensures { λ b. ⌜ b ≡ either before (eqb tag COCC) ⌝ }
-{
-    if before {
-        return true;
-    }
-    tag == 0x434f4343
-}
-
-// Whether the fields from the entry at p on, behind the identifier, have their formats, and NCOR is right, which only a COCC has.
+// Numbers 5 and 6 of the fields from the entry at p on, behind the identifier, in one walk; a COCC (0x434f4343) is noticed on it.
 fn rest_right(r: &[u8], h: Shape, p: usize, new: bool) -> Verdict
     requires { ⌜ Bounded h × (2 ≤ p) ⌝ }
     ensures { λ v. ⌜ v ≡ restRight (now (r .entry)) h new p ⌝ }
@@ -58,6 +50,7 @@ fn rest_right(r: &[u8], h: Shape, p: usize, new: bool) -> Verdict
     let mut q = p;
     let mut i = 2;
     let mut controlled = false;
+    let mut broken = false;
     loop {
         match place_at(r, h, q) {
             Place::At {
@@ -67,7 +60,8 @@ fn rest_right(r: &[u8], h: Shape, p: usize, new: bool) -> Verdict
                 next,
             } => match field_stands(r, start, end, tag, new, i) {
                 Verdict::Passed => {
-                    controlled = cocc_passed(controlled, tag);
+                    controlled = tag_passed(controlled, tag, 0x434f4343);
+                    broken = tree_broken(broken, r, start, end, tag, new);
                     q = next;
                     i += 1;
                 }
@@ -75,20 +69,22 @@ fn rest_right(r: &[u8], h: Shape, p: usize, new: bool) -> Verdict
                     return Verdict::Refused(n, f, t);
                 }
             },
-            Place::Done => {
-                if controlled {
-                    return check_counts(r, h, p);
+            Place::Done => match counts_again(r, h, p, controlled) {
+                Verdict::Passed => {
+                    return trees_again(r, h, p, new, broken);
                 }
-                return Verdict::Passed;
-            }
+                Verdict::Refused(n, f, t) => {
+                    return Verdict::Refused(n, f, t);
+                }
+            },
         }
     }
 }
 
-// Number 5 of a record of kind k: the formats of its fields, and NCOR.
-pub fn check_content(r: &[u8], h: Shape, mode: Mode, k: Kind) -> Verdict
+// Numbers 5 and 6 of a record of kind k.
+pub fn check_content_and_trees(r: &[u8], h: Shape, mode: Mode, k: Kind) -> Verdict
     requires { ⌜ Bounded h ⌝ }
-    ensures { λ v. ⌜ v ≡ verdictOf (number5 mode k (fieldsAt (now (r .entry)) h 24)) ⌝ }
+    ensures { λ v. ⌜ v ≡ verdictOf (bind (number5 mode k (fieldsAt (now (r .entry)) h 24)) (λ _. number6 mode k (fieldsAt (now (r .entry)) h 24))) ⌝ }
 {
     match place_at(r, h, 24) {
         Place::At {

@@ -11,13 +11,14 @@ ghost use Prim.Native.Nat.{_≤_};
 ghost use lib.ListN.{length};
 ghost use lib.Dec.{eqb};
 ghost use Rattle.base.specs.Choice.{both};
+ghost use Rattle.base.specs.declared.Verdict.the-variants.{Passed};
 ghost use Rattle.skeleton.specs.Place.{between, fieldsAt};
 ghost use Rattle.skeleton.specs.Shape.{Bounded};
 ghost use Rattle.rules.specs.Tags.{COCC};
 ghost use Rattle.rules.specs.Coordinates.{sent, placeIn};
 ghost use Rattle.rules.specs.Content.{miscounts};
 ghost use Rattle.contents.specs.Fit.{fits, allFit};
-ghost use Rattle.contents.specs.Answers.{sentIn, sendFrom, countedFrom};
+ghost use Rattle.contents.specs.Answers.{sentIn, sendFrom, countedFrom, since};
 
 // How many tuples, of 8 bytes each, a field of so many bytes sends: none if it is no C2IL.
 fn sent_in(tag: u32, bytes: usize) -> usize
@@ -74,7 +75,7 @@ fn is_miscount(r: &[u8], h: Shape, p: usize, tag: u32, start: usize, end: usize)
 }
 
 // Whether no COCC among the fields from the entry at p on, the second of the record, miscounts; else 5.
-pub fn check_counts(r: &[u8], h: Shape, p: usize) -> Verdict
+fn check_counts(r: &[u8], h: Shape, p: usize) -> Verdict
     requires { ⌜ Bounded h × (2 ≤ p) × (allFit false (fieldsAt (now r) h p) ≡ true) ⌝ }
     ensures { λ v. ⌜ v ≡ countedFrom (now (r .entry)) h p p 2 ⌝ }
 {
@@ -99,4 +100,15 @@ pub fn check_counts(r: &[u8], h: Shape, p: usize) -> Verdict
             }
         }
     }
+}
+
+// The same, if a COCC was noticed: without one there is no NCOR.
+pub fn counts_again(r: &[u8], h: Shape, p: usize, controlled: bool) -> Verdict
+    requires { ⌜ Bounded h × (2 ≤ p) × (allFit false (fieldsAt (now r) h p) ≡ true) ⌝ }
+    ensures { λ v. ⌜ v ≡ since controlled (countedFrom (now (r .entry)) h p p 2) Passed ⌝ }
+{
+    if controlled {
+        return check_counts(r, h, p);
+    }
+    Verdict::Passed
 }

@@ -1,8 +1,9 @@
 // Number 7 within a record: no key of its associations, INAS (0x494e4153) and SPAS (0x53504153), stands twice.
-// A spatial key whose number is larger than that of every earlier one is new by that alone: only others are searched for.
+// A spatial key whose number is larger than that of every earlier one is new by that alone, and so is the key of the first INAS: only others are searched for.
 use crate::earlier::Key;
 use crate::earlier::fields_have;
 use crate::earlier::inas_key;
+use crate::passed::tag_passed;
 use crate::spatial::key_number;
 use crate::spatial::top_with;
 use crate::spatial::tuples_have;
@@ -18,7 +19,7 @@ ghost use mathlib.Core.Path.{_≡_};
 ghost use mathlib.Core.Bool.{true, false, not};
 ghost use mathlib.Core.List.{[], _∷_};
 ghost use Prim.Native.Nat.{_+_, _*_, _≤_};
-ghost use lib.ListN.{length};
+ghost use lib.ListN.{length, take};
 ghost use Rattle.base.specs.Check.{pass};
 ghost use Rattle.base.specs.Keys.{among};
 ghost use Rattle.base.specs.Verdict.{verdictOf};
@@ -27,7 +28,8 @@ ghost use Rattle.fields.specs.Content.{fill};
 ghost use Rattle.fields.specs.declared.Format.the-variants.{Spas};
 ghost use Rattle.skeleton.specs.Place.{fieldsAt};
 ghost use Rattle.skeleton.specs.Shape.{Bounded};
-ghost use Rattle.rules.specs.ByTag.{firstTag};
+ghost use Rattle.rules.specs.Tags.{INAS};
+ghost use Rattle.rules.specs.ByTag.{firstTag, has};
 ghost use Rattle.rules.specs.Kind.{tagOf};
 ghost use Rattle.rules.specs.Content.{inasFormat, number5};
 ghost use Rattle.rules.specs.Associations.{number7};
@@ -85,24 +87,36 @@ fn spas_once(r: &[u8], h: Shape, p: usize, n: usize, b: &[u8], largest: usize) -
     Keys::Once(top)
 }
 
-// The key of the INAS b, behind the first n fields from the entry at p on.
-fn inas_once(r: &[u8], h: Shape, p: usize, n: usize, b: &[u8], top: usize) -> Keys
-    requires { ⌜ Bounded h × (allFit false (fieldsAt (now r) h p) ≡ true) × (fill (headOf (inasFormat false (now b))) (tupleOf (inasFormat false (now b))) (now b) ≡ true) ⌝ }
+// The key of the INAS b, behind the first n fields from the entry at p on; informed: there is an INAS among those.
+fn inas_once(r: &[u8], h: Shape, p: usize, n: usize, b: &[u8], top: usize, informed: bool) -> Keys
+    requires { ⌜ Bounded h × (allFit false (fieldsAt (now r) h p) ≡ true) × (fill (headOf (inasFormat false (now b))) (tupleOf (inasFormat false (now b))) (now b) ≡ true) × (informed ≡ has INAS (take n (fieldsAt (now r) h p))) ⌝ }
     ensures { λ e. ⌜ e ≡ inasOnce (now (r .entry)) h p n (now (b .entry)) top ⌝ }
 {
+    if !informed {
+        return Keys::Once(top);
+    }
     if fields_have(r, h, p, n, inas_key(b)) {
         return Keys::Twice(0);
     }
     Keys::Once(top)
 }
 
-// The keys of the field b with this tag, behind the first n fields from the entry at p on.
-fn field_once(r: &[u8], h: Shape, p: usize, n: usize, tag: u32, b: &[u8], top: usize) -> Keys
-    requires { ⌜ Bounded h × (allFit false (fieldsAt (now r) h p) ≡ true) × (fits false (record { tag = tag; body = now b }) ≡ true) × (top ≡ topWith 0 (seenBefore (now r) h p n (now b) 0)) ⌝ }
+// The keys of the field b with this tag, behind the first n fields from the entry at p on; informed: there is an INAS among those.
+fn field_once(
+    r: &[u8],
+    h: Shape,
+    p: usize,
+    n: usize,
+    tag: u32,
+    b: &[u8],
+    top: usize,
+    informed: bool,
+) -> Keys
+    requires { ⌜ Bounded h × (allFit false (fieldsAt (now r) h p) ≡ true) × (fits false (record { tag = tag; body = now b }) ≡ true) × (top ≡ topWith 0 (seenBefore (now r) h p n (now b) 0)) × (informed ≡ has INAS (take n (fieldsAt (now r) h p))) ⌝ }
     ensures { λ e. ⌜ e ≡ fieldOnce (now (r .entry)) h p n tag (now (b .entry)) top ⌝ }
 {
     if tag == 0x494e4153 {
-        return inas_once(r, h, p, n, b, top);
+        return inas_once(r, h, p, n, b, top, informed);
     }
     if tag == 0x53504153 {
         return spas_once(r, h, p, n, b, top);
@@ -118,6 +132,7 @@ fn keys_once(r: &[u8], h: Shape, p: usize) -> Verdict
     let mut q = p;
     let mut n = 0;
     let mut top = 0;
+    let mut informed = false;
     loop {
         match place_at(r, h, q) {
             Place::At {
@@ -125,14 +140,16 @@ fn keys_once(r: &[u8], h: Shape, p: usize) -> Verdict
                 start,
                 end,
                 next,
-            } => match field_once(r, h, p, n, tag, &r[start..end], top) {
+            } => match field_once(r, h, p, n, tag, &r[start..end], top, informed) {
                 Keys::Once(t) => {
                     top = t;
+                    informed = tag_passed(informed, tag, 0x494e4153);
                     q = next;
                     n += 1;
                 }
                 Keys::Twice(j) => {
-                    return Verdict::Refused(7, n + 2, j);
+                    let field = n + 2;
+                    return Verdict::Refused(7, field, j);
                 }
             },
             Place::Done => {

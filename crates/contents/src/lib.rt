@@ -5,5 +5,6 @@ pub mod earlier;
 pub mod formats;
 pub mod identifier;
 pub mod keys;
+pub mod passed;
 pub mod spatial;
 pub mod trees;

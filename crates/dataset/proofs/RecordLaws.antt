@@ -2,7 +2,7 @@
 use mathlib.Core.Path.{_≡_, refl, sym, _∙_}
 use mathlib.Core.List.{List}
 use Prim.Native.Nat.{ℕ}
-use Rattle.base.specs.Check.{Check, ok, no, bind, fault, Passed, pass}
+use Rattle.base.specs.Check.{ok, no, bind, Passed}
 use Rattle.base.specs.Verdict.{verdictOf}
 use Rattle.base.specs.declared.Verdict.{Verdict}
 use Rattle.base.specs.declared.Verdict.the-variants.{Passed as Through, Refused}
@@ -18,25 +18,24 @@ use Rattle.records.specs.declared.grammar.Tags.the-variants.{Right, Wrong}
 use Rattle.dataset.specs.Numbers.{fourToSixIn}
 use Rattle.dataset.proofs.VerdictLaws.{passed-is, refused-is, right-is, wrong-is}
 
-module _ (m : Mode) (k : Kind) (fs : List Field) (v : Verdict) (ev : v ≡ verdictOf (number5 m k fs)) where
-  pub five-refused : (n i j : ℕ) → v ≡ Refused n i j → Wrong n i j ≡ graded (bind (number5 m k fs) (λ _. bind (number6 m k fs) (λ _. ok k)))
-  unfolding bind graded
-  five-refused n i j x = rw (refused-is (number5 m k fs) n i j (sym x ∙ ev))
+-- two tests and then a value
+bind-after : {A : Type 0} (c d : Passed) (a : A) → bind c (λ _. bind d (λ _. ok a)) ≡ bind (bind c (λ _. d)) (λ _. ok a)
+unfolding bind
+bind-after (ok u) d a = refl
+bind-after (no x) d a = refl
 
-  module _ (x : v ≡ Through) where
-    pub five-passed : number5 m k fs ≡ pass
-    five-passed = passed-is (number5 m k fs) (sym x ∙ ev)
+module _ (m : Mode) (k : Kind) (fs : List Field) (v : Verdict) (ev : v ≡ verdictOf (bind (number5 m k fs) (λ _. number6 m k fs))) where
+  pub five-six-refused : (n i j : ℕ) → v ≡ Refused n i j → Wrong n i j ≡ graded (bind (number5 m k fs) (λ _. bind (number6 m k fs) (λ _. ok k)))
+  unfolding graded bind
+  five-six-refused n i j x =
+      rw (bind-after (number5 m k fs) (number6 m k fs) k) (rw (refused-is (bind (number5 m k fs) (λ _. number6 m k fs)) n i j (sym x ∙ ev)))
 
-    module _ (w : Verdict) (ew : w ≡ verdictOf (number6 m k fs)) where
-      pub six-refused : (n i j : ℕ) → w ≡ Refused n i j → Wrong n i j ≡ graded (bind (number5 m k fs) (λ _. bind (number6 m k fs) (λ _. ok k)))
-      unfolding bind graded
-      six-refused n i j y = rw five-passed (rw (refused-is (number6 m k fs) n i j (sym y ∙ ew)))
+  pub five-six-passed : v ≡ Through → Right k ≡ graded (bind (number5 m k fs) (λ _. bind (number6 m k fs) (λ _. ok k)))
+  unfolding graded bind
+  five-six-passed x =
+      rw (bind-after (number5 m k fs) (number6 m k fs) k) (rw (passed-is (bind (number5 m k fs) (λ _. number6 m k fs)) (sym x ∙ ev)))
 
-      pub six-passed : w ≡ Through → Right k ≡ graded (bind (number5 m k fs) (λ _. bind (number6 m k fs) (λ _. ok k)))
-      unfolding bind graded
-      six-passed y = rw five-passed (rw (passed-is (number6 m k fs) (sym y ∙ ew)))
-
-pub ruleset five-six-ways = (five-refused, five-passed, six-refused, six-passed)
+pub ruleset five-six-ways = (five-six-refused, five-six-passed)
 
 module _ (m : Mode) (least : ℕ) (fs : List Field) (t : Tags) (et : t ≡ graded (number4 m least fs)) where
   pub four-wrong : (n i j : ℕ) → t ≡ Wrong n i j → Wrong n i j ≡ graded (fourToSixIn m least fs)

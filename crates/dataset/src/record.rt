@@ -1,7 +1,6 @@
 // One record, number by number: 4, 5 and 6.
 use base::Verdict;
-use contents::content::check_content;
-use contents::trees::check_trees;
+use contents::content::check_content_and_trees;
 use records::grammar::Tags;
 use records::grammar::check_tags;
 use rules::Kind;
@@ -21,11 +20,8 @@ fn five_and_six(r: &[u8], h: Shape, mode: Mode, k: Kind) -> Tags
     requires { ⌜ Bounded h ⌝ }
     ensures { λ t. ⌜ t ≡ graded (bind (number5 mode k (fieldsAt (now (r .entry)) h 24)) (λ _. bind (number6 mode k (fieldsAt (now (r .entry)) h 24)) (λ _. ok k))) ⌝ }
 {
-    match check_content(r, h, mode, k) {
-        Verdict::Passed => match check_trees(r, h, mode, k) {
-            Verdict::Passed => Tags::Right(k),
-            Verdict::Refused(n, i, j) => Tags::Wrong(n, i, j),
-        },
+    match check_content_and_trees(r, h, mode, k) {
+        Verdict::Passed => Tags::Right(k),
         Verdict::Refused(n, i, j) => Tags::Wrong(n, i, j),
     }
 }

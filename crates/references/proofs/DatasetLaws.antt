@@ -34,7 +34,7 @@ use Rattle.keys.specs.Standing.{outcomeFrom, referencesFrom}
 use Rattle.keys.specs.Table.{Tails, Laid}
 use Rattle.keys.proofs.ReferenceLaws.{Reads, references-over, references-loose, references-more, passed-sound}
 use Rattle.keys.proofs.TableLaws.{tails-same}
-use Rattle.references.specs.Readable.{allReadable, everyReadable}
+use Rattle.references.specs.Readable.{recordReadable, everyReadable}
 use Rattle.references.specs.Named.{Says}
 use Rattle.references.specs.Linked.{linkedBy, Answers}
 use Rattle.references.specs.declared.dataset.Linked.{Linked}
@@ -87,11 +87,11 @@ module _ (f : List ℕ) (start p m : ℕ) (s : Reached f start p m) (l : p < len
     abbrev fields : List Field
     fields = fieldsAt (between f p (p + len)) (record { base = base; a = a; b = b }) 24
 
-    apart : (allReadable fields ≡ true) × (everyReadable ((recordsFrom f (p + len)) .items) ≡ true)
+    apart : (recordReadable fields ≡ true) × (everyReadable ((recordsFrom f (p + len)) .items) ≡ true)
     unfolding everyReadable
     apart = both-hold _ _ (rw (records-more f p l h found len base a b x) at (s .readable))
 
-    pub record-readable : allReadable fields ≡ true
+    pub record-readable : recordReadable fields ≡ true
     record-readable = apart .0
 
     pub record-bounded : Bounded (record { base = base; a = a; b = b })

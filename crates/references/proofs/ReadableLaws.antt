@@ -1,7 +1,7 @@
 -- In a dataset that has passed 1 to 7 every reference can be read. Assumes nothing.
 use mathlib.Core.Path.{_≡_, refl, sym, _∙_}
 use mathlib.Core.List.{List, [], _∷_, _++_}
-use mathlib.Core.Bool.{Bool, true, false}
+use mathlib.Core.Bool.{Bool, true, false, not}
 use Prim.Native.Nat.{ℕ, _+_, _≤_}
 use native.Mathlib.Omega.{arith}
 use borrow.Author.Tests.{eq-eqb, ne-eqb, eqb-true}
@@ -13,7 +13,7 @@ use Rattle.base.specs.Walk.{Got}
 use Rattle.base.proofs.CheckLaws.{bind-inv}
 use Rattle.base.proofs.ChoiceLaws.{both-hold}
 use Rattle.fields.specs.Table.{headOf, tupleOf}
-use Rattle.fields.specs.Content.{fill}
+use Rattle.fields.specs.Content.{many, fill}
 use Rattle.fields.specs.declared.Format.the-variants.{InasNew, Spas, SpasNew}
 use Rattle.fields.proofs.WiderLaws.{spas, format-wider}
 use Rattle.skeleton.specs.File.{Field, recordsFrom}
@@ -28,6 +28,7 @@ use Rattle.rules.specs.Kind.{tagOf}
 use Rattle.rules.specs.Grammar.{asStored, number4}
 use Rattle.rules.specs.Content.{inasFormat, formatOf, number5}
 use Rattle.rules.specs.Record.{Rec, keyOf, datasetRecord}
+use Rattle.rules.specs.Associations.{inasKey, spasMarks, fieldMarks, marks}
 use Rattle.rules.specs.Outcome.{done, at}
 use Rattle.rules.specs.File.{lastRank, datasetTest, through, taken}
 use Rattle.rules.specs.declared.Kind.{Kind}
@@ -35,13 +36,14 @@ use Rattle.rules.specs.declared.Kind.the-variants.{Info, Point, Multi, Feature}
 use Rattle.rules.specs.declared.Mode.the-variants.{InDataset}
 use Rattle.rules.proofs.OutcomeLaws.{andThen-inv, at-inv}
 use Rattle.contents.specs.Fit.{fits, allFit}
+use Rattle.contents.proofs.StepLaws.{second-entry}
 use Rattle.contents.proofs.FormatLaws.{of-inas, of-spas}
 use Rattle.contents.proofs.FitLaws.{five-fit}
-use Rattle.contents.proofs.SevenLaws.{four-first}
+use Rattle.contents.proofs.SevenLaws.{kind-some, four-first}
 use Rattle.keys.specs.Standing.{outcomeFrom}
 use Rattle.keys.proofs.PassedLaws.{test-later}
 use Rattle.keys.proofs.ReferenceLaws.{unread-done}
-use Rattle.references.specs.Readable.{readable, allReadable, everyReadable}
+use Rattle.references.specs.Readable.{readable, allReadable, plain, recordReadable, everyReadable}
 
 -- ---- a field that has the format of its tag
 
@@ -77,22 +79,24 @@ all-fits (f ∷ fs) e =
     rw (fits-readable f (s .0)) (all-fits fs (s .1))
 
 -- an identifier is no association
-ident-readable : (k : Kind) (f : Field) → f .tag ≡ tagOf k → readable f ≡ true
-unfolding readable tagOf
-ident-readable Info f e = rw e
-ident-readable Point f e = rw e
-ident-readable Multi f e = rw e
-ident-readable Feature f e = rw e
+ident-plain : (k : Kind) (f : Field) → f .tag ≡ tagOf k → plain f ≡ true
+unfolding plain tagOf
+ident-plain Info f e = rw e
+ident-plain Point f e = rw e
+ident-plain Multi f e = rw e
+ident-plain Feature f e = rw e
 
 -- ---- a record, and a file, that have passed
 
-record-readable : (least : ℕ) (earlier : List (List ℕ)) (fs : List Field) (r : Rec) → datasetRecord least earlier fs ≡ ok r → allReadable fs ≡ true
-unfolding datasetRecord allReadable firstTag asStored
-record-readable least earlier [] r e = refl
+record-readable : (least : ℕ) (earlier : List (List ℕ)) (fs : List Field) (r : Rec) → datasetRecord least earlier fs ≡ ok r → recordReadable fs ≡ true
+unfolding datasetRecord recordReadable firstTag asStored
+record-readable least earlier [] r e =
+    let p = bind-inv (number4 InDataset least []) _ r e in
+    absurd (kind-some (p .0) (four-first InDataset least [] (p .0) (p .1)))
 record-readable least earlier (f ∷ fs) r e =
     let p = bind-inv (number4 InDataset least (f ∷ fs)) _ r e in
     let q = bind-inv (number5 InDataset (p .0) (f ∷ fs)) _ r (p .2) in
-    let first = ident-readable (p .0) f (four-first InDataset least (f ∷ fs) (p .0) (p .1)) in
+    let first = ident-plain (p .0) f (four-first InDataset least (f ∷ fs) (p .0) (p .1)) in
     rw first (all-fits fs (five-fit InDataset (p .0) f fs (q .0) (q .1)))
 
 through-readable : (items : List (List Field)) (n : ℕ) (seen recs : List Rec) → 4 ≤ n → through datasetTest 1 n seen items ≡ done recs → everyReadable items ≡ true
@@ -123,6 +127,42 @@ module _ (tag : ℕ) (b : List ℕ) (e : readable (record { tag = tag; body = b 
   pub spas-readable : (tag ≡ 0x494e4153 → ⊥) → tag ≡ 0x53504153 → fill (headOf Spas) (tupleOf Spas) b ≡ true
   unfolding readable
   spas-readable n t = simp (ne-eqb tag 0x494e4153 n, eq-eqb tag 0x53504153 t) at e
+
+-- ---- the first field of a record, and those behind it
+
+first-apart : (f : Field) (fs : List Field) → recordReadable (f ∷ fs) ≡ true → (plain f ≡ true) × (allReadable fs ≡ true)
+unfolding recordReadable
+first-apart f fs e = both-hold (plain f) (allReadable fs) e
+
+-- no association, no reference
+plain-marks : (i : ℕ) (f : Field) → plain f ≡ true → fieldMarks i f ≡ []
+unfolding plain fieldMarks
+plain-marks i f e = go (eqb (f .tag) INAS) (eqb (f .tag) SPAS) e
+  where
+    go : (a b : Bool) → pick a false (not b) ≡ true
+        → pick a (record { key = inasKey (f .body); field = i; tuple = 0 } ∷ []) (pick b (spasMarks i 1 (many (tupleOf Spas) (f .body))) []) ≡ []
+    go true b z = absurd (let y : _≡_ {A = ℕ} 0 1 = cc in omega arith)
+    go false true z = absurd (let y : _≡_ {A = ℕ} 0 1 = cc in omega arith)
+    go false false z = refl
+
+-- they stand from the second entry on
+module _ (r : List ℕ) (h : Shape) (e : recordReadable (fieldsAt r h 24) ≡ true) where
+  some : fieldsAt r h 24 ≡ [] → ⊥
+  unfolding recordReadable
+  some z = absurd (let y : false ≡ true = rw z at e in let x : _≡_ {A = ℕ} 0 1 = cc in omega arith)
+
+  parted : (f : Field) × (fieldsAt r h 24 ≡ f ∷ fieldsAt r h (28 + h .a + h .b))
+  parted = second-entry r h some
+
+  apart-second : (plain (parted .0) ≡ true) × (allReadable (fieldsAt r h (28 + h .a + h .b)) ≡ true)
+  apart-second = first-apart (parted .0) (fieldsAt r h (28 + h .a + h .b)) (rw (parted .1) at e)
+
+  pub second-readable : allReadable (fieldsAt r h (28 + h .a + h .b)) ≡ true
+  second-readable = apart-second .1
+
+  pub second-marks : marks 2 (fieldsAt r h (28 + h .a + h .b)) ≡ marks 1 (fieldsAt r h 24)
+  unfolding marks
+  second-marks = rw (parted .1) (rw (plain-marks 1 (parted .0) (apart-second .0)) refl)
 
 -- ---- field by field: by the place e that was read at p
 

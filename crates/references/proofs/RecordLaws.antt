@@ -30,8 +30,9 @@ use Rattle.keys.specs.Listed.{hasFrom}
 use Rattle.keys.specs.Table.{Laid}
 use Rattle.keys.proofs.NamedLaws.{Names, inas-names, spas-names}
 use Rattle.references.specs.Named.{Says, Alike}
+use Rattle.references.specs.Readable.{recordReadable}
 use Rattle.references.proofs.MarkLaws.{alike-same, says-none, parts-more, parts-refused, mark-more, mark-loose}
-use Rattle.references.proofs.ReadableLaws.{inas-readable, spas-readable, readable-here, readable-next}
+use Rattle.references.proofs.ReadableLaws.{inas-readable, spas-readable, second-readable, second-marks, readable-here, readable-next}
 
 -- ---- an INAS: its key k, and whether it stands in the file
 
@@ -149,8 +150,13 @@ module _ (f : List ℕ) (start : ℕ) (r : List ℕ) (h : Shape) (q i : ℕ) (wh
     pub fields-refused : (k y z : ℕ) → v ≡ Refused k y z → Says f start whole (Refused k y z)
     fields-refused k y z w = parts-refused f start (fieldMarks i (record { tag = tag; body = between r from end })) behind whole parted v s k y z w
 
+-- behind the first field
+pub second-alike : (f : List ℕ) (start : ℕ) (r : List ℕ) (h : Shape) → recordReadable (fieldsAt r h 24) ≡ true
+    → Alike f start (marks 2 (fieldsAt r h (28 + h .a + h .b))) (marks 1 (fieldsAt r h 24))
+second-alike f start r h e = rw (second-marks r h e) (alike-same f start (marks 1 (fieldsAt r h 24)))
+
 -- a part is no longer than the whole
 pub part-small : (r : List ℕ) (i j n : ℕ) → length r ≤ n → length (between r i j) ≤ n
 part-small r i j n h = omega (arith, length-take (j - i) (drop i r), length-drop i r)
 
-pub ruleset fields-turn = (alike-same, fields-over, fields-on, fields-refused, part-small, readable-here, readable-next, step-bounds)
+pub ruleset fields-turn = (second-readable, second-alike, fields-over, fields-on, fields-refused, part-small, readable-here, readable-next, step-bounds)

@@ -1,5 +1,5 @@
 -- Records whose references can be read.
-use mathlib.Core.Bool.{Bool, true}
+use mathlib.Core.Bool.{Bool, true, false, not}
 use mathlib.Core.List.{List, [], _∷_}
 use lib.Dec.{eqb}
 use Rattle.base.specs.Choice.{pick, both}
@@ -21,7 +21,16 @@ unfoldable pub allReadable : List Field → Bool
 allReadable [] = true
 allReadable (f ∷ fs) = both (readable f) (allReadable fs)
 
--- each field of each record is so
+-- a field that is no association
+unfoldable pub plain : Field → Bool
+plain f = pick (eqb (f .tag) INAS) false (not (eqb (f .tag) SPAS))
+
+-- a record: the first field is no association, and each other is so
+unfoldable pub recordReadable : List Field → Bool
+recordReadable [] = false
+recordReadable (f ∷ fs) = both (plain f) (allReadable fs)
+
+-- each record of a file is so
 unfoldable pub everyReadable : List (List Field) → Bool
 everyReadable [] = true
-everyReadable (fs ∷ fss) = both (allReadable fs) (everyReadable fss)
+everyReadable (fs ∷ fss) = both (recordReadable fs) (everyReadable fss)

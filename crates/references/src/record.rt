@@ -18,7 +18,7 @@ ghost use Rattle.skeleton.specs.Place.{fieldsAt};
 ghost use Rattle.skeleton.specs.Shape.{Bounded};
 ghost use Rattle.rules.specs.Associations.{inasKey, spasMarks, fieldMarks, marks};
 ghost use Rattle.keys.specs.Table.{Laid};
-ghost use Rattle.references.specs.Readable.{readable, allReadable};
+ghost use Rattle.references.specs.Readable.{readable, recordReadable};
 ghost use Rattle.references.specs.Named.{Says};
 
 // The record that the INAS b, field i, names.
@@ -88,7 +88,7 @@ fn field_named(
     Verdict::Passed
 }
 
-// The records that the record r names.
+// The records that the record r names: its first field is its identifier, which names none, and the second entry stands behind that one.
 pub fn record_named(
     f: &[u8],
     start: usize,
@@ -98,11 +98,11 @@ pub fn record_named(
     r: &[u8],
     h: Shape,
 ) -> Verdict
-    requires { ⌜ (Laid (now f) start (now t) n (now map)) × Bounded h × (length (now r) ≤ 16777216) × (allReadable (fieldsAt (now r) h 24) ≡ true) ⌝ }
+    requires { ⌜ (Laid (now f) start (now t) n (now map)) × Bounded h × (length (now r) ≤ 16777216) × (recordReadable (fieldsAt (now r) h 24) ≡ true) ⌝ }
     ensures { λ v. ⌜ Says (now (f .entry)) start (marks 1 (fieldsAt (now (r .entry)) h 24)) v ⌝ }
 {
-    let mut q = 24;
-    let mut i = 1;
+    let mut q = 28 + h.a + h.b;
+    let mut i = 2;
     loop {
         match place_at(r, h, q) {
             Place::At {

@@ -4,7 +4,7 @@ use Rattle.contents.proofs.keys.field_once.Statement.{statement}
 use Rattle.contents.proofs.keys.field_once.Tie as tie
 
 inas-once-requires : tie.Need-inas-once-requires
-inas-once-requires c κs = (search needs, search needs, search field-once-ways)
+inas-once-requires c κs = (search needs, search needs, search field-once-ways, search needs)
 
 returns : tie.Need-returns
 returns c = search field-once-ways

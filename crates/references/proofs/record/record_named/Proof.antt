@@ -22,8 +22,14 @@ Inv-loop f start t n map r h q₀ i₀ q i = (i ≤ q) × (allReadable (fieldsAt
 abbrev μ-loop : tie.MeasureT-loop
 μ-loop f start t n map r h q₀ i₀ q i = length r - q
 
+add-q : tie.Need-add-q Inv-loop μ-loop
+add-q c = search needs
+
+add-q-2 : tie.Need-add-q-2 Inv-loop μ-loop
+add-q-2 c = search needs
+
 loop-holds : tie.Need-loop-holds Inv-loop μ-loop
-loop-holds c = (omega arith, search needs, search fields-turn)
+loop-holds c = (omega arith, search fields-turn, search fields-turn)
 
 place-at-requires : tie.Need-place-at-requires Inv-loop μ-loop
 place-at-requires c κs = search needs
@@ -73,6 +79,8 @@ record-named-spec =
     (tie.spec
     Inv-loop
     μ-loop
+    add-q
+    add-q-2
     loop-holds
     place-at-requires
     enum-known-tag

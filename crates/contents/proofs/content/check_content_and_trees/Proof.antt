@@ -1,8 +1,8 @@
 use Rattle.contents.proofs.StepLaws.{step-bounds, step-second}
 use Rattle.contents.proofs.ContentLaws.{five-ways}
 use borrow.Author.Needs.{needs}
-use Rattle.contents.proofs.content.check_content.Statement.{statement}
-use Rattle.contents.proofs.content.check_content.Tie as tie
+use Rattle.contents.proofs.content.check_content_and_trees.Statement.{statement}
+use Rattle.contents.proofs.content.check_content_and_trees.Tie as tie
 
 place-at-requires : tie.Need-place-at-requires
 place-at-requires c κs = search needs
@@ -37,8 +37,8 @@ returns-2 c = search five-ways
 returns-3 : tie.Need-returns-3
 returns-3 c = search five-ways
 
-pub check-content-spec : {M : Type 1} → statement M
-check-content-spec =
+pub check-content-and-trees-spec : {M : Type 1} → statement M
+check-content-and-trees-spec =
     tie.close
     (tie.spec
     place-at-requires
