@@ -1,24 +1,20 @@
 -- Laws of the writer of the record that the workspace holds. Assumes nothing.
-use Prim.Native.Nat.{ℕ, _+_, _-_, _*_, _^_, _≤_, _<_, min}
-use mathlib.Core.Path.{_≡_, refl, sym, ap, ap₂, _∙_}
-use mathlib.Core.Bool.{Bool, true, false}
+use Prim.Native.Nat.{ℕ, _+_, _-_, _*_, _≤_, _<_, min}
+use mathlib.Core.Path.{_≡_, sym, ap, ap₂, _∙_}
 use mathlib.Core.List.{List, [], _∷_, _++_, append-nil}
 use native.Mathlib.Omega.{arith}
 use borrow.Author.Tests.{eq-eqb, ne-eqb}
-use lib.Dec.{eqb}
-use lib.ListN.{length, take, drop, length-append, length-take, length-drop}
-use Rattle.base.specs.Choice.{pick}
+use lib.ListN.{length, take, drop, length-take, length-drop}
 use Rattle.base.specs.Lists.{gather}
 use Rattle.memory.specs.Put.{part}
 use Rattle.memory.specs.Wrote.{Wrote}
-use Rattle.memory.proofs.WroteLaws.{then, wrote-none, wrote-length}
+use Rattle.memory.proofs.WroteLaws.{wrote-length}
 use Rattle.skeleton.specs.File.{Field}
 use Rattle.skeleton.specs.Emit.{sizes, entries, contents}
-use Rattle.skeleton.specs.Place.{between}
 use Rattle.skeleton.proofs.EmitFieldsLaws.{length-contents}
 use Rattle.forest.specs.Forest.{Forest}
 use Rattle.forest.specs.Flat.{flat}
-use Rattle.rules.specs.Tags.{FOID, ATTR, INAS, SPAS}
+use Rattle.rules.specs.Tags.{FOID, ATTR, SPAS}
 use Rattle.rules.specs.Kind.{tagOf, coded}
 use Rattle.rules.specs.Written.{fieldWidth, fieldAs, listField, treeBytes, coordTag}
 use Rattle.items.specs.Items.{its, source}
@@ -31,9 +27,8 @@ use Rattle.writing.proofs.PartsLaws.{wrote-as}
 use Rattle.emission.specs.Bodies.{joined, inasFields}
 use Rattle.emission.specs.Fields.{identPart, foidPart, lastOf, fieldsOf, listSize, listCount, identSize, foidSize, lastSize, lastCount, total, ListEntry, Few, Indexed, Placed, Listed}
 use Rattle.emission.specs.declared.measuring.Sizes.{Sizes}
-use Rattle.emission.proofs.ListLaws.{sizes-append, sizes-list, size-most, count-most, field-none, contents-then, entries-then}
+use Rattle.emission.proofs.ListLaws.{sizes-append, sizes-list, field-none, contents-then, entries-then}
 use Rattle.emission.proofs.IdentLaws.{length-ident}
-use Rattle.emission.proofs.FieldsLaws.{foid-most, ident-most}
 
 -- ---- `put_foid`
 
@@ -80,9 +75,6 @@ source-new d u x z = let e = ne-eqb x 0 z in rw e
 
 module _ (d u list inas spas : List ℕ) (v : Version) (at : ℕ) (out : List ℕ)
     (g : (Few v × (7 * v .inas ≤ length inas) × Placed d u list spas v) × (at + lastSize v (sizes (inasFields (bodiesOf d u inas (v .inas)))) ≤ length out)) where
-  abbrev few-here : Few v
-  few-here = g .0 .0
-
   last-all : at + sizes (inasFields (bodiesOf d u inas (v .inas))) + listSize (8 * v .coord) + listSize (15 * v .spas) ≤ length out
   unfolding lastSize
   last-all = omega (arith, g .1)

@@ -7,17 +7,22 @@ use lib.ListN.{length, take}
 use lib.Dec.{eqb}
 use Rattle.base.specs.Choice.{pick}
 use Rattle.memory.specs.Digits.{littleEndian}
+use Rattle.memory.specs.Put.{part}
 use Rattle.memory.specs.Wrote.{Wrote}
 use Rattle.skeleton.specs.File.{Field}
-use Rattle.skeleton.specs.Emit.{sizes, entries, contents}
+use Rattle.skeleton.specs.Emit.{sizes, entries, contents, emit}
+use Rattle.forest.specs.Forest.{Forest}
+use Rattle.forest.specs.Flat.{flat}
 use Rattle.rules.specs.Tags.{FOID, ATTR, SPAS}
 use Rattle.rules.specs.Kind.{rcnm, tagOf, coded}
-use Rattle.rules.specs.Written.{fieldAs, listField, fieldWidth, coordTag}
+use Rattle.rules.specs.Written.{fieldAs, listField, fieldWidth, coordTag, treeBytes, writtenLength}
+use Rattle.items.specs.Items.{its}
 use Rattle.cells.specs.Cells.{bodiesOf}
 use Rattle.numbering.specs.Tuples.{Sized}
 use Rattle.version.specs.Areas.{listArea, inasArea, spasArea}
 use Rattle.version.specs.Held.{foidBodies}
 use Rattle.version.specs.declared.Version.{Version}
+use Rattle.writing.specs.Found.{Summed}
 use Rattle.writing.specs.declared.measuring.Sum.{Sum}
 use Rattle.emission.specs.Bodies.{joined, inasFields}
 use Rattle.emission.specs.declared.measuring.Sizes.{Sizes}
@@ -158,3 +163,16 @@ pub record Listed (d u list : List ℕ) (v : Version) (m : Sizes) : Type 0 where
   pub short : length list < 524288
   pub attr-room : 8 * v .attr ≤ length list
   pub attr-is : Sized d u list (v .attr) (m .attr)
+
+-- what the writer of a record stands on, where so many bytes of `out` are there
+abbrev pub Writable : List ℕ → List ℕ → List ℕ → List ℕ → List ℕ → Version → Sizes → ℕ → ℕ → Type 0
+Writable d u list inas spas v m at room =
+    (Indexed d u inas v m × Placed d u list spas v × Listed d u list v m)
+    × ((total v m .fields ≤ 16777216) × (total v m .bytes ≤ 281474993487872) × (at + 25 + 14 * (total v m .fields) + (total v m .bytes) ≤ room))
+
+-- the record was written from `at` on over what was o and is e; n is the index after it
+abbrev pub Recorded : List ℕ → List ℕ → List ℕ → List ℕ → List ℕ → Version → Sizes → ℕ → List ℕ → ℕ → List ℕ → Type 0
+Recorded d u list inas spas v m at o n e =
+    (f : Forest) → its d u list 0 (v .attr) ≡ flat 0 f
+    → let fs = fieldsOf d u inas v (treeBytes f) (part 0 (8 * v .coord) list) (joined (bodiesOf d u spas (v .spas))) in
+    Summed fs (total v m) → (n ≡ at + writtenLength fs) × Wrote at (emit fieldWidth fieldWidth false fs) o n e

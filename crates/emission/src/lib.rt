@@ -7,3 +7,4 @@ pub mod measuring;
 pub mod writer;
 
 pub use measuring::version_length;
+pub use writer::write_version;

@@ -1,25 +1,34 @@
 // The record that the workspace holds, written: leader, directory, fields.
 use crate::bodies::put_inas_fields;
+use crate::directory::put_directory;
 use crate::identifier::put_first;
 use crate::lists::put_attributes;
 use crate::lists::put_list;
 use crate::lists::put_spatial;
 use crate::measuring::Sizes;
+use crate::measuring::measure;
+use crate::measuring::sum_up;
+use memory::writing::put_byte;
 use version::Version;
+use writing::parts::put_leader;
 ghost use mathlib.Core.Path.{_≡_};
+ghost use mathlib.Core.Bool.{false};
 ghost use Prim.Native.Nat.{_+_, _*_, _≤_};
 ghost use lib.ListN.{length};
 ghost use Rattle.memory.specs.Put.{part};
 ghost use Rattle.memory.specs.Wrote.{Wrote};
-ghost use Rattle.skeleton.specs.Emit.{sizes, contents};
+ghost use Rattle.skeleton.specs.Emit.{sizes, contents, emit};
 ghost use Rattle.forest.specs.Forest.{Forest};
 ghost use Rattle.forest.specs.Flat.{flat};
 ghost use Rattle.rules.specs.Tags.{FOID};
-ghost use Rattle.rules.specs.Written.{listField, treeBytes};
+ghost use Rattle.rules.specs.Record.{Rec};
+ghost use Rattle.rules.specs.Written.{fieldWidth, listField, treeBytes, writtenFields, writtenLength};
 ghost use Rattle.items.specs.Items.{its};
 ghost use Rattle.cells.specs.Cells.{bodiesOf};
+ghost use Rattle.version.specs.Areas.{inasArea, spasArea};
+ghost use Rattle.version.specs.Held.{Held};
 ghost use Rattle.emission.specs.Bodies.{joined, inasFields};
-ghost use Rattle.emission.specs.Fields.{foidPart, lastOf, fieldsOf, foidSize, listSize, lastSize, total, Few, Indexed, Placed, Listed};
+ghost use Rattle.emission.specs.Fields.{foidPart, lastOf, fieldsOf, foidSize, listSize, lastSize, total, Few, Indexed, Placed, Listed, Writable, Recorded};
 
 // The FOID, if there is one, and its 1E.
 fn put_foid(d: &[u8], u: &[u8], v: Version, out: &mut [u8], at: usize) -> usize
@@ -75,4 +84,81 @@ fn put_contents(
     let p2 = put_foid(d, u, v, out, p1);
     let p3 = put_attributes(d, u, list, v.attr, m.attr, out, p2);
     put_last(d, u, list, inas, spas, v, out, p3)
+}
+
+// A record from its areas, written from `at` on; m is what was counted.
+fn put_record(
+    d: &[u8],
+    u: &[u8],
+    list: &[u8],
+    inas: &[u8],
+    spas: &[u8],
+    v: Version,
+    m: Sizes,
+    out: &mut [u8],
+    at: usize,
+) -> usize
+    requires { ⌜ Writable (now d) (now u) (now list) (now inas) (now spas) v m at (length (now out)) ⌝ }
+    ensures { λ n. ⌜ (Recorded (now (d .entry)) (now (u .entry)) (now (list .entry)) (now (inas .entry)) (now (spas .entry)) v m at (now (out .entry)) n (now (out .exit))) ⌝ }
+{
+    let s = sum_up(v, m);
+    let base = 25 + 14 * s.fields;
+    let p1 = put_leader(out, at, false, base + s.bytes, base);
+    let p2 = put_directory(d, u, inas, v, m, out, p1);
+    let p3 = put_byte(out, p2, 30);
+    put_contents(d, u, list, inas, spas, v, m, out, p3)
+}
+
+// The same, where the spatial associations are in their area of the workspace.
+fn put_with_spatial(
+    d: &[u8],
+    u: &[u8],
+    list: &[u8],
+    inas: &[u8],
+    work: &[u8],
+    v: Version,
+    m: Sizes,
+    out: &mut [u8],
+    at: usize,
+) -> usize
+    requires { ⌜ 400000 ≤ length (now work) ⌝ }
+    requires { ⌜ Writable (now d) (now u) (now list) (now inas) (spasArea (now work)) v m at (length (now out)) ⌝ }
+    ensures { λ n. ⌜ (Recorded (now (d .entry)) (now (u .entry)) (now (list .entry)) (now (inas .entry)) (spasArea (now (work .entry))) v m at (now (out .entry)) n (now (out .exit))) ⌝ }
+{
+    put_record(d, u, list, inas, &work[292000..386000], v, m, out, at)
+}
+
+// The same, where those with information types are in theirs too.
+fn put_with_associations(
+    d: &[u8],
+    u: &[u8],
+    list: &[u8],
+    work: &[u8],
+    v: Version,
+    m: Sizes,
+    out: &mut [u8],
+    at: usize,
+) -> usize
+    requires { ⌜ 400000 ≤ length (now work) ⌝ }
+    requires { ⌜ Writable (now d) (now u) (now list) (inasArea (now work)) (spasArea (now work)) v m at (length (now out)) ⌝ }
+    ensures { λ n. ⌜ (Recorded (now (d .entry)) (now (u .entry)) (now (list .entry)) (inasArea (now (work .entry))) (spasArea (now (work .entry))) v m at (now (out .entry)) n (now (out .exit))) ⌝ }
+{
+    put_with_spatial(d, u, list, &work[200000..292000], work, v, m, out, at)
+}
+
+// The record that the workspace holds, written from `at` on; d the dataset, u the update.
+pub fn write_version(
+    d: &[u8],
+    u: &[u8],
+    work: &[u8],
+    v: Version,
+    out: &mut [u8],
+    at: usize,
+) -> usize
+    requires { ⌜ (length (now d) ≤ 16777216) × (length (now u) ≤ 16777216) × (400000 ≤ length (now work)) ⌝ }
+    requires { ⌜ ((r : Rec) × Held (now d) (now u) (now work) v r × (at + writtenLength (writtenFields r) ≤ length (now out))) ⌝ }
+    ensures { λ n. ⌜ ((r : Rec) → Held (now (d .entry)) (now (u .entry)) (now (work .entry)) v r → (n ≡ at + writtenLength (writtenFields r)) × Wrote at (emit fieldWidth fieldWidth false (writtenFields r)) (now (out .entry)) n (now (out .exit))) ⌝ }
+{
+    let m = measure(d, u, work, v);
+    put_with_associations(d, u, &work[0..200000], work, v, m, out, at)
 }

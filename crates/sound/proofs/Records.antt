@@ -56,7 +56,7 @@ pub record Through (m : Mode) (k : Kind) (f : Field) (fs : List Field) : Type 0 
 -- ---- 4
 
 -- the kind, and what its fields passed
-four-inv : (m : Mode) (least : ℕ) (f : Field) (fs : List Field) (k : Kind) → number4 m least (f ∷ fs) ≡ ok k → (kindOf (f .tag) ≡ some k) × (fieldsStand m k (f .body) fs ≡ pass)
+pub four-inv : (m : Mode) (least : ℕ) (f : Field) (fs : List Field) (k : Kind) → number4 m least (f ∷ fs) ≡ ok k → (kindOf (f .tag) ≡ some k) × (fieldsStand m k (f .body) fs ≡ pass)
 unfolding number4
 four-inv m least f fs k e = go (kindOf (f .tag)) refl e
   where

@@ -28,7 +28,7 @@ pub enum Measured {
 }
 
 // The length of a file's written form, record by record: number 12. The lists of the first three records are not joined.
-fn measure(f: &[u8]) -> Measured
+pub fn measure(f: &[u8]) -> Measured
     requires { ⌜ length (now f) ≤ 16777216 ⌝ }
     ensures { λ r. ⌜ r ≡ measuredFrom 1 0 (formsFrom (now (f .entry)) 0 1) ⌝ }
 {
