@@ -1,0 +1,5 @@
+pub mod VersionLaws
+pub mod WideLaws
+pub mod PartLaws
+pub mod DueLaws
+pub mod FieldsLaws
