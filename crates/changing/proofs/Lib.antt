@@ -1,0 +1,5 @@
+pub mod PassedLaws
+pub mod FoidLaws
+pub mod SameLaws
+pub mod ActLaws
+pub mod ReviseLaws
