@@ -1,0 +1,181 @@
+-- Laws of a record of the dataset that is found by its key. Assumes nothing.
+use mathlib.Core.Path.{_≡_, refl, sym, ap, _∙_}
+use mathlib.Core.Bool.{Bool, true, false}
+use mathlib.Core.Option.{Option, some, none}
+use mathlib.Core.List.{List, [], _∷_}
+use Prim.Native.Nat.{ℕ, zero, suc, _+_, _/_, _<_}
+use native.Mathlib.Omega.{arith}
+use borrow.Author.Tests.{eq-eqb, ne-eqb}
+use lib.ListN.{length, drop}
+use Rattle.base.specs.Choice.{pick}
+use Rattle.base.specs.Lists.{each}
+use Rattle.base.specs.Keys.{same}
+use Rattle.base.specs.Walk.{Got}
+use Rattle.base.proofs.KeysLaws.{same-sound, same-refl}
+use Rattle.skeleton.specs.File.{Field, recordsFrom}
+use Rattle.skeleton.specs.Place.{between, fieldsAt}
+use Rattle.skeleton.specs.Record.{recordAt}
+use Rattle.skeleton.specs.declared.leader.Head.{Head}
+use Rattle.skeleton.specs.declared.leader.Head.the-variants.{Good, Refused}
+use Rattle.rules.specs.Record.{keyOf as keyInRules, keyNamed, recOf}
+use Rattle.rules.specs.declared.Kind.{Kind}
+use Rattle.rules.specs.declared.Kind.the-variants.{Info, Point, Multi, Feature}
+use Rattle.sequence.specs.Keyed.{find, Once}
+use Rattle.updates.specs.Acts.{chart}
+use Rattle.stock.specs.Stored.{Stored}
+use Rattle.stock.specs.Stock.{recBy, recIn, AllStored, stockFrom, Stock}
+use Rattle.stock.proofs.StockLaws.{stock-good, stock-here}
+use Rattle.keys.specs.Key.{keyAt}
+use Rattle.keys.specs.Listed.{keyOf, keysFrom, listed, hasFrom}
+use Rattle.keys.specs.Numbered.{numberOf, Ranged}
+use Rattle.keys.specs.Table.{Tail, Sits, Sited}
+use Rattle.keys.proofs.ListLaws.{not-first, not-later}
+use Rattle.keys.proofs.IdentLaws.{Keyed}
+use Rattle.keys.proofs.NumberLaws.{same-number}
+use Rattle.items.specs.Items.{source}
+use Rattle.version.specs.Held.{Held}
+use Rattle.version.specs.Present.{HeldAs}
+use Rattle.version.specs.declared.Version.{Version}
+use Rattle.version.specs.declared.Present.the-variants.{Here}
+use Rattle.history.specs.Here.{recordHere, kindRanked}
+use Rattle.history.specs.Located.{Stands, Located}
+use Rattle.history.specs.Ready.{Writable}
+use Rattle.history.proofs.HereLaws.{here-is, here-word, here-fits, here-keyed, here-kind, Known, known-stored}
+
+-- ---- `kind_of`
+
+module _ (r : ℕ) where
+  pub kind-1 : r ≡ 1 → Info ≡ kindRanked r
+  unfolding kindRanked
+  kind-1 e = simp (eq-eqb r 1 e)
+
+  module _ (n : r ≡ 1 → ⊥) where
+    pub kind-2 : r ≡ 2 → Point ≡ kindRanked r
+    unfolding kindRanked
+    kind-2 e = simp (ne-eqb r 1 n, eq-eqb r 2 e)
+
+    module _ (o : r ≡ 2 → ⊥) where
+      pub kind-3 : r ≡ 3 → Multi ≡ kindRanked r
+      unfolding kindRanked
+      kind-3 e = simp (ne-eqb r 1 n, ne-eqb r 2 o, eq-eqb r 3 e)
+
+      pub kind-4 : (r ≡ 3 → ⊥) → Feature ≡ kindRanked r
+      unfolding kindRanked
+      kind-4 p = simp (ne-eqb r 1 n, ne-eqb r 2 o, ne-eqb r 3 p)
+
+pub ruleset kind-ways = (kind-1, kind-2, kind-3, kind-4, arith)
+
+-- ---- the record with a key, among those of the dataset
+
+-- the record that fields say has their key
+pub record Said (fs : List Field) : Type 0 where
+  pub ranged : Ranged (keyInRules (recIn fs))
+  pub number : keyOf fs ≡ numberOf (keyInRules (recIn fs))
+
+said-as : (k : Kind) (fs : List Field) → Stored k fs → recIn fs ≡ recOf k fs
+unfolding recBy
+said-as k fs s = ap (λ (o : Option Kind). recBy o fs) (known-stored k fs s .kind)
+
+key-said : (k : Kind) (fs : List Field) → keyInRules (recOf k fs) ≡ keyNamed k fs
+unfolding keyInRules recOf keyNamed
+key-said k fs = refl
+
+pub said : (k : Kind) (fs : List Field) → Stored k fs → Said fs
+said k fs s =
+    let n = known-stored k fs s .keyed in
+    let e : keyInRules (recIn fs) ≡ keyNamed k fs = ap keyInRules (said-as k fs s) ∙ key-said k fs in
+    record { ranged = rw e (n .ranged); number = rw e (n .number) }
+
+-- a key that is not listed is not found
+pub none-listed : (items : List (List Field)) → AllStored items → (k : List ℕ) → Ranged k → listed (numberOf k) (each keyOf items) ≡ false
+    → find chart k (each recIn items) ≡ none
+unfolding AllStored each find
+none-listed [] s k r e = refl
+none-listed (fs ∷ items) s k r e =
+    let t = said (s .0 .0) fs (s .0 .1) in
+    let n : keyOf fs ≡ numberOf k → ⊥ = not-first (numberOf k) (keyOf fs) (each keyOf items) e in
+    let x : same (keyInRules (recIn fs)) k ≡ false
+    = same-number (keyInRules (recIn fs)) k (t .ranged) r ∙ ne-eqb (numberOf k) (numberOf (keyInRules (recIn fs))) (λ z. n (t .number ∙ sym z)) in
+    rw x (none-listed items (s .1) k r (not-later (numberOf k) (keyOf fs) (each keyOf items) e))
+
+-- a record that stands is found where keys stand once
+pub once-found : (i : ℕ) (items : List (List Field)) → Once chart (each recIn items) → (fs : List Field) (later : List (List Field)) → drop i items ≡ fs ∷ later
+    → find chart (keyInRules (recIn fs)) (each recIn items) ≡ some (recIn fs)
+unfolding Once each find
+once-found zero [] o fs later e = absurd (let z : _≡_ {A = ℕ} 0 1 = cc in omega arith)
+once-found (suc i) [] o fs later e = absurd (let z : _≡_ {A = ℕ} 0 1 = cc in omega arith)
+once-found zero (gs ∷ items) o fs later e =
+    let z : gs ≡ fs = cc in
+    rw (z, same-refl (keyInRules (recIn fs)))
+once-found (suc i) (gs ∷ items) o fs later e =
+    let there = once-found i items (o .1) fs later e in
+    go (same (keyInRules (recIn gs)) (keyInRules (recIn fs))) refl there
+  where
+    go : (t : Bool) → same (keyInRules (recIn gs)) (keyInRules (recIn fs)) ≡ t → find chart (keyInRules (recIn fs)) (each recIn items) ≡ some (recIn fs)
+        → pick t (some (recIn gs)) (find chart (keyInRules (recIn fs)) (each recIn items)) ≡ some (recIn fs)
+    go false y h = h
+    go true y h =
+        let z = same-sound (keyInRules (recIn gs)) (keyInRules (recIn fs)) y in
+        let n : find chart (keyInRules (recIn fs)) (each recIn items) ≡ none = rw z at (o .0) in
+        absurd (let w : _≡_ {A = ℕ} 0 1 = cc in omega arith)
+
+-- ---- `locate`
+
+-- the records from i on are such as the first are
+stored-drop : (i : ℕ) (items : List (List Field)) → AllStored items → AllStored (drop i items)
+unfolding AllStored
+stored-drop zero items s = s
+stored-drop (suc i) [] s = s
+stored-drop (suc i) (fs ∷ items) s = stored-drop i items (s .1)
+
+module _ (d : List ℕ) (ds : ℕ) (s : Stock d ds) (o : Once chart (stockFrom d ds)) (key : ℕ) where
+  sits-stock : (r : ℕ) → Sits d ds key r → Stock d r
+  sits-stock r t = record { ended = t .tail .sound .clean; right = rw (t .tail .same) at (stored-drop (t .tail .skipped) ((recordsFrom d ds) .items) (s .right)) }
+
+  sits-stands : (r : ℕ) → Sits d ds key r → Stands d ds key (recIn (recordHere d r))
+  unfolding stockFrom AllStored
+  sits-stands r t =
+      let h = here-keyed d r key (t .later) (t .keys) in
+      let a : AllStored (recordHere d r ∷ drop 1 ((recordsFrom d r) .items)) = rw (h .0) at (sits-stock r t .right) in
+      let b = said (a .0 .0) (recordHere d r) (a .0 .1) in
+      record {
+        ranged = b .ranged;
+        number = sym (b .number) ∙ h .1;
+        found = once-found (t .tail .skipped) ((recordsFrom d ds) .items) o (recordHere d r) (drop 1 ((recordsFrom d r) .items)) (t .tail .same ∙ h .0);
+      }
+
+  pub located : (r : ℕ) → Sited d ds key r → Located d ds key r
+  unfolding stockFrom hasFrom keysFrom
+  located r t = record {
+    stock = λ h. sits-stock r (t .there h);
+    there = λ h. sits-stands r (t .there h);
+    gone = λ h k g e. none-listed ((recordsFrom d ds) .items) (s .right) k g (rw e (t .gone h));
+  }
+
+pub ruleset locate-ways = (located, arith)
+
+-- ---- `load_at`
+
+module _ (d : List ℕ) (at : ℕ) (s : Stock d at) (h : at < length d) (q : Head) (e : q ≡ recordAt d at) where
+  pub load-refused : {X : Type 0} → (n : ℕ) → q ≡ Refused n → X
+  load-refused n x = absurd (stock-good d at s h q e n x)
+
+  module _ (len base a b : ℕ) (x : q ≡ Good len base a b) where
+    pub load-fields : (key : ℕ) → key ≡ keyAt d (at + base) → (k : Kind) → k ≡ kindRanked (key / 4294967296)
+        → Stored k (fieldsAt (between d at (at + len)) (record { base = base; a = a; b = b }) 24)
+    load-fields key ek k e2 =
+        let t = stock-here d at s h q e len base a b x in
+        let z : k ≡ t .0 = here-kind d at q e len base a b x (t .0) (known-stored (t .0) _ (t .1)) key ek k e2 in
+        rw z (t .1)
+
+    pub load-held : (k : Kind) → Stored k (fieldsAt (between d at (at + len)) (record { base = base; a = a; b = b }) 24)
+        → (w : List ℕ) (v : Version)
+        → ((c u : List ℕ) → source 0 c u ≡ d → Held c u w v (recOf k (fieldsAt (between d at (at + len)) (record { base = base; a = a; b = b }) 24)))
+        → (u : List ℕ) → Writable (recIn (recordHere d at)) → HeldAs d u w (Here v) (some (recIn (recordHere d at)))
+    unfolding HeldAs source
+    load-held k t w v g u y =
+        let z : recIn (recordHere d at) ≡ recOf k (fieldsAt (between d at (at + len)) (record { base = base; a = a; b = b }) 24)
+        = ap recIn (here-is d at h q e len base a b x) ∙ said-as k _ t in
+        (recIn (recordHere d at), refl, rw z (g d u refl), y)
+
+pub ruleset load-ways = (here-word, here-fits, arith)

@@ -1,0 +1,7 @@
+pub mod HereLaws
+pub mod FindingLaws
+pub mod ActingLaws
+pub mod PlayingLaws
+pub mod FlagLaws
+pub mod JudgingLaws
+pub mod ReadyLaws

@@ -1,0 +1,46 @@
+-- `due` meets its contract. Assumes nothing.
+use Rattle.history.proofs.JudgingLaws.{due-no, due-act, due-done}
+use borrow.Author.Needs.{needs}
+use Rattle.history.proofs.judging.due.Statement.{statement}
+use Rattle.history.proofs.judging.due.Tie as tie
+
+turns-requires : tie.Need-turns-requires
+turns-requires c κs = search needs
+
+latest-requires : tie.Need-latest-requires
+latest-requires c κs = search needs
+
+enum-known-k : tie.Need-enum-known-k
+enum-known-k c = search needs
+
+enum-known-p : tie.Need-enum-known-p
+enum-known-p c = search needs
+
+act-requires : tie.Need-act-requires
+act-requires c κs = ((c .before .before .before .before .before .before .before .before .before .before .before .before .before .before .before .pre .0 .0 .short, c .before .before .before .before .before .before .before .before .before .before .before .before .before .before .before .pre .1 .0 .rest, c .before .before .before .before .before .before .before .before .before .before .before .before .before .before .before .pre .1 .1 .there, search needs), due-act _ _ _ _ (c .before .before .before .before .before .before .before .before .before .before .before .before .before .before .before .pre .0 .0) _ _ _ (c .before .before .before .before .before .before .before .before .before .before .before .before .before .before .before .pre .1 .0) (c .before .before .before .before .before .before .before .before .before .before .before .before .before .before .before .pre .1 .1) _ (c .before .before .before .before .before .before .before .before .before .before .before .before .before .before .before .pre .1 .2) _ (c .before .before .before .before .before .before .before .before .turns .ensures) _ _ (c .before .before .before .before .before .before .latest .ensures) _ (c .before .before .p .given .1))
+
+same-length : tie.Need-same-length
+same-length c = search needs
+
+returns : tie.Need-returns
+returns c = due-no _ _ _ _ (c .before .before .before .before .before .before .before .before .before .before .before .before .before .before .pre .0 .0) _ _ _ (c .before .before .before .before .before .before .before .before .before .before .before .before .before .before .pre .1 .0) (c .before .before .before .before .before .before .before .before .before .before .before .before .before .before .pre .1 .1) _ (c .before .before .before .before .before .before .before .before .before .before .before .before .before .before .pre .1 .2) _ (c .before .before .before .before .before .before .before .turns .ensures) _ _ (c .before .before .before .before .before .latest .ensures) _ _ _ (c .before .k .given .1)
+
+same-length-2 : tie.Need-same-length-2
+same-length-2 c = search needs
+
+returns-2 : tie.Need-returns-2
+returns-2 c = due-done _ _ _ _ (c .before .before .before .before .before .before .before .before .before .before .before .before .before .before .before .before .before .before .pre .0 .0) _ _ _ (c .before .before .before .before .before .before .before .before .before .before .before .before .before .before .before .before .before .before .pre .1 .0) (c .before .before .before .before .before .before .before .before .before .before .before .before .before .before .before .before .before .before .pre .1 .1) _ (c .before .before .before .before .before .before .before .before .before .before .before .before .before .before .before .before .before .before .pre .1 .2) _ (c .before .before .before .before .before .before .before .before .before .before .before .turns .ensures) _ _ (c .before .before .before .before .before .before .before .before .before .latest .ensures) _ (c .before .before .before .before .before .p .given .1) _ _ (c .before .before .act .ensures)
+
+pub due-spec : {M : Type 1} → statement M
+due-spec =
+    tie.close
+    (tie.spec
+    turns-requires
+    latest-requires
+    enum-known-k
+    enum-known-p
+    act-requires
+    same-length
+    returns
+    same-length-2
+    returns-2)

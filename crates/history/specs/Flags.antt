@@ -1,0 +1,15 @@
+-- Flags of keys: where the flag of a key is not raised, the key is not listed.
+use Prim.Native.Nat.{ℕ, _%_}
+use mathlib.Core.Path.{_≡_}
+use mathlib.Core.Bool.{true}
+use mathlib.Core.List.{List}
+use Rattle.keys.specs.Bits.{flagOf}
+use Rattle.keys.specs.Listed.{listed}
+
+-- the flag of a key, of 111,997; several keys share one
+abbrev pub keyFlag : ℕ → ℕ
+keyFlag k = k % 111997
+
+-- the flag of each of these keys is raised
+unfoldable pub Flags : List ℕ → List ℕ → Type 0
+Flags l t = (k : ℕ) → listed k l ≡ true → flagOf t (keyFlag k) ≡ true

@@ -1,0 +1,6 @@
+pub mod Here
+pub mod Located
+pub mod Ready
+pub mod Played
+pub mod Flags
+pub mod Judged
