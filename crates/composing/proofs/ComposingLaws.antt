@@ -1,6 +1,6 @@
 -- A result made record by record is the result. Assumes nothing.
 use Prim.Native.Nat.{ℕ, suc, _+_, _-_, _≤_, _<_}
-use mathlib.Core.Path.{_≡_, refl, sym, ap, ap₂, subst, _∙_}
+use mathlib.Core.Path.{_≡_, refl, sym, ap, subst, _∙_}
 use mathlib.Core.List.{List, [], _∷_, _++_, append-assoc, append-nil}
 use native.Mathlib.Omega.{arith}
 use lib.ListN.{length, length-append}
@@ -11,11 +11,11 @@ use Rattle.memory.specs.Wrote.{Wrote}
 use Rattle.memory.proofs.WroteLaws.{wrote-none, then, wrote-length}
 use Rattle.skeleton.specs.File.{Field}
 use Rattle.rules.specs.Record.{Rec}
-use Rattle.rules.specs.Outcome.{Outcome, done, refused, andThen, at as atRecord, everyRecord}
+use Rattle.rules.specs.Outcome.{Outcome, refused, andThen, at as atRecord, everyRecord}
 use Rattle.sequence.specs.Stream.{places, keptOf, kept, joinedOf, joined, stream}
 use Rattle.sequence.proofs.Gather.{gather-append}
 use Rattle.updates.specs.Acts.{chart}
-use Rattle.updates.specs.Streamed.{kinds, resultRecords, recordBytes, total, recordLength}
+use Rattle.updates.specs.Streamed.{resultRecords, recordBytes, total, recordLength}
 use Rattle.composing.specs.Composing.{leftKinds, leftOld, leftNew, Composing, Complete}
 
 -- ---- what is left

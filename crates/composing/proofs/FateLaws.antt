@@ -3,19 +3,19 @@ use Prim.Native.Nat.{ℕ}
 use mathlib.Core.Path.{_≡_, refl, sym, ap, _∙_}
 use mathlib.Core.Bool.{Bool, true, false, not, true≢false}
 use mathlib.Core.Option.{Option, some, none}
-use mathlib.Core.List.{List, [], _∷_, _++_}
-use Rattle.base.specs.Choice.{either, both}
-use Rattle.base.specs.Check.{Check, ok, no, bind}
+use mathlib.Core.List.{List, [], _∷_}
+use Rattle.base.specs.Choice.{both}
+use Rattle.base.specs.Check.{Check, ok, no}
 use Rattle.base.specs.Keys.{same}
 use Rattle.base.proofs.CheckLaws.{bind-inv, ok-inj}
-use Rattle.base.proofs.KeysLaws.{same-sound, same-refl}
+use Rattle.base.proofs.KeysLaws.{same-sound}
 use Rattle.sequence.specs.Keyed.{Act, insert, delete, modify, Parts, Ran, done, stop, Under, Goes, brings, takes, alters, find, run, Once, Laws}
-use Rattle.sequence.specs.History.{history, version, due, judged, verdict}
-use Rattle.sequence.specs.Order.{isInsert, isDelete, named, deleted}
+use Rattle.sequence.specs.History.{history, version, judged, verdict}
+use Rattle.sequence.specs.Order.{isDelete, named, deleted}
 use Rattle.sequence.specs.Stream.{stands, standing}
-use Rattle.sequence.proofs.Tests.{by-bool, neither, never, stopped, done-inj}
+use Rattle.sequence.proofs.Tests.{by-bool, neither, stopped}
 use Rattle.sequence.proofs.Lists.{find-under}
-use Rattle.sequence.proofs.Local.{history-append, history-under, run-judged, run-version}
+use Rattle.sequence.proofs.Local.{run-judged, run-version}
 use Rattle.composing.specs.Fate.{fate}
 
 -- a run that the verdicts do not stop

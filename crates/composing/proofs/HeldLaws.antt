@@ -1,32 +1,24 @@
 -- Laws of the associations that cells hold. Assumes nothing.
-use Prim.Native.Nat.{ℕ, zero, suc, _+_, _-_, _*_, _^_, _≤_, _<_}
-use mathlib.Core.Path.{_≡_, refl, sym, ap, _∙_}
+use Prim.Native.Nat.{ℕ, suc, _+_, _-_, _*_, _≤_, _<_}
+use mathlib.Core.Path.{_≡_, sym, ap, _∙_}
 use mathlib.Core.Bool.{Bool, true, false, not}
 use mathlib.Core.List.{List, [], _∷_}
 use native.Mathlib.Omega.{arith}
 use borrow.Author.Tests.{eq-eqb, ne-eqb, not-true, not-false}
 use lib.ListN.{length, getD, take, drop, length-take, length-drop}
-use lib.Dec.{eqb}
-use Rattle.base.specs.Choice.{pick}
-use Rattle.skeleton.specs.Place.{between}
 use Rattle.items.specs.Items.{source}
-use Rattle.cells.specs.Cells.{u24, bodyAt, bodiesFrom, bodiesOf, spatialIn}
+use Rattle.cells.specs.Cells.{u24, bodyAt, bodiesFrom, bodiesOf}
 use Rattle.keys.specs.Key.{keyAt}
 use Rattle.keys.proofs.KeyLaws.{key-part}
 use Rattle.keys.specs.Key.{KeyFits}
 use Rattle.keys.specs.Numbered.{numberOf, Ranged}
 use Rattle.keys.proofs.NamedLaws.{Names, inas-names, spas-names}
-use Rattle.fields.specs.Bytes.{le}
 use Rattle.fields.specs.Valid.{Bytes}
-use Rattle.fields.specs.Table.{headOf, tupleOf}
-use Rattle.fields.specs.Content.{fill}
-use Rattle.fields.specs.Values.{values}
 use Rattle.fields.specs.declared.Format.the-variants.{InasNew, Spas, SpasNew}
 use Rattle.fields.proofs.ByteLaws.{bytes-drop, le-bound}
 use Rattle.fields.proofs.WiderLaws.{spas, format-wider}
 use Rattle.skeleton.specs.File.{recordsFrom}
 use Rattle.base.specs.Lists.{each}
-use Rattle.base.specs.Choice.{both}
 use Rattle.base.specs.Walk.{Got}
 use Rattle.rules.specs.Associations.{inasKey, spasKey}
 use Rattle.rules.specs.Record.{Rec, spatialOf}

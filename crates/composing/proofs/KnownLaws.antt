@@ -1,5 +1,5 @@
 -- What update records that are right on their own do with a key, as code finds it. Assumes nothing.
-use Prim.Native.Nat.{ℕ, _/_}
+use Prim.Native.Nat.{ℕ}
 use mathlib.Core.Path.{_≡_, refl, sym, ap, subst, _∙_}
 use mathlib.Core.Bool.{Bool, true, false, not}
 use mathlib.Core.Option.{Option, some, none}
@@ -7,7 +7,7 @@ use mathlib.Core.List.{List, [], _∷_}
 use native.Mathlib.Omega.{arith}
 use borrow.Author.Tests.{eqb-true}
 use lib.Dec.{eqb}
-use Rattle.base.specs.Choice.{pick, both, either}
+use Rattle.base.specs.Choice.{pick, both}
 use Rattle.base.specs.Check.{ok, no, bind}
 use Rattle.base.specs.Keys.{same}
 use Rattle.base.specs.Lists.{each}
@@ -32,6 +32,7 @@ use Rattle.sequence.specs.Order.{isDelete, deleted}
 use Rattle.sequence.proofs.Tests.{by-bool, both-no, neither}
 use Rattle.updates.specs.Acts.{kindIn, namedBy, actOf, doneBy, chart}
 use Rattle.sound.proofs.Records.{ruin-byte}
+use Rattle.sound.proofs.Changed.{Sendable}
 use Rattle.keys.specs.Listed.{keyOf, listed}
 use Rattle.keys.specs.Numbered.{numberOf, Ranged}
 use Rattle.keys.proofs.IdentLaws.{Keyed, keyed-by}
@@ -106,6 +107,12 @@ known-right [] k e = absurd (no-fields k ((passed-two [] k e) .0))
 known-right (f ∷ fs) k e = let w = passed-two (f ∷ fs) k e in known-first k f fs (four-first InUpdate 0 (f ∷ fs) k (w .0)) (w .1) (w .2)
 
 -- ---- all of them
+
+-- those of an update that was read from bytes
+pub known-all : (us : List (List Field)) → Each Sendable us → Each Known us
+unfolding Each
+known-all [] s = tt
+known-all (fs ∷ us) s = (known-right fs (s .0 .kind) (s .0 .tested), known-all us (s .1))
 
 -- a delete by RUIN
 delete-two : (n : ℕ) → isDelete (actOf n) ≡ eqb n 2

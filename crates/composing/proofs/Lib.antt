@@ -8,3 +8,5 @@ pub mod HeldLaws
 pub mod ComposingLaws
 pub mod ResultLaws
 pub mod EmittedLaws
+pub mod MadeLaws
+pub mod KeptLaws

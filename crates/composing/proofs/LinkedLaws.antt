@@ -6,7 +6,7 @@ use mathlib.Core.List.{List, [], _∷_, _++_}
 use lib.ListN.{take}
 use lib.Dec.{eqb}
 use borrow.Author.Tests.{eqb-true}
-use Rattle.base.specs.Choice.{pick, both}
+use Rattle.base.specs.Choice.{both}
 use Rattle.base.specs.Check.{no, fault, pass}
 use Rattle.base.specs.Lists.{each, gather}
 use Rattle.base.specs.declared.Fault.{Fault}

@@ -22,7 +22,6 @@ use Rattle.updates.specs.Acts.{kindIn, namedBy, changedBy, chart}
 use Rattle.updates.proofs.Acted.{acted, lawful}
 use Rattle.sound.specs.Sound.{SoundRec}
 use Rattle.sound.proofs.Changed.{Sendable, changed-sound}
-use Rattle.composing.specs.Fate.{fate}
 use Rattle.composing.proofs.FateLaws.{fate-kept, history-fate, version-ok}
 
 module _ (P : Parts) where

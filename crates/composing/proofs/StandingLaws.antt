@@ -1,7 +1,7 @@
 -- Laws of what stands under a key in the end. Assumes nothing.
-use Prim.Native.Nat.{ℕ, _/_, _%_, _≤_, _<_}
-use mathlib.Core.Path.{_≡_, refl, sym, ap, _∙_}
-use mathlib.Core.Bool.{Bool, true, false, true≢false}
+use Prim.Native.Nat.{ℕ, _/_, _%_, _<_}
+use mathlib.Core.Path.{_≡_, sym, ap, _∙_}
+use mathlib.Core.Bool.{Bool, false, true≢false}
 use mathlib.Core.List.{List}
 use native.Mathlib.Omega.{arith}
 use lib.ListN.{length}
@@ -16,7 +16,7 @@ use Rattle.sequence.proofs.Stream.{among-find}
 use Rattle.updates.specs.Acts.{chart}
 use Rattle.updates.proofs.Acted.{lawful}
 use Rattle.keys.specs.Bits.{flagOf}
-use Rattle.keys.specs.Listed.{keyOf, keysFrom, listed, hasFrom}
+use Rattle.keys.specs.Listed.{keysFrom, listed, hasFrom}
 use Rattle.keys.specs.Look.{Sound}
 use Rattle.keys.specs.Numbered.{numberOf, Ranged, Numbered}
 use Rattle.keys.specs.Table.{Laid}

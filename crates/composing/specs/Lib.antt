@@ -6,3 +6,5 @@ pub mod Keys
 pub mod Told
 pub mod Composing
 pub mod Emitted
+pub mod Made
+pub mod Kept

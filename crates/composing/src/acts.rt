@@ -35,7 +35,7 @@ fn kind_of(key: u64) -> Kind
 }
 
 // RUIN of the update record r, which names the key.
-fn ruin(r: &[u8], h: Shape, key: u64) -> u8
+pub fn ruin(r: &[u8], h: Shape, key: u64) -> u8
     requires { ⌜ Bounded h ⌝ }
     ensures { λ n. ⌜ n ≡ ruinWith key (fieldsAt (now (r .entry)) h 24) ⌝ }
 {

@@ -2,5 +2,6 @@
 pub mod acts;
 pub mod carrying;
 pub mod held;
+pub mod making;
 pub mod naming;
 pub mod standing;

@@ -1,0 +1,27 @@
+use Rattle.composing.proofs.MadeLaws.{carries-ways}
+use borrow.Author.Needs.{needs}
+use native.Mathlib.Omega.{arith}
+use Rattle.composing.proofs.making.make_untouched.Statement.{statement}
+use Rattle.composing.proofs.making.make_untouched.Tie as tie
+use Rattle.composing.proofs.making.make_untouched.Reads as reads
+use Rattle.composing.proofs.making.make_untouched.Lts as lts
+use Rattle.composing.proofs.naming.fields_stand.Reads as fields-stand-reads
+use Rattle.composing.proofs.carrying.carry.Reads as carry-reads
+
+fields-stand-requires : tie.Need-fields-stand-requires
+fields-stand-requires c κs = search needs
+
+returns : tie.Need-returns
+returns c = search carries-ways
+
+carry-requires : tie.Need-carry-requires
+carry-requires c κs = search needs
+
+same-length : tie.Need-same-length
+same-length c = search needs
+
+returns-2 : tie.Need-returns-2
+returns-2 c = search carries-ways
+
+pub make-untouched-spec : {M : Type 1} → statement M
+make-untouched-spec = tie.close (tie.spec fields-stand-requires returns carry-requires same-length returns-2)

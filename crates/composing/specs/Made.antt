@@ -1,0 +1,34 @@
+-- What is told of one record of the result.
+use Prim.Native.Nat.{ℕ}
+use mathlib.Core.Path.{_≡_}
+use mathlib.Core.Bool.{true}
+use mathlib.Core.List.{List}
+use Rattle.base.specs.Check.{no, pass}
+use Rattle.base.specs.Walk.{Got}
+use Rattle.base.specs.declared.Fault.{Fault}
+use Rattle.skeleton.specs.File.{Field, recordsFrom}
+use Rattle.rules.specs.Associations.{marks}
+use Rattle.rules.specs.Record.{Rec, recOf}
+use Rattle.rules.specs.Written.{writtenFields}
+use Rattle.rules.specs.declared.Kind.{Kind}
+use Rattle.sequence.specs.Stream.{standing}
+use Rattle.updates.specs.Acts.{chart}
+use Rattle.updates.specs.Streamed.{refersTo}
+use Rattle.sound.specs.Sound.{SoundRec}
+use Rattle.writing.specs.House.{inHouseForm}
+use Rattle.composing.specs.Settled.{Settled}
+use Rattle.composing.specs.Emitted.{Emitted}
+use Rattle.composing.specs.declared.making.Made.{Made}
+use Rattle.composing.specs.declared.making.Made.the-variants.{Loose, Next}
+
+module _ (d : List ℕ) (ds : ℕ) (u : List ℕ) (us : ℕ) (flags : List ℕ) where
+  -- number 11 refuses the record r; or it passes, and r is written from `to` on where there is room
+  unfoldable pub MadeOf : Rec → ℕ → List ℕ → List ℕ → Made → Type 0
+  MadeOf r to before out Loose = (recs : List Rec) → Settled recs d ds u us flags
+      → (x : Fault) × (x .number ≡ 11) × (refersTo (standing chart recs ((recordsFrom u us) .items)) (marks 1 (writtenFields r)) ≡ no x)
+  MadeOf r to before out (Next n) = ((recs : List Rec) → Settled recs d ds u us flags → refersTo (standing chart recs ((recordsFrom u us) .items)) (marks 1 (writtenFields r)) ≡ pass)
+      × Emitted (writtenFields r) to before n out
+
+  -- so it is with the record that these fields are, where they are written in the house form
+  unfoldable pub Carries : List Field → ℕ → List ℕ → List ℕ → Made → Type 0
+  Carries fs to before out m = (k : Kind) → SoundRec (recOf k fs) → writtenFields (recOf k fs) ≡ inHouseForm true fs → MadeOf (recOf k fs) to before out m

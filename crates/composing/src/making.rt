@@ -1,0 +1,46 @@
+// One record of the result: what it names, and its bytes.
+use crate::carrying::carry;
+use crate::naming::fields_stand;
+use skeleton::directory::Shape;
+ghost use mathlib.Core.Path.{_≡_};
+ghost use mathlib.Core.Bool.{true};
+ghost use Prim.Native.Nat.{_≤_};
+ghost use lib.ListN.{length};
+ghost use Rattle.skeleton.specs.Place.{fieldsAt};
+ghost use Rattle.skeleton.specs.Shape.{Bounded};
+ghost use Rattle.rules.specs.Written.{writtenLength};
+ghost use Rattle.references.specs.Readable.{allReadable};
+ghost use Rattle.writing.specs.House.{inHouseForm};
+ghost use Rattle.composing.specs.Settled.{Asks};
+ghost use Rattle.composing.specs.Made.{Carries};
+
+// It names a record that does not stand; or where the next one begins.
+pub enum Made {
+    Loose,
+    Next(usize),
+}
+
+// The record r of the dataset, which no update record names.
+pub fn make_untouched(
+    d: &[u8],
+    ds: usize,
+    t: &[u32],
+    n: usize,
+    map: &[u8],
+    u: &[u8],
+    us: usize,
+    flags: &[u8],
+    r: &[u8],
+    h: Shape,
+    out: &mut [u8],
+    to: usize,
+) -> Made
+    requires { ⌜ Asks (now d) ds (now t) n (now map) (now u) us (now flags) × Bounded h × (length (now r) ≤ 16777216) × (allReadable (fieldsAt (now r) h 24) ≡ true) ⌝ }
+    requires { ⌜ (to ≤ 4611686018427387904) × (writtenLength (inHouseForm true (fieldsAt (now r) h 24)) ≤ 99999) ⌝ }
+    ensures { λ e. ⌜ Carries (now (d .entry)) ds (now (u .entry)) us (now (flags .entry)) (fieldsAt (now (r .entry)) h 24) to (now (out .entry)) (now (out .exit)) e ⌝ }
+{
+    if !fields_stand(d, ds, t, n, map, u, us, flags, r, h) {
+        return Made::Loose;
+    }
+    Made::Next(carry(r, h, out, to))
+}

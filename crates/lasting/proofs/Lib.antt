@@ -1,0 +1,7 @@
+pub mod WalkLaws
+pub mod WholeLaws
+pub mod NamingLaws
+pub mod ReadableLaws
+pub mod StepLaws
+pub mod OldLaws
+pub mod NewLaws

@@ -1,0 +1,27 @@
+use Rattle.composing.proofs.KeptLaws.{made-ways}
+use borrow.Author.Needs.{needs}
+use native.Mathlib.Omega.{arith}
+use Rattle.lasting.proofs.emitting.make_held.Statement.{statement}
+use Rattle.lasting.proofs.emitting.make_held.Tie as tie
+use Rattle.lasting.proofs.emitting.make_held.Reads as reads
+use Rattle.lasting.proofs.emitting.make_held.Lts as lts
+use Rattle.composing.proofs.held.version_stands.Reads as version-stands-reads
+use Rattle.lasting.proofs.emitting.emit_version.Reads as emit-version-reads
+
+version-stands-requires : tie.Need-version-stands-requires
+version-stands-requires c κs = search needs
+
+returns : tie.Need-returns
+returns c = search made-ways
+
+emit-version-requires : tie.Need-emit-version-requires
+emit-version-requires c κs = search needs
+
+same-length : tie.Need-same-length
+same-length c = search needs
+
+returns-2 : tie.Need-returns-2
+returns-2 c = search made-ways
+
+pub make-held-spec : {M : Type 1} → statement M
+make-held-spec = tie.close (tie.spec version-stands-requires returns emit-version-requires same-length returns-2)

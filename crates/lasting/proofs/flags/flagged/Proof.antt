@@ -1,0 +1,20 @@
+use Rattle.lasting.proofs.WholeLaws.{flag-there, flag-is}
+use borrow.Author.Needs.{needs}
+use Rattle.lasting.proofs.flags.flagged.Statement.{statement}
+use Rattle.lasting.proofs.flags.flagged.Tie as tie
+use Rattle.lasting.proofs.flags.flagged.Reads as reads
+use Rattle.lasting.proofs.flags.flagged.Lts as lts
+use Rattle.keys.proofs.bits.flag.Reads as flag-reads
+use Rattle.lasting.proofs.flags.flags_of.Reads as flags-of-reads
+
+flags-of-requires : tie.Need-flags-of-requires
+flags-of-requires c κs = search needs
+
+flag-requires : tie.Need-flag-requires
+flag-requires c κs = flag-there (c .before .before .args .work .now) _ (c .before .before .pre) (c .flags-of .ensures) _
+
+returns : tie.Need-returns
+returns c = flag-is (c .before .before .before .args .work .now) _ (c .before .flags-of .ensures) _ _ (c .flag .ensures)
+
+pub flagged-spec : {M : Type 1} → statement M
+flagged-spec = tie.close (tie.spec flags-of-requires flag-requires returns)

@@ -1,0 +1,28 @@
+use Rattle.lasting.proofs.OldLaws.{replay-playing, replayed}
+use borrow.Author.Needs.{needs}
+use Rattle.lasting.proofs.old.replay.Statement.{statement}
+use Rattle.lasting.proofs.old.replay.Tie as tie
+use Rattle.lasting.proofs.old.replay.Reads as reads
+use Rattle.lasting.proofs.old.replay.Lts as lts
+use Rattle.history.proofs.finding.load_at.Reads as load-at-reads
+use Rattle.history.proofs.playing.play.Reads as play-reads
+
+load-at-requires : tie.Need-load-at-requires
+load-at-requires c κs = search needs
+
+play-requires : tie.Need-play-requires
+play-requires c κs =
+    let r = c .before .before .before .before .before .before .before .before .pre .0 in
+    ((r .short, r .rest, r .start, search needs), replay-playing _ _ _ _ _ r _ _ (c .before .before .before .load-at .ensures .0))
+
+same-length : tie.Need-same-length
+same-length c = search needs
+
+returns : tie.Need-returns
+returns c =
+    let s = c .before .before .before .before .before .before .before .before .before .before .before in
+    let l = c .before .before .before .before .before .before .load-at in
+    replayed _ _ _ _ _ (s .pre .0) _ _ (l .ensures .0) (s .args .work .now) (l .ensures .1) _ _ (c .before .before .play .ensures)
+
+pub replay-spec : {M : Type 1} → statement M
+replay-spec = tie.close (tie.spec load-at-requires play-requires same-length returns)

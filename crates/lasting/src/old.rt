@@ -1,0 +1,117 @@
+// An old record on the way to the result: it is left alone, deleted, or changed by the update records that name it.
+use crate::Step;
+use crate::flags::flagged;
+use crate::flags::flags_of;
+use crate::stepping::last_step;
+use crate::stepping::step_of;
+use composing::acts::deleted_from;
+use composing::making::make_untouched;
+use history::finding::load_at;
+use history::playing::play;
+use skeleton::directory::Shape;
+use version::Changed;
+ghost use mathlib.Core.Path.{_≡_};
+ghost use mathlib.Core.Bool.{false};
+ghost use Prim.Native.Nat.{ℕ, _+_, _≤_};
+ghost use lib.ListN.{length};
+ghost use Rattle.base.specs.Walk.{Got};
+ghost use Rattle.skeleton.specs.File.{recordsFrom};
+ghost use Rattle.skeleton.specs.Place.{between, fieldsAt};
+ghost use Rattle.sequence.specs.Stream.{keptOf};
+ghost use Rattle.updates.specs.Acts.{chart};
+ghost use Rattle.stock.specs.Stock.{recIn};
+ghost use Rattle.version.specs.Areas.{flagArea};
+ghost use Rattle.version.specs.Present.{FlagsKept};
+ghost use Rattle.composing.specs.Acts.{deletedFrom};
+ghost use Rattle.lasting.specs.Whole.{Whole, Old};
+ghost use Rattle.lasting.specs.Step.{Stepped};
+ghost use Rattle.lasting.specs.Stays.{Replayable, Replayed, SameStep, OldStep};
+
+// The record at p as it stands.
+fn untouched(
+    d: &[u8],
+    ds: usize,
+    t: &[u32],
+    n: usize,
+    map: &[u8],
+    u: &[u8],
+    us: usize,
+    p: usize,
+    len: usize,
+    h: Shape,
+    work: &[u8],
+    out: &mut [u8],
+    to: usize,
+) -> Step
+    requires { ⌜ Whole (now d) ds (now t) n (now map) (now u) us (now work) × ((key : ℕ) × Old (now d) ds p len h key) × (to ≤ 4611686018427387904) ⌝ }
+    ensures { λ s. ⌜ SameStep (now (d .entry)) ds (now (u .entry)) us (now (work .entry)) to (now (out .entry)) (now (out .exit)) p len h s ⌝ }
+{
+    let flags = flags_of(work);
+    step_of(make_untouched(d, ds, t, n, map, u, us, flags, &d[p..p + len], h, out, to))
+}
+
+// What the update records that name the key make of the record at p.
+fn replay(d: &[u8], u: &[u8], us: usize, p: usize, key: u64, work: &mut [u8]) -> Changed
+    requires { ⌜ Replayable (now d) (now u) us p key × (400000 ≤ length (now work)) ⌝ }
+    ensures { λ c. ⌜ Replayed (now (d .entry)) (now (u .entry)) us p key (now (work .entry)) (now (work .exit)) c ⌝ }
+{
+    let first = load_at(d, p, work);
+    let all = u.len();
+    play(d, u, us, all, key, first, work)
+}
+
+// The record at p, which no update record deletes, after those that name it.
+fn played(
+    d: &[u8],
+    ds: usize,
+    t: &[u32],
+    n: usize,
+    map: &[u8],
+    u: &[u8],
+    us: usize,
+    p: usize,
+    key: u64,
+    work: &mut [u8],
+    out: &mut [u8],
+    to: usize,
+) -> Step
+    requires { ⌜ Whole (now d) ds (now t) n (now map) (now u) us (now work) × ((len : ℕ) × (h : Shape) × Old (now d) ds p len h key) × (to ≤ 4611686018427387904) × (deletedFrom (now u) us key ≡ false) ⌝ }
+    ensures { λ s. ⌜ OldStep (now (d .entry)) ds (now (u .entry)) us (now (work .entry)) to (now (out .entry)) (now (out .exit)) p key (now (work .exit)) s ⌝ }
+{
+    let last = replay(d, u, us, p, key, work);
+    last_step(d, ds, t, n, map, u, us, work, last, out, to)
+}
+
+// The record at p, of len bytes and shape h, for the kind with place q.
+pub fn make_old(
+    d: &[u8],
+    ds: usize,
+    t: &[u32],
+    n: usize,
+    map: &[u8],
+    u: &[u8],
+    us: usize,
+    p: usize,
+    len: usize,
+    h: Shape,
+    key: u64,
+    q: u64,
+    work: &mut [u8],
+    out: &mut [u8],
+    to: usize,
+) -> Step
+    requires { ⌜ Whole (now d) ds (now t) n (now map) (now u) us (now work) × Old (now d) ds p len h key × (to ≤ 4611686018427387904) ⌝ }
+    ensures { λ r. ⌜ Stepped (now (d .entry)) ds (now (u .entry)) us (flagArea (now (work .entry))) (keptOf chart q ((recordsFrom (now (u .entry)) us) .items) (recIn (fieldsAt (between (now (d .entry)) p (p + len)) h 24))) to (now (out .entry)) (now (out .exit)) r
+        × FlagsKept (now (work .entry)) (now (work .exit)) ⌝ }
+{
+    if key / 4294967296 != q {
+        return Step::Nothing;
+    }
+    if !flagged(work, key) {
+        return untouched(d, ds, t, n, map, u, us, p, len, h, work, out, to);
+    }
+    if deleted_from(u, us, key) {
+        return Step::Nothing;
+    }
+    played(d, ds, t, n, map, u, us, p, key, work, out, to)
+}
