@@ -1,0 +1,5 @@
+pub mod RestLaws
+pub mod PassLaws
+pub mod WalkLaws
+pub mod PartLaws
+pub mod KindLaws

@@ -1,0 +1,73 @@
+// The records of an update's result behind the third, straight from dataset and update into the output.
+use crate::pass::Part;
+use crate::walk::walk_kind;
+ghost use mathlib.Core.Path.{_≡_};
+ghost use Prim.Native.Nat.{_≤_};
+ghost use lib.ListN.{length};
+ghost use Rattle.base.specs.Walk.{Got};
+ghost use Rattle.skeleton.specs.File.{recordsFrom};
+ghost use Rattle.rules.specs.Outcome.{done};
+ghost use Rattle.sequence.specs.Keyed.{Each, Ordered};
+ghost use Rattle.updates.specs.Acts.{chart};
+ghost use Rattle.updates.specs.Streamed.{verdicts};
+ghost use Rattle.sound.specs.Sound.{SoundRec};
+ghost use Rattle.keys.specs.Listed.{keysFrom};
+ghost use Rattle.keys.specs.Table.{Laid};
+ghost use Rattle.stock.specs.Stock.{stockFrom};
+ghost use Rattle.version.specs.Areas.{flagArea};
+ghost use Rattle.history.specs.Flags.{Flags};
+ghost use Rattle.history.specs.Ready.{Ready};
+ghost use Rattle.result.specs.Composed.{ComposedBy};
+
+pub mod pass;
+pub mod walk;
+
+// The number of the record with a loose reference; or the length of the result and the count of its records behind the third.
+pub enum Composed {
+    Loose(usize),
+    Whole { length: usize, count: usize },
+}
+
+// All of them, kind by kind, from `at` on.
+pub fn compose(
+    d: &[u8],
+    ds: usize,
+    t: &[u32],
+    n: usize,
+    map: &[u8],
+    u: &[u8],
+    us: usize,
+    work: &mut [u8],
+    out: &mut [u8],
+    at: usize,
+) -> Composed
+    requires { ⌜ Ready (now d) ds (now u) us × Laid (now d) ds (now t) n (now map) × (400000 ≤ length (now work)) × (at ≤ 299997) × Each SoundRec (stockFrom (now d) ds) × Ordered chart 1 (stockFrom (now d) ds) ⌝ }
+    requires { ⌜ (verdicts (stockFrom (now d) ds) ((recordsFrom (now u) us) .items) ≡ done tt) × Flags (keysFrom (now u) us) (flagArea (now work)) ⌝ }
+    ensures { λ r. ⌜ ComposedBy (stockFrom (now (d .entry)) ds) ((recordsFrom (now (u .entry)) us) .items) at (now (out .entry)) r (now (out .exit)) ⌝ }
+{
+    let mut q = 1;
+    let mut from = ds;
+    let mut to = at;
+    let mut made = 0;
+    while q < 5 {
+        match walk_kind(d, ds, t, n, map, u, us, from, q, work, out, to, made) {
+            Part::Loose(k) => {
+                return Composed::Loose(k);
+            }
+            Part::Went {
+                to: next,
+                made: more,
+                place,
+            } => {
+                from = place;
+                to = next;
+                made = more;
+                q += 1;
+            }
+        }
+    }
+    Composed::Whole {
+        length: to,
+        count: made,
+    }
+}
