@@ -1,0 +1,97 @@
+use Rattle.updater.proofs.EntryLaws.{begun-sound, begun-table, begun-ready, fine-verdicts, wrong-acted}
+use Rattle.updater.proofs.ActLaws.{acted-size}
+use native.Mathlib.Omega.{arith}
+use borrow.Author.Needs.{needs}
+use Rattle.updater.proofs.act.Statement.{statement}
+use Rattle.updater.proofs.act.Tie as tie
+use Rattle.updater.proofs.act.Reads as reads
+use Rattle.updater.proofs.act.Lts as lts
+use Rattle.keys.proofs.table.spread.Reads as spread-reads
+use Rattle.updater.proofs.finish.Reads as finish-reads
+use Rattle.updater.proofs.refuse.Reads as refuse-reads
+use Rattle.history.proofs.judging.judge.Reads as judge-reads
+
+cast-table : tie.Need-cast-table
+cast-table c = search needs
+
+sub-stride : tie.Need-sub-stride
+sub-stride c = search needs
+
+add-stride : tie.Need-add-stride
+add-stride c = search needs
+
+slice-aggregate-spread : tie.Need-slice-aggregate-spread
+slice-aggregate-spread c = search needs
+
+slice-aggregate-spread-2 : tie.Need-slice-aggregate-spread-2
+slice-aggregate-spread-2 c = search needs
+
+spread-requires : tie.Need-spread-requires
+spread-requires c κs = let s = c .before .before .before .before .before .before in (search needs, begun-sound _ _ _ _ _ (s .pre .0), begun-table _ _ _ _ _ (s .pre .0) 4096)
+
+slice-aggregate-judge : tie.Need-slice-aggregate-judge
+slice-aggregate-judge c = search needs
+
+slice-aggregate-judge-2 : tie.Need-slice-aggregate-judge-2
+slice-aggregate-judge-2 c = search needs
+
+judge-requires : tie.Need-judge-requires
+judge-requires c κs = let s = c .before .before .before .before .before .before .before .before .before .before .before .before in (begun-ready _ _ _ _ _ (s .pre .0), c .before .before .before .before .before .spread .ensures, s .pre .1)
+
+enum-told : tie.Need-enum-told
+enum-told c = search needs
+
+slice-aggregate-finish : tie.Need-slice-aggregate-finish
+slice-aggregate-finish c = search needs
+
+slice-aggregate-finish-2 : tie.Need-slice-aggregate-finish-2
+slice-aggregate-finish-2 c = search needs
+
+finish-requires : tie.Need-finish-requires
+finish-requires c κs = let s = c .before .before .before .before .before .before .before .before .before .before .before .before .before .before .before .before .before .before .before .before .before in let j = c .before .before .before .before .before .before .before .before .judge in let e = c .before .before .before .before .enum-told .given .1 in ((s .pre .0, c .before .before .before .before .before .before .before .before .before .before .before .before .before .before .spread .ensures, omega (arith, j .kept .1 .1 .1 .1 .1 .1 .1 .0, s .pre .1)), (fine-verdicts _ _ _ _ _ (s .pre .0) _ _ (j .ensures) e, j .ensures .flags e))
+
+enum-known-k : tie.Need-enum-known-k
+enum-known-k c = search needs
+
+refuse-requires : tie.Need-refuse-requires
+refuse-requires c κs = search needs
+
+same-length : tie.Need-same-length
+same-length c = search needs
+
+same-length-2 : tie.Need-same-length-2
+same-length-2 c = search needs
+
+returns : tie.Need-returns
+returns c = acted-size _ _ _ _ _ _ _ _ _ _ _ (c .before .before .before .before .finish .ensures) (c .before .before .before .before .before .before .before .before .before .before .before .before .before .judge .kept .1 .1 .1 .1 .1 .1 .1 .0)
+
+same-length-3 : tie.Need-same-length-3
+same-length-3 c = search needs
+
+returns-2 : tie.Need-returns-2
+returns-2 c = let s = c .before .before .before .before .before .before .before .before .before .before .before .before .before .before .before .before .before .before .before in wrong-acted _ _ _ _ _ (s .pre .0) _ _ (c .before .before .before .before .before .before .judge .ensures) _ _ _ _ (c .before .before .k .given .1) _ _ (s .pre .1) _ _ _ (c .refuse .ensures)
+
+pub act-spec : {M : Type 1} → statement M
+act-spec =
+    tie.close
+    (tie.spec
+    cast-table
+    sub-stride
+    add-stride
+    slice-aggregate-spread
+    slice-aggregate-spread-2
+    spread-requires
+    slice-aggregate-judge
+    slice-aggregate-judge-2
+    judge-requires
+    enum-told
+    slice-aggregate-finish
+    slice-aggregate-finish-2
+    finish-requires
+    enum-known-k
+    refuse-requires
+    same-length
+    same-length-2
+    returns
+    same-length-3
+    returns-2)

@@ -1,0 +1,64 @@
+use Rattle.updater.proofs.EntryLaws.{built-15, built-14, built-14-update}
+use Rattle.updater.proofs.StageLaws.{unread, is-legible}
+use borrow.Author.Needs.{needs}
+use native.Mathlib.Omega.{arith}
+use Rattle.updater.proofs.build.Statement.{statement}
+use Rattle.updater.proofs.build.Tie as tie
+use Rattle.updater.proofs.build.Reads as reads
+use Rattle.updater.proofs.build.Lts as lts
+use Rattle.reader.proofs.read.Reads as read-reads
+use Rattle.updater.proofs.prepare.Reads as prepare-reads
+use Rattle.updater.proofs.refuse.Reads as refuse-reads
+
+refuse-requires : tie.Need-refuse-requires
+refuse-requires c κs = search needs
+
+returns : tie.Need-returns
+returns c = search built-15
+
+refuse-requires-2 : tie.Need-refuse-requires-2
+refuse-requires-2 c κs = search needs
+
+returns-2 : tie.Need-returns-2
+returns-2 c = search built-14
+
+refuse-requires-3 : tie.Need-refuse-requires-3
+refuse-requires-3 c κs = search needs
+
+returns-3 : tie.Need-returns-3
+returns-3 c = search built-14-update
+
+read-requires : tie.Need-read-requires
+read-requires c κs = search needs
+
+returns-4 : tie.Need-returns-4
+returns-4 c = search unread
+
+prepare-requires : tie.Need-prepare-requires
+prepare-requires c κs = search is-legible
+
+same-length : tie.Need-same-length
+same-length c = search needs
+
+same-length-2 : tie.Need-same-length-2
+same-length-2 c = search needs
+
+returns-5 : tie.Need-returns-5
+returns-5 c = search needs
+
+pub build-spec : {M : Type 1} → statement M
+build-spec =
+    tie.close
+    (tie.spec
+    refuse-requires
+    returns
+    refuse-requires-2
+    returns-2
+    refuse-requires-3
+    returns-3
+    read-requires
+    returns-4
+    prepare-requires
+    same-length
+    same-length-2
+    returns-5)
