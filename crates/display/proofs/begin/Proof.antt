@@ -1,0 +1,21 @@
+-- `begin` meets its contract. Assumes nothing.
+use Rattle.display.proofs.PoolLaws.{begun}
+use native.Mathlib.Omega.{arith}
+use borrow.Author.Needs.{needs}
+use Rattle.display.proofs.begin.Statement.{statement}
+use Rattle.display.proofs.begin.Tie as tie
+use Rattle.display.proofs.begin.Reads as reads
+use Rattle.display.proofs.begin.Lts as lts
+use Rattle.writer.proofs.write.Reads as write-reads
+
+write-requires : tie.Need-write-requires
+write-requires c κs = search needs
+
+same-length : tie.Need-same-length
+same-length c = search needs
+
+returns : tie.Need-returns
+returns c = begun _ _ _ _ (c .before .before .write .ensures .0) (c .before .before .write .ensures .1)
+
+pub begin-spec : {M : Type 1} → statement M
+begin-spec = tie.close (tie.spec write-requires same-length returns)
