@@ -1,1 +1,3 @@
 pub mod NumberedLaws
+pub mod ShownLaws
+pub mod FieldLaws

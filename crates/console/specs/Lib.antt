@@ -1,1 +1,3 @@
 pub mod Numbered
+pub mod Shown
+pub mod Field

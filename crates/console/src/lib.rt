@@ -1,13 +1,22 @@
 // What other languages link: the entry points over numbers and byte slices.
+use display::Chart;
+use display::begin;
+use display::hand;
+use fieldwise::file::field_of_record;
+use fieldwise::numbered::Found;
 use reader::read;
 use rules::Answer;
+use updater::update;
 use writer::write;
 ghost use mathlib.Core.Path.{_≡_};
 ghost use lib.ListN.{length};
 ghost use Rattle.memory.specs.Hold.{hold};
 ghost use Rattle.listing.specs.Listed.{listed};
-ghost use Rattle.rules.specs.Answers.{read as theAnswer, Output, write as theOutput};
+ghost use Rattle.rules.specs.Answers.{read as theAnswer, Output, write as theOutput, update as theUpdated, workAfter};
 ghost use Rattle.console.specs.Numbered.{numbered};
+ghost use Rattle.console.specs.Shown.{Begins, Hands};
+ghost use Rattle.fieldwise.specs.InFile.{fieldInFile};
+ghost use Rattle.console.specs.Field.{there, threeOf, fieldNumbers};
 
 // The answer's five numbers go into the first five places of `answer`: number, file, record, length, count. A shorter slice is left as it is.
 fn put_answer(a: Answer, answer: &mut [u64])
@@ -49,4 +58,80 @@ pub extern "C" fn ezdurvash_list(input: &[u8], out: &mut [u8]) -> usize
     ensures { λ n. ⌜ (n ≡ length (listed (now (input .entry)) (length (now (out .entry))))) × (now (out .exit) ≡ hold (length (now (out .entry))) (listed (now (input .entry)) (length (now (out .entry))))) ⌝ }
 {
     listing::list(input, out)
+}
+
+// Updates a dataset: the result and zeroes behind it, or zeroes alone where it is refused; the workspace is zero.
+#[no_mangle]
+pub extern "C" fn ezdurvash_update(
+    dataset: &[u8],
+    file: &[u8],
+    out: &mut [u8],
+    work: &mut [u8],
+    answer: &mut [u64],
+)
+    ensures { λ _. ⌜ now (out .exit) ≡ (theUpdated (now (dataset .entry)) (now (file .entry)) (length (now (out .entry))) (length (now (work .entry)))) .out ⌝ }
+    ensures { λ _. ⌜ now (work .exit) ≡ workAfter (length (now (work .entry))) ⌝ }
+    ensures { λ _. ⌜ now (answer .exit) ≡ numbered ((theUpdated (now (dataset .entry)) (now (file .entry)) (length (now (out .entry))) (length (now (work .entry)))) .answer) (now (answer .entry)) ⌝ }
+{
+    let a = update(dataset, file, out, work);
+    put_answer(a, answer);
+}
+
+// A display begins with a dataset: its chart, the dataset's written form, stands in the first pool, and the result is its length.
+#[no_mangle]
+pub extern "C" fn ezdurvash_begin(dataset: &[u8], first: &mut [u8], answer: &mut [u64]) -> usize
+    ensures { λ n. ⌜ Begins (now (dataset .entry)) (length (now (first .entry))) (now (answer .entry)) n (now (first .exit)) (now (answer .exit)) ⌝ }
+{
+    let r = begin(dataset, first);
+    put_answer(r.answer, answer);
+    r.chart.length
+}
+
+// A file reaches a display whose chart has `size` bytes, in the second pool where `place` is not 0, else in the first. The result is the chart's
+// length then: where the answer's number is 0, in the other pool.
+#[no_mangle]
+pub extern "C" fn ezdurvash_hand(
+    place: usize,
+    size: usize,
+    first: &mut [u8],
+    second: &mut [u8],
+    file: &[u8],
+    work: &mut [u8],
+    answer: &mut [u64],
+) -> usize
+    ensures { λ n. ⌜ Hands place size (now (first .entry)) (now (second .entry)) (now (file .entry)) (length (now (work .entry))) (now (answer .entry)) n (now (first .exit)) (now (second .exit)) (now (work .exit)) (now (answer .exit)) ⌝ }
+{
+    let chart = Chart {
+        second: place != 0,
+        length: size,
+    };
+    let r = hand(chart, first, second, file, work);
+    put_answer(r.answer, answer);
+    r.chart.length
+}
+
+// A field's tag, where its body starts and where that ends go into the first three places of `field`. A shorter slice is left as it is.
+fn put_field(tag: u32, start: usize, end: usize, field: &mut [u64])
+    ensures { λ _. ⌜ now (field .exit) ≡ threeOf tag start end (now (field .entry)) ⌝ }
+{
+    if field.len() < 3 {
+        return;
+    }
+    field[0] = tag as u64;
+    field[1] = start as u64;
+    field[2] = end as u64;
+}
+
+// The field of a number in the record of a number of a file, both from 1; the result is 1 where there is one, else 0.
+#[no_mangle]
+pub extern "C" fn ezdurvash_field(file: &[u8], m: usize, n: usize, field: &mut [u64]) -> usize
+    ensures { λ r. ⌜ (r ≡ there (fieldInFile (now (file .entry)) m n)) × (now (field .exit) ≡ fieldNumbers (fieldInFile (now (file .entry)) m n) (now (field .entry))) ⌝ }
+{
+    match field_of_record(file, m, n) {
+        Found::Field { tag, start, end } => {
+            put_field(tag, start, end, field);
+            1
+        }
+        Found::Nothing => 0,
+    }
 }

@@ -1,0 +1,43 @@
+-- `ezdurvash_field` meets its contract. Assumes nothing.
+use Rattle.console.proofs.FieldLaws.{field-found, field-none}
+use native.Mathlib.Omega.{arith}
+use borrow.Author.Needs.{needs}
+use Rattle.console.proofs.ezdurvash_field.Statement.{statement}
+use Rattle.console.proofs.ezdurvash_field.Tie as tie
+use Rattle.console.proofs.ezdurvash_field.Reads as reads
+use Rattle.console.proofs.ezdurvash_field.Lts as lts
+use Rattle.console.proofs.put_field.Reads as put-field-reads
+use Rattle.fieldwise.proofs.file.field_of_record.Reads as field-of-record-reads
+
+field-of-record-requires : tie.Need-field-of-record-requires
+field-of-record-requires c κs = search needs
+
+enum-known-tag : tie.Need-enum-known-tag
+enum-known-tag c = search needs
+
+put-field-requires : tie.Need-put-field-requires
+put-field-requires c κs = search needs
+
+enum-told : tie.Need-enum-told
+enum-told c = search needs
+
+same-length : tie.Need-same-length
+same-length c = search needs
+
+returns : tie.Need-returns
+returns c = field-found _ _ _ _ _ _ _ (c .before .before .before .before .before .tag .given .1) (c .before .before .before .before .before .before .before .field-of-record .ensures) (c .before .before .put-field .ensures)
+
+returns-2 : tie.Need-returns-2
+returns-2 c = field-none _ _ _ (c .enum-told .given .1) (c .before .before .field-of-record .ensures)
+
+pub ezdurvash-field-spec : {M : Type 1} → statement M
+ezdurvash-field-spec =
+    tie.close
+    (tie.spec
+    field-of-record-requires
+    enum-known-tag
+    put-field-requires
+    enum-told
+    same-length
+    returns
+    returns-2)
