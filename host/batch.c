@@ -1,11 +1,12 @@
 #include "batch.h"
 #include "files.h"
+#include "hash.h"
 #include "words.h"
 
 enum { READ = 1, WRITE = 2, UPDATE = 3, LISTING = 4 };
 enum { HEAD = 17 };
 
-/* What a lent slice is filled with before a call, so that zeroing shows. */
+/* What the lent slices are filled with before a call, so that zeroing shows. */
 enum { FILLED = 0xa5 };
 
 /* One case: what is asked, the bytes handed over, and how long the lent slices are. */
@@ -32,11 +33,10 @@ static word unframed(const byte *at, word left, struct framed *one) {
     return length <= left ? length : 0;
 }
 
-/* FNV-1a, 64 bits. */
-static word hash(const byte *bytes, word length) {
-    word sum = 0xcbf29ce484222325;
-    for (word i = 0; i < length; i++) sum = (sum ^ bytes[i]) * 0x100000001b3;
-    return sum;
+static int all_zero(const byte *bytes, word length) {
+    for (word i = 0; i < length; i++)
+        if (bytes[i] != 0) return 0;
+    return 1;
 }
 
 /* A slice to lend, to be freed; null where there is no memory. */
@@ -76,11 +76,29 @@ static const char *written_one(const struct framed *one) {
     return 0;
 }
 
+/* The call of an update, its slices lent. */
+static void update_called(const struct framed *one, byte *out, byte *work) {
+    word answer[EZDURVASH_NUMBERS];
+    ezdurvash_update(one->dataset, one->dataset_length, one->update, one->update_length, out, one->out_length, work,
+                     one->work_length, answer, EZDURVASH_NUMBERS);
+    print_line(answer, out, one->out_length, all_zero(work, one->work_length));
+}
+
+static const char *updated_one(const struct framed *one) {
+    byte *out = lent(one->out_length), *work = lent(one->work_length);
+    const char *wrong = out && work ? 0 : "there is no memory for its slices";
+    if (!wrong) update_called(one, out, work);
+    free(out);
+    free(work);
+    return wrong;
+}
+
 static const char *answered(const struct framed *one) {
     if (one->operation == READ) return read_one(one);
     if (one->operation == WRITE) return written_one(one);
     if (one->operation == LISTING) return listed_one(one);
-    return one->operation == UPDATE ? "updates are not proved yet" : "there is no such operation";
+    if (one->operation == UPDATE) return updated_one(one);
+    return "there is no such operation";
 }
 
 int batch(const char *path) {

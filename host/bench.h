@@ -4,8 +4,9 @@
 
 #include "system.h"
 
-/* Measure reading and writing; the largest dataset has so many MiB. A status of the tool. */
+/* Measure reading, writing and updating; the largest dataset has so many MiB. A status of the tool. */
 int bench_read(word mebibytes);
 int bench_write(word mebibytes);
+int bench_update(word mebibytes);
 
 #endif

@@ -10,6 +10,12 @@ int read_chart(const char *path) {
     return said(answer, 0);
 }
 
+/* A byte of a tag, for people. */
+static char printable(word letter) {
+    letter &= 255;
+    return letter < ' ' || letter > '~' ? '?' : (char)letter;
+}
+
 int list_chart(const char *path) {
     static byte text[EZDURVASH_LISTING];
     struct file chart;
@@ -18,6 +24,21 @@ int list_chart(const char *path) {
     if (length == 0) return trouble(path, "there is too little room for its listing");
     printf("%.*s", (int)length, (const char *)text);
     return memcmp(text, "rec ", 4) == 0 ? DONE : REFUSED;
+}
+
+int show_fields(const char *path, const char *number) {
+    char *behind, tag[5] = "";
+    struct file chart;
+    word field[EZDURVASH_FIELD], n, record = strtoul(number, &behind, 10);
+    if (*number < '0' || *number > '9' || *behind) return trouble(number, "it is no record's number");
+    if (!loaded(path, &chart)) return TROUBLE;
+    for (n = 1; ezdurvash_field(chart.bytes, chart.length, record, n, field, EZDURVASH_FIELD); n++) {
+        if (n == 1) printf("field tag       byte   bytes\n");
+        for (int i = 0; i < 4; i++) tag[i] = printable(field[0] >> (24 - 8 * i));
+        printf("%5lu %s %10lu %7lu\n", n, tag, field[1], field[2] - field[1]);
+    }
+    if (n == 1) printf("none: there is no record %lu, or one up to it is not in ISO 8211 form\n", record);
+    return n == 1 ? REFUSED : DONE;
 }
 
 /* Keeps what a call has written, if it has, and says the answer. */
@@ -33,5 +54,17 @@ int write_chart(const char *path, const char *to) {
     if (!loaded(path, &chart)) return TROUBLE;
     if (same_file(to, &chart)) return trouble(to, "it is the dataset itself, which is never overwritten");
     ezdurvash_write(chart.bytes, chart.length, out, EZDURVASH_LONGEST, answer, EZDURVASH_NUMBERS);
+    return finished(answer, out, to);
+}
+
+int update_chart(const char *path, const char *update, const char *to) {
+    static byte out[EZDURVASH_LONGEST], work[EZDURVASH_WORKSPACE];
+    struct file chart, changes;
+    word answer[EZDURVASH_NUMBERS];
+    if (!loaded(path, &chart) || !loaded(update, &changes)) return TROUBLE;
+    if (same_file(to, &chart)) return trouble(to, "it is the dataset itself, which is never overwritten");
+    if (same_file(to, &changes)) return trouble(to, "it is the update itself, which is never overwritten");
+    ezdurvash_update(chart.bytes, chart.length, changes.bytes, changes.length, out, EZDURVASH_LONGEST, work, EZDURVASH_WORKSPACE,
+                     answer, EZDURVASH_NUMBERS);
     return finished(answer, out, to);
 }

@@ -6,7 +6,11 @@ int read_chart(const char *path);
 
 int list_chart(const char *path);
 
-/* Puts a file in the place of `to`: only where the rules accept, never in the place of what is read. */
+/* The fields of the record with this number, from 1: tag, where its bytes begin in the file, and how many there are before its closing 1E. */
+int show_fields(const char *path, const char *number);
+
+/* Both put a file in the place of `to`: only where the rules accept, never in the place of what is read. */
 int write_chart(const char *path, const char *to);
+int update_chart(const char *path, const char *update, const char *to);
 
 #endif

@@ -5,7 +5,7 @@
 /* The places of an answer's numbers. */
 enum { EZDURVASH_NUMBER, EZDURVASH_FILE, EZDURVASH_RECORD, EZDURVASH_LENGTH, EZDURVASH_COUNT, EZDURVASH_NUMBERS };
 
-/* Everywhere: any bytes may be handed over, and those of the dataset are never written. No pointer is null, also where its length
+/* Everywhere: any bytes may be handed over, and those of dataset and update are never written. No pointer is null, also where its length
    is 0. The slices that are written lie apart from each other and from what is read. The five numbers of an answer go into `answer`,
    whose `answer_length` is EZDURVASH_NUMBERS: number of the refusal (0 for done), file, record, written length, count of records; a
    shorter `answer` is left as it is. No memory is taken but some 50 KiB of the stack, and more where attributes are nested deep. */
@@ -23,7 +23,33 @@ void ezdurvash_write(const unsigned char *dataset, unsigned long dataset_length,
 enum { EZDURVASH_LISTING = 327736 };
 unsigned long ezdurvash_list(const unsigned char *input, unsigned long input_length, unsigned char *out, unsigned long out_length);
 
-/* The longest dataset, read or written. */
+/* The field of a number in the record of a number of any file, both from 1: its tag (the four bytes as one number, the first the highest),
+   where its bytes start in the file and where its closing 1E stands go into `field`, whose `field_length` is EZDURVASH_FIELD, and the
+   answer is 1. Where there is none, or a record up to it is not right, `field` is left as it is, and the answer is 0. */
+enum { EZDURVASH_FIELD = 3 };
+unsigned long ezdurvash_field(const unsigned char *file, unsigned long file_length, unsigned long record, unsigned long number,
+                              unsigned long *field, unsigned long field_length);
+
+/* Puts the result of a dataset and an update into `out`, as ezdurvash_write does. `work` has EZDURVASH_WORKSPACE bytes at least, or the
+   call is refused; it is zero afterwards. */
+enum { EZDURVASH_WORKSPACE = 400000 };
+void ezdurvash_update(const unsigned char *dataset, unsigned long dataset_length, const unsigned char *update,
+                      unsigned long update_length, unsigned char *out, unsigned long out_length, unsigned char *work,
+                      unsigned long work_length, unsigned long *answer, unsigned long answer_length);
+
+/* A display that follows a master has two pools, `first` and `second`, one of which holds its chart. It begins with a dataset, whose
+   written form goes into the first pool; the answer is the chart's length, 0 on a refusal. */
+unsigned long ezdurvash_begin(const unsigned char *dataset, unsigned long dataset_length, unsigned char *first, unsigned long first_length,
+                              unsigned long *answer, unsigned long answer_length);
+
+/* Hands a file to a display whose chart has `size` bytes, in the second pool where `place` is not 0, else in the first. The chart stays as
+   it is in its pool; the result is built in the other, whose length is the room that there is for it. The answer is the chart's length
+   now: where the number of the refusal is 0 that of the result, in the other pool; else the one before, in its place. */
+unsigned long ezdurvash_hand(unsigned long place, unsigned long size, unsigned char *first, unsigned long first_length,
+                             unsigned char *second, unsigned long second_length, const unsigned char *file, unsigned long file_length,
+                             unsigned char *work, unsigned long work_length, unsigned long *answer, unsigned long answer_length);
+
+/* The longest dataset, update or result. */
 enum { EZDURVASH_LONGEST = 16777216 };
 
 #endif

@@ -1,4 +1,4 @@
-/* Large datasets for measuring: the same bytes from the same wishes. */
+/* Large datasets for measuring, and updates of them: the same bytes from the same wishes. */
 #ifndef EZ_INVENT_H
 #define EZ_INVENT_H
 
@@ -15,5 +15,9 @@ struct invented {
 /* A dataset of exactly so many bytes in written form, at least 65,536: of 67 records 32 are points, 32 features with attributes, an
    association and a spatial association, two are information types and one is a multi point. Null bytes where there is no memory. */
 struct invented invented(word length, int wishes);
+
+/* An update of such a dataset without wishes: so many records, in turn a feature modified, a point inserted, a point that nobody names
+   deleted, spread over the whole dataset, which has at least as many records. Null bytes where there is no memory. */
+struct invented invented_update(const struct invented *dataset, word records);
 
 #endif

@@ -2,10 +2,11 @@
 #include "batch.h"
 #include "bench.h"
 #include "commands.h"
+#include "demo.h"
 #include "words.h"
 
 static int usage(void) {
-    return trouble("usage", "read FILE | list FILE | write FILE OUT | batch CASES | bench read|write [MIB]");
+    return trouble("usage", "read FILE | list FILE | fields FILE RECORD | write FILE OUT | update FILE UPDATE OUT | demo .. | batch CASES | bench read|write|update [MIB]");
 }
 
 /* The largest dataset of a measurement in MiB: 16 where nothing is said, 0 where it is no number from 1 to 16. */
@@ -24,13 +25,17 @@ static int measured(int count, char **words) {
     word mebibytes = size(count, words);
     if (mebibytes > 0 && is(words[2], "read")) return bench_read(mebibytes);
     if (mebibytes > 0 && is(words[2], "write")) return bench_write(mebibytes);
+    if (mebibytes > 0 && is(words[2], "update")) return bench_update(mebibytes);
     return usage();
 }
 
 static int chosen(int count, char **words) {
     if (count == 3 && is(words[1], "read")) return read_chart(words[2]);
     if (count == 3 && is(words[1], "list")) return list_chart(words[2]);
+    if (count == 4 && is(words[1], "fields")) return show_fields(words[2], words[3]);
     if (count == 4 && is(words[1], "write")) return write_chart(words[2], words[3]);
+    if (count == 5 && is(words[1], "update")) return update_chart(words[2], words[3], words[4]);
+    if (count >= 2 && is(words[1], "demo")) return demo(count - 2, words + 2);
     if (count == 3 && is(words[1], "batch")) return batch(words[2]);
     if ((count == 3 || count == 4) && is(words[1], "bench")) return measured(count, words);
     return usage();

@@ -5,7 +5,7 @@
 #include "records.h"
 
 enum { INFORMATION, POINT, MULTI, FEATURE, KINDS };
-enum { INSERT = 1 };
+enum { INSERT = 1, DELETE = 2, MODIFY = 3 };
 
 /* Each of these begins a record anew. */
 void descriptive_record(struct record *r, word filling);

@@ -46,8 +46,11 @@ int fstat(int, struct stat *);
 int rename(const char *, const char *);
 int unlink(const char *);
 char *realpath(const char *, char *);
+void exit(int);
 int getpid(void);
 int clock_gettime(int, struct timespec *);
+int isatty(int);
+int usleep(unsigned);
 char *strerror(int);
 int *__errno_location(void);
 

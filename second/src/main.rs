@@ -6,7 +6,7 @@ use std::process::ExitCode;
 use second::{answer, batch, samples};
 
 const USAGE: &str = "usage: second answer CASES | second generate --seed N --count K [--operations 1,2,..] OUT | \
-second compare CASES ANSWERS | second samples DIR";
+second traces --seed N --count K OUT | second compare CASES ANSWERS | second samples DIR";
 
 fn main() -> ExitCode {
     let words: Vec<String> = std::env::args().skip(1).collect();
@@ -17,6 +17,7 @@ fn main() -> ExitCode {
         ["generate", "--seed", seed, "--count", count, "--operations", some, out] => {
             operations(some).and_then(|some| generated(seed, count, &some, out))
         }
+        ["traces", "--seed", seed, "--count", count, out] => traced(seed, count, out),
         ["compare", cases, answers] => compared(cases, answers),
         ["samples", folder] => sampled(folder),
         _ => Err(USAGE.to_string()),
@@ -53,10 +54,25 @@ fn operations(words: &str) -> Result<Vec<u8>, String> {
 }
 
 fn generated(seed: &str, count: &str, operations: &[u8], out: &str) -> Outcome {
-    let seed: u64 = seed.parse().map_err(|_| format!("{seed}: no seed"))?;
-    let count: usize = count.parse().map_err(|_| format!("{count}: no count"))?;
-    let cases = second::generate::corpus(seed, count, operations);
-    std::fs::write(out, batch::framed(&cases)).map_err(|e| format!("{out}: {e}"))?;
+    let (seed, count) = seeded(seed, count)?;
+    written(&second::generate::corpus(seed, count, operations), out)
+}
+
+/// The calls of so many displays.
+fn traced(seed: &str, count: &str, out: &str) -> Outcome {
+    let (seed, count) = seeded(seed, count)?;
+    let cases: Vec<batch::Case> = (0..count).flat_map(|n| second::generate::trace(seed, n).calls).collect();
+    written(&cases, out)
+}
+
+fn seeded(seed: &str, count: &str) -> Result<(u64, usize), String> {
+    let seed = seed.parse().map_err(|_| format!("{seed}: no seed"))?;
+    let count = count.parse().map_err(|_| format!("{count}: no count"))?;
+    Ok((seed, count))
+}
+
+fn written(cases: &[batch::Case], out: &str) -> Outcome {
+    std::fs::write(out, batch::framed(cases)).map_err(|e| format!("{out}: {e}"))?;
     Ok(ExitCode::SUCCESS)
 }
 

@@ -8,9 +8,11 @@ pub mod invent;
 pub mod random;
 pub mod revise;
 mod scatter;
+mod trace;
 
 pub use directed::{directed, table, Directed, Intent};
 pub use scatter::{random_case, Scattered};
+pub use trace::{trace, Trace};
 
 use crate::batch::Case;
 use random::Random;
