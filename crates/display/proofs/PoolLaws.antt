@@ -79,12 +79,12 @@ module _ (n : ℕ) (first second file w : List ℕ) (a : Answer) (w′ : List �
   in-first : (s′ : List ℕ) → Handed (take n first) file second w a s′ w′
       → Followed (record { second = false; length = n }) first second file (length w) (record { answer = a; chart = nextChart (record { second = false; length = n }) a }) first s′ w′
   unfolding pool other chartIn
-  in-first s′ h = record { said = h .said; stands = refl; holds = next-first s′ ∙ answered (take n first) _ a s′ (h .said) (h .built); inUse = refl; zero = h .zero }
+  in-first s′ h = record { said = h .said; stands = refl; holds = next-first s′ ∙ answered (take n first) _ a s′ (h .said) (h .built); inUse = refl; built = h .built; zero = h .zero }
 
   in-second : (f′ : List ℕ) → Handed (take n second) file first w a f′ w′
       → Followed (record { second = true; length = n }) first second file (length w) (record { answer = a; chart = nextChart (record { second = true; length = n }) a }) f′ second w′
   unfolding pool other chartIn
-  in-second f′ h = record { said = h .said; stands = refl; holds = next-second f′ ∙ answered (take n second) _ a f′ (h .said) (h .built); inUse = refl; zero = h .zero }
+  in-second f′ h = record { said = h .said; stands = refl; holds = next-second f′ ∙ answered (take n second) _ a f′ (h .said) (h .built); inUse = refl; built = h .built; zero = h .zero }
 
 module _ (c : Chart) (first second file w : List ℕ) (a : Answer) (w′ : List ℕ) (to : Chart) (e : to ≡ nextChart c a) where
   pub followed-first : c .second ≡ false → (s′ : List ℕ) → Handed (take (c .length) first) file second w a s′ w′ → Followed c first second file (length w) (record { answer = a; chart = to }) first s′ w′
@@ -104,4 +104,4 @@ as-taken room (refused file n x) = by-bool (eqb (x .number) 0) (λ h. rw h) (λ 
 pub begun : (dataset : List ℕ) (room : ℕ) (a : Answer) (first : List ℕ) → a ≡ (write dataset room) .answer → first ≡ (write dataset room) .out
     → Begun dataset room (record { answer = a; chart = record { second = false; length = a .length } }) first
 unfolding pool chartIn write
-begun dataset room a first x y = record { said = x; holds = λ second. rw (x, y) (as-taken room (writeOutcome room dataset)) }
+begun dataset room a first x y = record { said = x; wrote = y; stands = refl; holds = λ second. rw (x, y) (as-taken room (writeOutcome room dataset)) }

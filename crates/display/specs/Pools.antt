@@ -33,15 +33,19 @@ pub record Handed (c file o w : List ℕ) (a : Answer) (o′ w′ : List ℕ) : 
   pub built : o′ ≡ (update c file (length o) (length w)) .out
   pub zero : w′ ≡ workAfter (length w)
 
--- the writer was called with a dataset and the first pool: its answer, and as the chart what it wrote
+-- the writer was called with a dataset and the first pool: its answer, every byte of the pool, and as the chart what it wrote
 pub record Begun (dataset : List ℕ) (room : ℕ) (r : Shown) (first : List ℕ) : Type 0 where
   pub said : r .answer ≡ (write dataset room) .answer
+  pub wrote : first ≡ (write dataset room) .out
+  pub stands : r .chart ≡ record { second = false; length = r .answer .length }
   pub holds : (second : List ℕ) → chartIn (r .chart) first second ≡ taken [] (write dataset room)
 
--- a file reached a display with chart c: the updater's answer; the chart that demand 3 has after it; the old chart as it was, in its pool; the workspace zero
+-- a file reached a display with chart c: the updater's answer; the chart that demand 3 has after it; every byte of both pools and of the workspace: the
+-- old chart's pool as it was, the other as the updater leaves it, the workspace zero
 pub record Followed (c : Chart) (first second file : List ℕ) (work : ℕ) (r : Shown) (first′ second′ w′ : List ℕ) : Type 0 where
   pub said : r .answer ≡ (update (chartIn c first second) file (length (other c first second)) work) .answer
   pub stands : r .chart ≡ nextChart c (r .answer)
   pub holds : chartIn (r .chart) first′ second′ ≡ taken (chartIn c first second) (update (chartIn c first second) file (length (other c first second)) work)
   pub inUse : pool c first′ second′ ≡ pool c first second
+  pub built : other c first′ second′ ≡ (update (chartIn c first second) file (length (other c first second)) work) .out
   pub zero : w′ ≡ workAfter work
