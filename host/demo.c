@@ -177,6 +177,7 @@ static int holders(const struct show *show, word updates) {
 }
 
 static int judged(const struct show *show) {
+    int placed = 0;
     printf("\n");
     for (word updates = 0; updates <= show->count; updates++) {
         int found = holders(show, updates);
@@ -184,10 +185,15 @@ static int judged(const struct show *show) {
             printf("number %lu: two displays hold DIFFERENT charts\n", show->first + updates);
             return REFUSED;
         }
+        placed += found;
         if (found > 0) {
             printf("number %lu: %d display%s, hash %06lx\n", show->first + updates, found, found == 1 ? "" : "s",
                    show->hashes[updates] >> 40);
         }
+    }
+    if (placed != DISPLAYS) {
+        printf("a display shows a number that NO update has\n");
+        return REFUSED;
     }
     printf("%sall displays with one number have one hash, the master's%s\n", tint(show, GREEN), tint(show, PLAIN));
     return DONE;
