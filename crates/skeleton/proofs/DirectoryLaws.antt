@@ -3,20 +3,22 @@ use mathlib.Core.Path.{_≡_, refl, sym, _∙_}
 use mathlib.Core.List.{List}
 use mathlib.Core.Bool.{Bool, true, false, not}
 use Prim.Native.Nat.{ℕ, _+_, _-_, _*_, _^_, _≤_, _<_}
+use native.Mathlib.Nat.{zero-add, add-zero}
 use native.Mathlib.Omega.{arith}
 use borrow.Author.Tests.{le-leb, lt-leb, lt-ltb, le-ltb, eq-eqb, ne-eqb, leb-true, leb-false, ltb-false, eqb-true, eqb-false, not-true, not-false}
 use lib.ListN.{length, getD}
 use lib.Dec.{leb, ltb, eqb}
+use Rattle.base.specs.Choice.{both}
 use Rattle.base.specs.Walk.{follow, Lower}
 use Rattle.base.proofs.ChoiceLaws.{by-test, both-hold}
 use Rattle.base.proofs.WalkLaws.{walk-step}
-use Rattle.skeleton.specs.Digits.{numberAt}
-use Rattle.skeleton.specs.Directory.{tagAt, entryOf, entryIn, entryAt, lies, ended, stepBy, dirStep, fieldsFrom}
+use Rattle.skeleton.specs.Digits.{numberAt, digitsFrom}
+use Rattle.skeleton.specs.Directory.{tagAt, entryOf, entryIn, entryPast, entryAt, zerosAt, smallAt, lies, ended, stepBy, dirStep, fieldsFrom}
 use Rattle.skeleton.specs.declared.digits.Number.{Number}
 use Rattle.skeleton.specs.declared.digits.Number.the-variants.{Value, NotDigits}
 use Rattle.skeleton.specs.declared.directory.Entry.{Entry}
 use Rattle.skeleton.specs.declared.directory.Entry.the-variants.{Field, End, Bad}
-use Rattle.skeleton.proofs.DigitsLaws.{number-small}
+use Rattle.skeleton.proofs.DigitsLaws.{number-small, number-more}
 
 -- ---- what holds of an entry
 
@@ -28,7 +30,7 @@ pub record Entered (r : List ℕ) (a b p pos len : ℕ) : Type 0 where
   pub position-read : numberAt r (p + 4 + a) b ≡ Value pos
 
 -- what holds of the three that may stand at p holds of what stands there
-module _ (P : Entry → Type 0) (r : List ℕ) (a b p : ℕ) (bad : P Bad) (end : p < length r → P End)
+module _ (P : Entry → Type 0) (r : List ℕ) (a b p : ℕ) (bad : P Bad) (end : p < length r → getD r p 0 ≡ 30 → P End)
     (field : (pos len : ℕ) → Entered r a b p pos len → P (Field (tagAt r p) pos len (p + (4 + a + b)))) where
   by-numbers : (n m : Number) → ((pos len : ℕ) → n ≡ Value len → m ≡ Value pos → P (Field (tagAt r p) pos len (p + (4 + a + b))))
       → P (entryOf (tagAt r p) (p + (4 + a + b)) n m)
@@ -41,7 +43,7 @@ module _ (P : Entry → Type 0) (r : List ℕ) (a b p : ℕ) (bad : P Bad) (end 
   by-entry =
       by-test P (leb (length r) p) _ _ (λ _. bad) (λ x.
       let h : p < length r = leb-false _ _ x in
-      by-test P (eqb (getD r p 0) 30) _ _ (λ _. end h) (λ y.
+      by-test P (eqb (getD r p 0) 30) _ _ (λ y. end h (eqb-true _ _ y)) (λ y.
       by-test P (ltb (length r - p) (4 + a + b)) _ _ (λ _. bad) (λ z.
       let g : 4 + a + b ≤ length r - p = ltb-false _ _ z in
       by-numbers (numberAt r (p + 4) a) (numberAt r (p + 4 + a) b)
@@ -54,7 +56,7 @@ Goes r a b p End = p < length r
 Goes r a b p Bad = Unit {0}
 
 entry-goes : (r : List ℕ) (a b p : ℕ) → Goes r a b p (entryAt r a b p)
-entry-goes r a b p = by-entry (Goes r a b p) r a b p tt (λ h. h) (λ pos len e. (refl, e .fits))
+entry-goes r a b p = by-entry (Goes r a b p) r a b p tt (λ h _. h) (λ pos len e. (refl, e .fits))
 
 -- a field's numbers have at most nine digits
 abbrev Small : Entry → Type 0
@@ -64,7 +66,7 @@ Small Bad = Unit {0}
 
 entry-small : (r : List ℕ) (a b p : ℕ) → a ≤ 9 → b ≤ 9 → Small (entryAt r a b p)
 entry-small r a b p ha hb =
-    by-entry Small r a b p tt (λ _. tt) (λ pos len e.
+    by-entry Small r a b p tt (λ _ _. tt) (λ pos len e.
     (rw (e .position-read) at (number-small r (p + 4 + a) b hb), rw (e .length-read) at (number-small r (p + 4) a ha)))
 
 -- by the entry e that was read at p
@@ -163,6 +165,41 @@ pub tag-is : (r : List ℕ) (p w x y z : ℕ) → w ≡ getD r p 0 → x ≡ get
 unfolding tagAt
 tag-is r p w x y z e f g h = simp (e, f, g, h)
 
+-- a number of five digits that begins with two zeros
+five-small : (s : List ℕ) (at : ℕ) → at + 5 ≤ length s → zerosAt s at ≡ true → numberAt s (at + 2) 3 ≡ numberAt s at 5
+unfolding zerosAt
+five-small s at l z =
+    let x = both-hold (eqb (getD s at 0) 48) _ z in
+    let f : getD s at 0 ≡ 48 = eqb-true _ _ (x .0) in
+    let g : getD s (at + 1) 0 ≡ 48 = eqb-true _ _ (x .1) in
+    let one = number-more s at 5 0 _ refl (omega arith) l (omega arith) (omega arith) in
+    let two = number-more s (at + 1) 4 0 _ refl (omega arith) (omega arith) (omega arith) (omega arith) in
+    let e : at + 1 + 1 ≡ at + 2 = omega arith in
+    let one' : digitsFrom s (at + 1) 4 0 ≡ digitsFrom s at 5 0 = rw f at one in
+    let two' : digitsFrom s (at + 2) 3 0 ≡ digitsFrom s (at + 1) 4 0 = rw (g, e) at two in
+    two' ∙ one'
+
+past-zeros : (r : List ℕ) (p : ℕ) → p + 14 ≤ length r → zerosAt r (p + 4) ≡ true → zerosAt r (p + 9) ≡ true → entryPast r 2 3 3 p ≡ entryIn r 5 5 p
+unfolding entryPast entryIn
+past-zeros r p l y z =
+    let e : p + 4 + 5 ≡ p + 9 = omega arith in
+    let m = five-small r (p + 4) (omega arith) y in
+    let n = five-small r (p + 9) (omega arith) z in
+    rw (e, m, n) refl
+
+past-none : (r : List ℕ) (a b p : ℕ) → entryPast r 0 a b p ≡ entryIn r a b p
+unfolding entryPast entryIn
+past-none r a b p = simp (zero-add, add-zero)
+
+-- what smallness says
+small-holds : (r : List ℕ) (a b p : ℕ) → smallAt r a b p ≡ true → (a ≡ 5) × (b ≡ 5) × (zerosAt r (p + 4) ≡ true) × (zerosAt r (p + 9) ≡ true)
+unfolding smallAt
+small-holds r a b p e =
+    let x = both-hold (eqb a 5) _ e in
+    let y = both-hold (eqb b 5) _ (x .1) in
+    let z = both-hold (zerosAt r (p + 4)) _ (y .1) in
+    (eqb-true a 5 (x .0), eqb-true b 5 (y .0), z .0, z .1)
+
 -- what `entry_at` returns, by its tests
 module _ (r : List ℕ) (a b p : ℕ) where
   pub entry-past : length r ≤ p → Bad ≡ entryAt r a b p
@@ -183,24 +220,67 @@ module _ (r : List ℕ) (a b p : ℕ) where
       unfolding entryAt
       entry-there w e x = simp (lt-leb _ _ h, ne-eqb _ _ n, le-ltb _ _ w, x)
 
-      pub entry-fives : 4 + a + b ≤ length r - p → a ≡ 5 → b ≡ 5 → (e : Entry) → e ≡ entryIn r 5 5 p → e ≡ entryAt r a b p
-      entry-fives w i j e x = entry-there w e (rw (i, j) x)
+      module _ (w : 4 + a + b ≤ length r - p) (t : Bool) (et : t ≡ smallAt r a b p) where
+        pub entry-zeros : t ≡ true → (e : Entry) → e ≡ entryPast r 2 3 3 p → e ≡ entryAt r a b p
+        entry-zeros y e x =
+            let s = small-holds r a b p (sym et ∙ y) in
+            let f : p + 14 ≤ length r = omega (arith, s .0, s .1) in
+            entry-there w e (rw (s .0, s .1) (x ∙ past-zeros r p f (s .2) (s .3)))
 
-pub ruleset entry-ways = (entry-past, entry-end, entry-short, entry-there, entry-fives)
+        pub entry-any : t ≡ false → (e : Entry) → e ≡ entryPast r 0 a b p → e ≡ entryAt r a b p
+        entry-any y e x = entry-there w e (x ∙ past-none r a b p)
 
--- what `entry_in` returns, by what it reads
-module _ (r : List ℕ) (a b p : ℕ) (m : Number) (em : m ≡ numberAt r (p + 4) a) where
-  pub entry-no-len : m ≡ NotDigits → Bad ≡ entryIn r a b p
-  unfolding entryIn
+        pub entry-zeros-fits : t ≡ true → 4 + (2 + 3) + (2 + 3) ≤ length r - p
+        entry-zeros-fits y = let s = small-holds r a b p (sym et ∙ y) in omega (arith, s .0, s .1)
+
+pub ruleset entry-ways = (entry-past, entry-end, entry-short, entry-zeros, entry-any)
+
+-- ---- what `zeros_at` and `is_small` return
+
+pub zeros-are : (r : List ℕ) (p x y : ℕ) → x < 256 → y < 256 → x ≡ getD r p 0 → y ≡ getD r (p + 1) 0
+    → eqb (x + y * 256) 12336 ≡ zerosAt r p
+unfolding zerosAt
+zeros-are r p x y u v e f = rw (← e, ← f) (go (eqb x 48) refl (eqb y 48) refl)
+  where
+    go : (s : Bool) → eqb x 48 ≡ s → (t : Bool) → eqb y 48 ≡ t → eqb (x + y * 256) 12336 ≡ both s t
+    go true a true b = let m = eqb-true x 48 a in let n = eqb-true y 48 b in eq-eqb (x + y * 256) 12336 (omega arith)
+    go true a false b = let m = eqb-true x 48 a in let n = eqb-false y 48 b in ne-eqb (x + y * 256) 12336 (λ (z : x + y * 256 ≡ 12336). n (omega arith))
+    go false a t b = let n = eqb-false x 48 a in ne-eqb (x + y * 256) 12336 (λ (z : x + y * 256 ≡ 12336). n (omega arith))
+
+module _ (r : List ℕ) (a b p : ℕ) where
+  pub small-first : (a ≡ 5 → ⊥) → false ≡ smallAt r a b p
+  unfolding smallAt
+  small-first n = simp (ne-eqb a 5 n)
+
+  module _ (i : a ≡ 5) where
+    pub small-second : (b ≡ 5 → ⊥) → false ≡ smallAt r a b p
+    unfolding smallAt
+    small-second n = simp (eq-eqb a 5 i, ne-eqb b 5 n)
+
+    module _ (j : b ≡ 5) (t : Bool) (et : t ≡ zerosAt r (p + 4)) where
+      pub small-third : not t ≡ true → false ≡ smallAt r a b p
+      unfolding smallAt
+      small-third y = simp (eq-eqb a 5 i, eq-eqb b 5 j, ← et, not-true t y)
+
+      pub small-last : not t ≡ false → (s : Bool) → s ≡ zerosAt r (p + 9) → s ≡ smallAt r a b p
+      unfolding smallAt
+      small-last y s es = simp (eq-eqb a 5 i, eq-eqb b 5 j, ← et, not-false t y, es)
+
+pub ruleset small-ways = (small-first, small-second, small-third, small-last)
+
+-- ---- what `entry_in` returns, by what it reads
+module _ (r : List ℕ) (z a b p : ℕ) (m : Number) (em : m ≡ numberAt r (p + 4 + z) a) where
+  pub entry-no-len : m ≡ NotDigits → Bad ≡ entryPast r z a b p
+  unfolding entryPast
   entry-no-len x = simp (← em, x)
 
-  module _ (len : ℕ) (x : m ≡ Value len) (k : Number) (ek : k ≡ numberAt r (p + 4 + a) b) where
-    pub entry-no-pos : k ≡ NotDigits → Bad ≡ entryIn r a b p
-    unfolding entryIn
+  module _ (len : ℕ) (x : m ≡ Value len) (k : Number) (ek : k ≡ numberAt r (p + 4 + (z + a) + z) b) where
+    pub entry-no-pos : k ≡ NotDigits → Bad ≡ entryPast r z a b p
+    unfolding entryPast
     entry-no-pos y = simp (← em, x, ← ek, y)
 
-    pub entry-field : (pos tag : ℕ) → k ≡ Value pos → tag ≡ tagAt r p → Field tag pos len (p + (4 + a + b)) ≡ entryIn r a b p
-    unfolding entryIn
-    entry-field pos tag y z = simp (← em, x, ← ek, y, ← z)
+    pub entry-field : (pos tag : ℕ) → k ≡ Value pos → tag ≡ tagAt r p → Field tag pos len (p + (4 + (z + a) + (z + b))) ≡ entryPast r z a b p
+    unfolding entryPast
+    entry-field pos tag y w = simp (← em, x, ← ek, y, ← w)
 
 pub ruleset entry-in-ways = (entry-no-len, entry-no-pos, entry-field)

@@ -4,6 +4,7 @@ pub mod DirectoryLaws
 pub mod PlaceLaws
 pub mod FindLaws
 pub mod RecordLaws
+pub mod RightLaws
 pub mod FileLaws
 pub mod AgainLaws
 pub mod ReadLaws

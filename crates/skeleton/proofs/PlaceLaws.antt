@@ -53,7 +53,7 @@ held-of r h p pos len e =
 
 pub place-held : (r : List ℕ) (h : Shape) (p : ℕ) → HeldAt r h p (placeAt r h p)
 unfolding placeAt
-place-held r h p = by-entry (λ (e : Entry). HeldAt r h p (placeOf r (h .base) e)) r (h .a) (h .b) p tt (λ _. tt) (held-of r h p)
+place-held r h p = by-entry (λ (e : Entry). HeldAt r h p (placeOf r (h .base) e)) r (h .a) (h .b) p tt (λ _ _. tt) (held-of r h p)
 
 -- by the place e that was read at p
 module _ (r : List ℕ) (h : Shape) (p : ℕ) (e : Place) (en : e ≡ placeAt r h p) (tag start end next : ℕ) (x : e ≡ At tag start end next) where

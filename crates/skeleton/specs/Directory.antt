@@ -32,6 +32,19 @@ entryOf tag next NotDigits pos = Bad
 unfoldable pub entryIn : List ℕ → ℕ → ℕ → ℕ → Entry
 entryIn r a b p = entryOf (tagAt r p) (p + (4 + a + b)) (numberAt r (p + 4) a) (numberAt r (p + 4 + a) b)
 
+-- the same entry, read past z zeros at the front of each number: m and n digits are left of them
+unfoldable pub entryPast : List ℕ → ℕ → ℕ → ℕ → ℕ → Entry
+entryPast r z m n p =
+    entryOf (tagAt r p) (p + (4 + (z + m) + (z + n))) (numberAt r (p + 4 + z) m) (numberAt r (p + 4 + (z + m) + z) n)
+
+-- two zeros (48) stand at p
+unfoldable pub zerosAt : List ℕ → ℕ → Bool
+zerosAt r p = both (eqb (getD r p 0) 48) (eqb (getD r (p + 1) 0) 48)
+
+-- the numbers of the entry at p have five digits each and begin with two zeros
+unfoldable pub smallAt : List ℕ → ℕ → ℕ → ℕ → Bool
+smallAt r a b p = both (eqb a 5) (both (eqb b 5) (both (zerosAt r (p + 4)) (zerosAt r (p + 9))))
+
 -- what stands at p: 1E (30) where an entry would start ends the directory
 unfoldable pub entryAt : List ℕ → ℕ → ℕ → ℕ → Entry
 entryAt r a b p =

@@ -4,6 +4,7 @@ pub mod Directory
 pub mod Shape
 pub mod File
 pub mod Place
+pub mod RightFrom
 pub mod Record
 pub mod Emit
 pub mod Writable

@@ -1,11 +1,8 @@
-use Rattle.skeleton.proofs.DirectoryLaws.{entry-ways}
+use Rattle.skeleton.proofs.DirectoryLaws.{entry-ways, entry-zeros-fits}
 use native.Mathlib.Omega.{arith}
 use borrow.Author.Needs.{needs}
 use Rattle.skeleton.proofs.directory.entry_at.Statement.{statement}
 use Rattle.skeleton.proofs.directory.entry_at.Tie as tie
-use Rattle.skeleton.proofs.directory.entry_at.Reads as reads
-use Rattle.skeleton.proofs.directory.entry_at.Lts as lts
-use Rattle.skeleton.proofs.directory.entry_in.Reads as entry-in-reads
 
 returns : tie.Need-returns
 returns c = search entry-ways
@@ -28,8 +25,11 @@ add-if3-2 c = search needs
 returns-3 : tie.Need-returns-3
 returns-3 c = search entry-ways
 
+is-small-requires : tie.Need-is-small-requires
+is-small-requires c κs = search needs
+
 entry-in-requires : tie.Need-entry-in-requires
-entry-in-requires c κs = search needs
+entry-in-requires c κs = (omega arith, omega arith, omega arith, search needs, entry-zeros-fits _ _ _ _ (c .before .before .before .before .before .if1 .left) (c .before .before .before .if2 .left) (c .before .before .if3 .left) _ (c .before .is-small .ensures) (c .if4 .taken))
 
 returns-4 : tie.Need-returns-4
 returns-4 c = search entry-ways
@@ -51,6 +51,7 @@ entry-at-spec =
     add-if3
     add-if3-2
     returns-3
+    is-small-requires
     entry-in-requires
     returns-4
     entry-in-requires-2
