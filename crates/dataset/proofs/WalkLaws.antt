@@ -14,12 +14,14 @@ use Rattle.base.specs.declared.Verdict.the-variants.{Passed as Through, Refused
 use Rattle.skeleton.specs.File.{Field, recordsFrom}
 use Rattle.skeleton.specs.Place.{between, fieldsAt}
 use Rattle.skeleton.specs.Record.{recordAt}
+use Rattle.skeleton.specs.RightFrom.{RightFrom}
 use Rattle.skeleton.specs.Shape.{Bounded}
 use Rattle.skeleton.specs.declared.directory.Shape.{Shape}
 use Rattle.skeleton.specs.declared.leader.Head.{Head}
 use Rattle.skeleton.specs.declared.leader.Head.the-variants.{Good, Refused}
 use Rattle.skeleton.proofs.FileLaws.{records-over}
 use Rattle.skeleton.proofs.RecordLaws.{record-in, record-falls, record-bounded}
+use Rattle.skeleton.proofs.RightLaws.{right-start}
 use Rattle.rules.specs.ByTag.{firstTag}
 use Rattle.rules.specs.Kind.{tagOf}
 use Rattle.rules.specs.Grammar.{number4}
@@ -53,6 +55,9 @@ use Rattle.dataset.proofs.VerdictLaws.{passed-is, refused-is, right-is,
 module _ (f : List ℕ) (p len : ℕ) (h : Shape) (hd : recordAt f p ≡ Good len (h .base) (h .a) (h .b)) where
   pub at-bounded : Bounded h
   at-bounded = record-bounded f p (recordAt f p) refl len (h .base) (h .a) (h .b) hd
+
+  pub at-right : RightFrom (between f p (p + len)) h 24
+  at-right = right-start f p len h hd
 
   pub at-in : p + len ≤ length f
   at-in = record-in f p (recordAt f p) refl len (h .base) (h .a) (h .b) hd
@@ -109,7 +114,7 @@ module _ (f : List ℕ) (start p len : ℕ) (h : Shape) (m top : ℕ) (hd : reco
 
 pub ruleset seventh-ways = (placed-five, placed-tag, at-bounded, at-in, at-word, base-word, base-small, key-comes, key-kind, key-twice, links-twice, record-right, arith)
 
-pub ruleset admit-ways = (at-bounded, at-in, at-word, four-passed, four-stopped, arith)
+pub ruleset admit-ways = (at-bounded, at-right, at-in, at-word, four-passed, four-stopped, arith)
 
 -- ---- record after record
 

@@ -9,6 +9,7 @@ use skeleton::directory::Shape;
 ghost use mathlib.Core.Path.{_≡_};
 ghost use Rattle.base.specs.Check.{bind, ok};
 ghost use Rattle.skeleton.specs.Place.{fieldsAt};
+ghost use Rattle.skeleton.specs.RightFrom.{RightFrom};
 ghost use Rattle.skeleton.specs.Shape.{Bounded};
 ghost use Rattle.rules.specs.Content.{number5};
 ghost use Rattle.rules.specs.Trees.{number6};
@@ -26,9 +27,9 @@ fn five_and_six(r: &[u8], h: Shape, mode: Mode, k: Kind) -> Tags
     }
 }
 
-// Numbers 4, 5 and 6; least is the rank of the last kind before it in the file.
+// Numbers 4, 5 and 6 of a record whose directory was found right; least is the rank of the last kind before it in the file.
 pub fn four_to_six(r: &[u8], h: Shape, mode: Mode, least: usize) -> Tags
-    requires { ⌜ Bounded h ⌝ }
+    requires { ⌜ Bounded h × RightFrom (now r) h 24 ⌝ }
     ensures { λ t. ⌜ t ≡ graded (fourToSixIn mode least (fieldsAt (now (r .entry)) h 24)) ⌝ }
 {
     match check_tags(r, h, mode, least) {

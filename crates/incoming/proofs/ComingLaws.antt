@@ -13,11 +13,13 @@ use Rattle.base.specs.declared.Verdict.the-variants.{Passed as Through, Refused
 use Rattle.skeleton.specs.File.{Field, recordsOf}
 use Rattle.skeleton.specs.Place.{between, fieldsAt}
 use Rattle.skeleton.specs.Record.{recordAt}
+use Rattle.skeleton.specs.RightFrom.{RightFrom}
 use Rattle.skeleton.specs.Shape.{Bounded}
 use Rattle.skeleton.specs.declared.leader.Head.{Head}
 use Rattle.skeleton.specs.declared.leader.Head.the-variants.{Good, Refused}
 use Rattle.skeleton.proofs.FileLaws.{records-over, records-none, records-all}
 use Rattle.skeleton.proofs.RecordLaws.{record-in, record-falls, record-bounded}
+use Rattle.skeleton.proofs.RightLaws.{right-start}
 use Rattle.rules.specs.General.{generalRecord}
 use Rattle.rules.specs.Record.{updateRecord}
 use Rattle.rules.specs.Outcome.{Outcome, done, refused, andThen, at}
@@ -87,6 +89,9 @@ module _ (u : List ℕ) (start p n : ℕ) (s : ThirdAt u start p n) where
       pub third-bounded : Bounded (record { base = base; a = a; b = b })
       third-bounded = record-bounded u p q eq len base a b x
 
+      pub third-right : RightFrom (between u p (p + len)) (record { base = base; a = a; b = b }) 24
+      third-right = right-start u p len _ (sym eq ∙ x)
+
       pub number-word : length u ≤ 16777216 → n + 1 < 2 ^ 64
       number-word g = let f = s .few in omega arith
 
@@ -106,7 +111,7 @@ module _ (u : List ℕ) (start p n : ℕ) (s : ThirdAt u start p n) where
             record { same = z; least = omega arith; few = omega arith; inside = third-in }
 
 pub ruleset third-ways =
-    (third-start, third-over, third-refused, third-in, third-word, third-falls, third-bounded, number-word, third-stopped, third-more)
+    (third-start, third-over, third-refused, third-in, third-word, third-falls, third-bounded, third-right, number-word, third-stopped, third-more)
 
 -- ---- the first two records, and then the others
 

@@ -14,6 +14,7 @@ ghost use lib.Dec.{eqb};
 ghost use Rattle.base.specs.Check.{passed};
 ghost use Rattle.base.specs.Verdict.{verdictOf};
 ghost use Rattle.skeleton.specs.Place.{fieldsAt};
+ghost use Rattle.skeleton.specs.RightFrom.{RightFrom};
 ghost use Rattle.skeleton.specs.Shape.{Bounded};
 ghost use Rattle.rules.specs.ByTag.{front};
 ghost use Rattle.rules.specs.Grammar.{ruinByte};
@@ -37,7 +38,7 @@ fn is_inserted(r: &[u8], h: Shape, k: Kind) -> bool
 
 // The record r, whose directory was found right.
 pub fn check_record(r: &[u8], h: Shape) -> Verdict
-    requires { ⌜ Bounded h ⌝ }
+    requires { ⌜ Bounded h × RightFrom (now r) h 24 ⌝ }
     ensures { λ v. ⌜ v ≡ verdictOf (passed (updateRecord (fieldsAt (now (r .entry)) h 24))) ⌝ }
 {
     match four_to_six(r, h, Mode::InUpdate, 0) {

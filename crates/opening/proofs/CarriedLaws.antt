@@ -15,6 +15,7 @@ use Rattle.base.specs.declared.Verdict.the-variants.{Passed as Through, Refused
 use Rattle.skeleton.specs.File.{Field}
 use Rattle.skeleton.specs.Place.{between, placeAt, fieldsAt}
 use Rattle.skeleton.specs.Record.{recordAt}
+use Rattle.skeleton.specs.RightFrom.{RightFrom}
 use Rattle.skeleton.specs.Shape.{Bounded}
 use Rattle.skeleton.specs.declared.directory.Shape.{Shape}
 use Rattle.skeleton.specs.declared.leader.Head.{Head}
@@ -23,6 +24,7 @@ use Rattle.skeleton.specs.declared.place.Place.{Place}
 use Rattle.skeleton.specs.declared.place.Place.the-variants.{At, Done}
 use Rattle.skeleton.proofs.PlaceLaws.{fields-more, fields-done}
 use Rattle.skeleton.proofs.RecordLaws.{record-in, record-word, record-bounded}
+use Rattle.skeleton.proofs.RightLaws.{right-start}
 use Rattle.rules.specs.ByTag.{firstTag}
 use Rattle.rules.specs.General.{generalRecord}
 use Rattle.rules.specs.Outcome.{Outcome, done, refused, andThen, at}
@@ -102,6 +104,9 @@ module _ (f : List ℕ) (n p : ℕ) (q : Head) (eq : q ≡ headAt f n p) (len ba
   pub carried-bounded : Bounded (record { base = base; a = a; b = b })
   carried-bounded = record-bounded f p q (there f n p q eq len base a b x) len base a b x
 
+  pub carried-right : RightFrom (between f p (p + len)) (record { base = base; a = a; b = b }) 24
+  carried-right = right-start f p len _ (sym (there f n p q eq len base a b x) ∙ x)
+
 -- nothing is tested
 module _ (f : List ℕ) (q : Head) (eq : q ≡ headAt f 1 0) where
   pub unread-behind : (len base a b : ℕ) → q ≡ Good len base a b → Behind len ≡ openedBy (carried 1 1 unread f 0)
@@ -111,7 +116,7 @@ module _ (f : List ℕ) (q : Head) (eq : q ≡ headAt f 1 0) where
   pub unread-stopped : (k : ℕ) → q ≡ Refused k → Stopped k 1 0 0 ≡ openedBy (carried 1 1 unread f 0)
   unread-stopped = carried-refused 1 1 unread f 0 q eq
 
-pub ruleset carried-ways = (carried-refused, carried-passed, carried-stopped, carried-in, carried-word, carried-bounded, arith)
+pub ruleset carried-ways = (carried-refused, carried-passed, carried-stopped, carried-in, carried-word, carried-bounded, carried-right, arith)
 
 pub ruleset unread-ways = (unread-behind, unread-stopped)
 

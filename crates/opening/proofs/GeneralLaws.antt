@@ -14,10 +14,12 @@ use Rattle.base.specs.declared.Verdict.{Verdict}
 use Rattle.base.specs.declared.Verdict.the-variants.{Passed as Good, Refused}
 use Rattle.skeleton.specs.File.{Field}
 use Rattle.skeleton.specs.Place.{between, placeAt, fieldsAt}
+use Rattle.skeleton.specs.RightFrom.{RightFrom}
 use Rattle.skeleton.specs.declared.directory.Shape.{Shape}
 use Rattle.skeleton.specs.declared.place.Place.{Place}
 use Rattle.skeleton.specs.declared.place.Place.the-variants.{At, Done}
 use Rattle.skeleton.proofs.PlaceLaws.{fields-more, fields-done, place-falls, place-runs, place-in}
+use Rattle.skeleton.proofs.RightLaws.{right-after}
 use Rattle.fields.specs.declared.Format.{Format}
 use Rattle.fields.specs.declared.Format.the-variants.{Dsid, DsidUpdate}
 use Rattle.rules.specs.Tags.{generalTags}
@@ -59,6 +61,9 @@ module _ (r : List ℕ) (h : Shape) (m : Mode) (e : Place) (en : e ≡ placeAt r
     pub general-after : 2 ≤ next
     general-after = let f = place-falls r h 24 e en tag start end next x in omega arith
 
+    pub general-right : RightFrom r h 24 → RightFrom r h next
+    general-right k = right-after r h 24 k e en tag start end next x
+
     pub general-runs : start ≤ end
     general-runs = place-runs r h 24 e en tag start end next x
 
@@ -86,4 +91,4 @@ module _ (r : List ℕ) (h : Shape) (m : Mode) (e : Place) (en : e ≡ placeAt r
           rw (fields-more r h 24 e en tag start end next x)
           (simp (eq-eqb tag 0x44534944 d) (rw (pass-of (inOrder (λ t. false) generalRows 2 (fieldsAt r h next)) says (sym ei ∙ z)) (rw ek at ev)))
 
-pub ruleset general-ways = (general-none, general-after, general-runs, general-in, general-other, general-out, general-dsid, arith)
+pub ruleset general-ways = (general-none, general-after, general-right, general-runs, general-in, general-other, general-out, general-dsid, arith)

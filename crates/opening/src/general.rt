@@ -13,6 +13,7 @@ ghost use Prim.Native.Nat.{_≤_};
 ghost use lib.ListN.{length};
 ghost use Rattle.base.specs.Verdict.{verdictOf};
 ghost use Rattle.skeleton.specs.Place.{fieldsAt, between};
+ghost use Rattle.skeleton.specs.RightFrom.{RightFrom};
 ghost use Rattle.skeleton.specs.Shape.{Bounded};
 ghost use Rattle.rules.specs.Content.{stands};
 ghost use Rattle.rules.specs.Kind.{generalRows};
@@ -33,7 +34,7 @@ fn general_format(mode: Mode) -> Format
 
 // The number of the first field from the second entry on that does not stand in the order DSSI, ATCS, ITCS, FTCS, IACS, FACS, ARCS; 0 where all stand.
 fn unread_order(r: &[u8], h: Shape, p: usize, mode: Mode) -> usize
-    requires { ⌜ Bounded h × (2 ≤ p) ⌝ }
+    requires { ⌜ Bounded h × (2 ≤ p) × RightFrom (now r) h p ⌝ }
     ensures { λ n. ⌜ n ≡ faultyField (inOrder (λ t. false) generalRows 2 (fieldsAt (now (r .entry)) h p)) ⌝ }
 {
     let s = Instructions {
@@ -60,9 +61,9 @@ fn unread_order(r: &[u8], h: Shape, p: usize, mode: Mode) -> usize
     )
 }
 
-// The general record: DSID (0x44534944), then the unread fields in their order; DSID has its format.
+// The general record, whose directory was found right: DSID (0x44534944), then the unread fields in their order; DSID has its format.
 pub fn check_general(r: &[u8], h: Shape, mode: Mode) -> Verdict
-    requires { ⌜ Bounded h ⌝ }
+    requires { ⌜ Bounded h × RightFrom (now r) h 24 ⌝ }
     ensures { λ v. ⌜ v ≡ verdictOf (generalRecord mode (fieldsAt (now (r .entry)) h 24)) ⌝ }
 {
     match place_at(r, h, 24) {

@@ -13,10 +13,12 @@ use Rattle.base.specs.Check.{Check, ok, no, bind, fault, Passed, pass}
 use Rattle.base.proofs.ChoiceLaws.{by-test}
 use Rattle.skeleton.specs.File.{Field}
 use Rattle.skeleton.specs.Place.{between, placeAt, fieldsAt}
+use Rattle.skeleton.specs.RightFrom.{RightFrom}
 use Rattle.skeleton.specs.declared.directory.Shape.{Shape}
 use Rattle.skeleton.specs.declared.place.Place.{Place}
 use Rattle.skeleton.specs.declared.place.Place.the-variants.{At, Done}
 use Rattle.skeleton.proofs.PlaceLaws.{fields-more, fields-done, place-falls, place-runs, place-in}
+use Rattle.skeleton.proofs.RightLaws.{right-after}
 use Rattle.rules.specs.Tags.{FOID, ATTR, INAS, SPAS, COCC, C2IT, C2IL}
 use Rattle.rules.specs.ByTag.{has}
 use Rattle.rules.specs.Kind.{Row, kindOf, rank, coded, rowsOf}
@@ -289,6 +291,9 @@ module _ (r : List ℕ) (h : Shape) (m : Mode) (least : ℕ) (e : Place) (en : e
     pub tags-after : 2 ≤ next
     tags-after = let f = place-falls r h 24 e en tag start end next x in omega arith
 
+    pub tags-right : RightFrom r h 24 → RightFrom r h next
+    tags-right k = right-after r h 24 k e en tag start end next x
+
     pub tags-runs : start ≤ end
     tags-runs = place-runs r h 24 e en tag start end next x
 
@@ -314,4 +319,4 @@ module _ (r : List ℕ) (h : Shape) (m : Mode) (least : ℕ) (e : Place) (en : e
             rw (fields-more r h 24 e en tag start end next x)
             (rw (found-some (kindOf tag) k (sym y ∙ eq)) (simp (← ek, le-ltb n least l) z))
 
-pub ruleset tags-ways = (tags-none, tags-after, tags-runs, tags-in, tags-unknown, tags-early, tags-turn)
+pub ruleset tags-ways = (tags-none, tags-after, tags-right, tags-runs, tags-in, tags-unknown, tags-early, tags-turn)

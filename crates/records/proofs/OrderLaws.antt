@@ -8,13 +8,16 @@ use native.Mathlib.Numerals.{add-one}
 use native.Mathlib.Omega.{arith}
 use borrow.Author.Tests.{eq-eqb, ne-eqb, not-true, not-false}
 use lib.Dec.{eqb}
-use lib.ListN.{length, drop}
+use lib.ListN.{length, getD, drop}
 use Rattle.base.specs.Choice.{pick, both, either}
+use Rattle.skeleton.specs.Directory.{tagAt}
 use Rattle.skeleton.specs.Place.{placeAt, fieldsAt}
+use Rattle.skeleton.specs.RightFrom.{RightFrom}
 use Rattle.skeleton.specs.declared.directory.Shape.{Shape}
 use Rattle.skeleton.specs.declared.place.Place.{Place}
 use Rattle.skeleton.specs.declared.place.Place.the-variants.{At, Done}
-use Rattle.skeleton.proofs.PlaceLaws.{fields-more, fields-done, place-falls}
+use Rattle.skeleton.proofs.PlaceLaws.{fields-more, fields-done}
+use Rattle.skeleton.proofs.RightLaws.{Next, right-in, right-tag, right-on, right-word, right-falls, right-done, right-next}
 use Rattle.rules.specs.Grammar.{forbidden, inOrder}
 use Rattle.rules.specs.declared.Mode.the-variants.{InDataset, InUpdate}
 use Rattle.rules.specs.Grammar.{rowsAfter}
@@ -88,22 +91,13 @@ pub ruleset shut-out-ways = (shut-general, shut-dataset, shut-update)
 
 module _ (r : List ℕ) (h : Shape) (tags : List ℕ) (s : Instructions) (p j i n : ℕ) (inv : orderFrom r h tags s p j i ≡ n)
     (e : Place) (en : e ≡ placeAt r h p) where
-  pub order-done : e ≡ Done → 0 ≡ n
+  order-done : e ≡ Done → 0 ≡ n
   unfolding orderFrom inOrder faultyField
   order-done x = rw (fields-done r h p e en x) at inv
 
   module _ (tag start end next : ℕ) (x : e ≡ At tag start end next) where
-    pub order-falls : length r - next < length r - p
-    order-falls = place-falls r h p e en tag start end next x
-
-    pub order-counts : i ≤ p → i + 1 ≤ next
-    order-counts l = let f = order-falls in omega arith
-
-    pub order-word : i ≤ p → length r < 2 ^ 64 → i + 1 < 2 ^ 64
-    order-word l g = let f = order-falls in omega arith
-
     module _ (b : Bool) (eb : b ≡ shutOut s tag) where
-      pub order-shut : b ≡ true → i ≡ n
+      order-shut : b ≡ true → i ≡ n
       unfolding orderFrom inOrder faultyField
       order-shut y = simp (← eb, y) at (rw (fields-more r h p e en tag start end next x) at inv)
 
@@ -111,19 +105,52 @@ module _ (r : List ℕ) (h : Shape) (tags : List ℕ) (s : Instructions) (p j i 
         left : Left tags (rowsAfter tag (rowsWith (drop j tags))) q
         left = rw eq (row-left tags tag j)
 
-        pub order-none : q ≡ NoRow → i ≡ n
+        order-none : q ≡ NoRow → i ≡ n
         unfolding orderFrom inOrder faultyField
         order-none z =
             let l : rowsAfter tag (rowsWith (drop j tags)) ≡ none = rw z at left in
             simp (← eb, nb, l) at (rw (fields-more r h p e en tag start end next x) at inv)
 
-        pub order-more : (k : ℕ) → q ≡ From k → orderFrom r h tags s next k (i + 1) ≡ n
+        order-more : (k : ℕ) → q ≡ From k → orderFrom r h tags s next k (i + 1) ≡ n
         unfolding orderFrom inOrder faultyField
         order-more k z =
             let l : Left tags (rowsAfter tag (rowsWith (drop j tags))) (From k) = rw z at left in
             simp (← eb, nb, l .0) at (rw (fields-more r h p e en tag start end next x) at inv)
 
-        pub order-place : (k : ℕ) → q ≡ From k → k ≤ length tags
+        order-place : (k : ℕ) → q ≡ From k → k ≤ length tags
         order-place k z = let l : Left tags (rowsAfter tag (rowsWith (drop j tags))) (From k) = rw z at left in l .1
 
-pub ruleset order-turn = (order-done, order-falls, order-counts, order-word, order-shut, order-none, order-more, order-place)
+-- the same by the tag alone, where the directory is right from p on
+module _ (r : List ℕ) (h : Shape) (tags : List ℕ) (s : Instructions) (p j i n : ℕ) (inv : orderFrom r h tags s p j i ≡ n) (k : RightFrom r h p) where
+  pub order-end : getD r p 0 ≡ 30 → 0 ≡ n
+  order-end y = order-done r h tags s p j i n inv Done (right-done r h p k y) refl
+
+  module _ (y : getD r p 0 ≡ 30 → ⊥) where
+    next : Next r h p
+    next = right-next r h p k y
+
+    pub order-counts : i ≤ p → i + 1 ≤ p + (4 + h .a + h .b)
+    order-counts l = omega arith
+
+    pub order-word : i ≤ p → length r < 2 ^ 64 → i + 1 < 2 ^ 64
+    order-word l g = let f = next .fits in omega arith
+
+    module _ (tag : ℕ) (et : tag ≡ tagAt r p) where
+      here : At tag (next .start) (next .end) (p + (4 + h .a + h .b)) ≡ placeAt r h p
+      here = rw et (next .place)
+
+      module _ (b : Bool) (eb : b ≡ shutOut s tag) where
+        pub order-out : b ≡ true → i ≡ n
+        order-out = order-shut r h tags s p j i n inv _ here tag _ _ _ refl b eb
+
+        module _ (nb : b ≡ false) (q : Rest) (eq : q ≡ rowAfter tags tag j) where
+          pub order-rowless : q ≡ NoRow → i ≡ n
+          order-rowless = order-none r h tags s p j i n inv _ here tag _ _ _ refl b eb nb q eq
+
+          pub order-on : (m : ℕ) → q ≡ From m → orderFrom r h tags s (p + (4 + h .a + h .b)) m (i + 1) ≡ n
+          order-on = order-more r h tags s p j i n inv _ here tag _ _ _ refl b eb nb q eq
+
+          pub order-left : (m : ℕ) → q ≡ From m → m ≤ length tags
+          order-left = order-place r h tags s p j i n inv _ here tag _ _ _ refl b eb nb q eq
+
+pub ruleset order-turn = (order-end, order-counts, order-word, order-out, order-rowless, order-on, order-left, right-in, right-tag, right-on, right-word, right-falls)

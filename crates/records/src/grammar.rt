@@ -12,6 +12,7 @@ ghost use mathlib.Core.Path.{_≡_};
 ghost use Prim.Native.Nat.{_≤_};
 ghost use lib.ListN.{length};
 ghost use Rattle.skeleton.specs.Place.{between, fieldsAt};
+ghost use Rattle.skeleton.specs.RightFrom.{RightFrom};
 ghost use Rattle.skeleton.specs.Shape.{Bounded};
 ghost use Rattle.rules.specs.Kind.{kindOf, rank, rowsOf};
 ghost use Rattle.rules.specs.Grammar.{inOrder, complete, ruinByte, asStored, fieldsStand, number4};
@@ -111,7 +112,7 @@ fn is_complete(r: &[u8], h: Shape, p: usize, k: Kind) -> bool
 
 // The number of the first field from the second entry on that does not stand in the order of the kind's rows or is shut out, 0 where all stand.
 fn kind_order(r: &[u8], h: Shape, p: usize, k: Kind, s: Instructions) -> usize
-    requires { ⌜ Bounded h × (2 ≤ p) ⌝ }
+    requires { ⌜ Bounded h × (2 ≤ p) × RightFrom (now r) h p ⌝ }
     ensures { λ n. ⌜ n ≡ faultyField (inOrder (shutOut s) (rowsOf k) 2 (fieldsAt (now (r .entry)) h p)) ⌝ }
 {
     match k {
@@ -154,7 +155,7 @@ fn instructions(r: &[u8], h: Shape, p: usize, mode: Mode, ruin: u8) -> Instructi
 
 // The fields after the identifier r[start..end], whose entries stand from p on, of a record of kind k.
 fn fields_stand(r: &[u8], h: Shape, start: usize, end: usize, p: usize, mode: Mode, k: Kind) -> Tags
-    requires { ⌜ Bounded h × (2 ≤ p) × (start ≤ end) × (end ≤ length (now r)) ⌝ }
+    requires { ⌜ Bounded h × (2 ≤ p) × RightFrom (now r) h p × (start ≤ end) × (end ≤ length (now r)) ⌝ }
     ensures { λ t. ⌜ t ≡ graded (bind (fieldsStand mode k (between (now (r .entry)) start end) (fieldsAt (now (r .entry)) h p)) (λ _. ok k)) ⌝ }
 {
     let ruin = ruin_byte(r, start, end, k);
@@ -171,9 +172,9 @@ fn fields_stand(r: &[u8], h: Shape, start: usize, end: usize, p: usize, mode: Mo
     Tags::Wrong(4, 0, 0)
 }
 
-// The kind of a record whose tags are right; least is the rank of the last kind before it in the file.
+// The kind of a record whose tags are right; its directory was found right, and least is the rank of the last kind before it in the file.
 pub fn check_tags(r: &[u8], h: Shape, mode: Mode, least: usize) -> Tags
-    requires { ⌜ Bounded h ⌝ }
+    requires { ⌜ Bounded h × RightFrom (now r) h 24 ⌝ }
     ensures { λ t. ⌜ t ≡ graded (number4 mode least (fieldsAt (now (r .entry)) h 24)) ⌝ }
 {
     match place_at(r, h, 24) {

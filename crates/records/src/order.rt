@@ -3,11 +3,11 @@ use crate::rows::Rest;
 use crate::rows::row_after;
 use rules::Mode;
 use skeleton::directory::Shape;
-use skeleton::place::Place;
-use skeleton::place::place_at;
+use skeleton::directory::tag_at;
 ghost use mathlib.Core.Path.{_≡_};
 ghost use Prim.Native.Nat.{_<_, _≤_};
 ghost use lib.ListN.{length};
+ghost use Rattle.skeleton.specs.RightFrom.{RightFrom};
 ghost use Rattle.skeleton.specs.Shape.{Bounded};
 ghost use Rattle.records.specs.Order.{shutOut, orderFrom};
 ghost use Rattle.rules.specs.Grammar.{forbidden};
@@ -59,37 +59,30 @@ fn shut_out(s: Instructions, tag: u32) -> bool
 }
 
 // The number of the first field, from the second entry on, that does not stand in the order of the rows or is shut out; 0 where all stand.
+// The directory was found right: tags are read, and no numbers.
 pub fn order(r: &[u8], h: Shape, p: usize, tags: &[u32], s: Instructions) -> usize
-    requires { ⌜ Bounded h × (2 ≤ p) × (length (now tags) < 1000) ⌝ }
+    requires { ⌜ Bounded h × (2 ≤ p) × (length (now tags) < 1000) × RightFrom (now r) h p ⌝ }
     ensures { λ n. ⌜ n ≡ orderFrom (now (r .entry)) h (now (tags .entry)) s p 0 2 ⌝ }
 {
     let mut q = p;
     let mut j = 0;
     let mut i = 2;
     loop {
-        match place_at(r, h, q) {
-            Place::At {
-                tag,
-                start: _,
-                end: _,
-                next,
-            } => {
-                if shut_out(s, tag) {
-                    return i;
-                }
-                match row_after(tags, tag, j) {
-                    Rest::From(k) => {
-                        j = k;
-                        q = next;
-                        i += 1;
-                    }
-                    Rest::NoRow => {
-                        return i;
-                    }
-                }
+        if r[q] == 0x1e {
+            return 0;
+        }
+        let tag = tag_at(r, q);
+        if shut_out(s, tag) {
+            return i;
+        }
+        match row_after(tags, tag, j) {
+            Rest::From(k) => {
+                j = k;
+                q += 4 + h.a + h.b;
+                i += 1;
             }
-            Place::Done => {
-                return 0;
+            Rest::NoRow => {
+                return i;
             }
         }
     }

@@ -12,9 +12,10 @@ use Rattle.skeleton.specs.RightFrom.{RightFrom}
 use Rattle.skeleton.specs.declared.directory.Entry.the-variants.{Field, End, Bad}
 use Rattle.skeleton.specs.declared.directory.Shape.{Shape}
 use Rattle.skeleton.specs.declared.leader.Head.the-variants.{Good}
+use Rattle.skeleton.specs.declared.place.Place.{Place}
 use Rattle.skeleton.specs.declared.place.Place.the-variants.{At, Done}
 use Rattle.skeleton.proofs.DirectoryLaws.{Entered, by-entry, lies-in, dir-bad, dir-not, dir-more, entry-end}
-use Rattle.skeleton.proofs.PlaceLaws.{place-end, place-there}
+use Rattle.skeleton.proofs.PlaceLaws.{held, place-end, place-there}
 use Rattle.skeleton.proofs.RecordLaws.{right}
 
 -- a record that is right has a directory that is right from its first entry on
@@ -73,6 +74,13 @@ module _ (r : List ℕ) (h : Shape) (q : ℕ) (k : RightFrom r h q) where
 
     pub right-falls : length r - (q + (4 + h .a + h .b)) < length r - q
     right-falls = let f = right-next .fits in omega arith
+
+-- behind a field that was read
+pub right-after : (r : List ℕ) (h : Shape) (q : ℕ) → RightFrom r h q → (e : Place) → e ≡ placeAt r h q → (tag start end next : ℕ)
+    → e ≡ At tag start end next → RightFrom r h next
+right-after r h q k e en tag start end next x =
+    let l = held r h q e en tag start end next x in
+    rw (l .next-is) (right-on r h q k (l .opens))
 
 -- what a walk over the tags of a right directory wants besides the laws of its own definition
 pub ruleset right-bounds = (right-in, right-tag, right-on, right-word, right-falls)
