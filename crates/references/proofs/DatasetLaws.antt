@@ -16,10 +16,12 @@ use Rattle.base.proofs.ChoiceLaws.{both-hold}
 use Rattle.skeleton.specs.File.{Field, recordsFrom}
 use Rattle.skeleton.specs.Place.{between, fieldsAt}
 use Rattle.skeleton.specs.Record.{recordAt, statedAt}
+use Rattle.skeleton.specs.RightFrom.{RightFrom}
 use Rattle.skeleton.specs.Shape.{Bounded}
 use Rattle.skeleton.specs.declared.leader.Head.{Head}
 use Rattle.skeleton.specs.declared.leader.Head.the-variants.{Good, Refused as Unread}
 use Rattle.skeleton.proofs.RecordLaws.{Right, right}
+use Rattle.skeleton.proofs.RightLaws.{right-start}
 use Rattle.skeleton.proofs.FileLaws.{records-more}
 use Rattle.skeleton.proofs.AgainLaws.{again, again-not, records-some}
 use Rattle.rules.specs.Associations.{marks, number11}
@@ -97,6 +99,9 @@ module _ (f : List ℕ) (start p m : ℕ) (s : Reached f start p m) (l : p < len
     pub record-bounded : Bounded (record { base = base; a = a; b = b })
     record-bounded = whole .bounded
 
+    pub record-right : RightFrom (between f p (p + len)) (record { base = base; a = a; b = b }) 24
+    record-right = right-start f p len _ (sym found ∙ x)
+
     pub record-in : p + len ≤ length f
     record-in = whole .inside
 
@@ -142,7 +147,7 @@ module _ (f : List ℕ) (start p m : ℕ) (s : Reached f start p m) (l : p < len
           ap₂ (Loose (m + 4)) (w .2) (w .3) ∙ ap linkedBy (references-loose recs f p m _ (s .same recs q) l h found len base a b x (w .0) (w .1))
 
 pub ruleset records-turn =
-    (reached-start, reached-in, reached-over, reached-unread, record-readable, record-bounded, record-in, record-runs, record-small, record-word, record-counts, record-number, record-falls, record-more, record-loose)
+    (reached-start, reached-in, reached-over, reached-unread, record-readable, record-bounded, record-right, record-in, record-runs, record-small, record-word, record-counts, record-number, record-falls, record-more, record-loose)
 
 -- ---- the whole: what 1 to 7 give
 

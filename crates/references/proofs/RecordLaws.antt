@@ -1,11 +1,11 @@
 -- Laws of the references of one record: tuple by tuple, field by field. Assumes nothing.
-use mathlib.Core.Path.{_≡_, ap, _∙_}
-use mathlib.Core.List.{List, [], _∷_, _++_}
+use mathlib.Core.Path.{_≡_, refl, ap, _∙_}
+use mathlib.Core.List.{List, [], _∷_, _++_, append-nil}
 use mathlib.Core.Bool.{Bool, true, false, not}
 use Prim.Native.Nat.{ℕ, _+_, _-_, _^_, _≤_, _<_}
 use native.Mathlib.Omega.{arith}
 use borrow.Author.Tests.{eq-eqb, ne-eqb, not-true, not-false}
-use lib.ListN.{length, take, drop, length-take, length-drop}
+use lib.ListN.{length, getD, take, drop, length-take, length-drop}
 use Rattle.base.specs.Walk.{Got}
 use Rattle.base.specs.declared.Verdict.{Verdict}
 use Rattle.base.specs.declared.Verdict.the-variants.{Passed as Through, Refused}
@@ -14,13 +14,16 @@ use Rattle.fields.specs.Table.{headOf, tupleOf}
 use Rattle.fields.specs.Content.{many, fill}
 use Rattle.fields.specs.Places.{endingAt}
 use Rattle.fields.specs.declared.Format.the-variants.{InasNew, Spas}
-use Rattle.fields.proofs.TupleLaws.{Next, here-end}
+use Rattle.fields.proofs.TupleLaws.{here-end}
 use Rattle.skeleton.specs.File.{Field}
+use Rattle.skeleton.specs.Directory.{tagAt}
 use Rattle.skeleton.specs.Place.{between, placeAt, fieldsAt}
+use Rattle.skeleton.specs.RightFrom.{RightFrom}
 use Rattle.skeleton.specs.declared.directory.Shape.{Shape}
 use Rattle.skeleton.specs.declared.place.Place.{Place}
 use Rattle.skeleton.specs.declared.place.Place.the-variants.{At, Done}
 use Rattle.skeleton.proofs.PlaceLaws.{fields-more, fields-done}
+use Rattle.skeleton.proofs.RightLaws.{Next, right-next, right-done, right-in, right-tag, right-on, right-falls}
 use Rattle.rules.specs.Tags.{INAS, SPAS}
 use Rattle.rules.specs.Associations.{Mark, inasKey, spasKey, spasMarks, fieldMarks, marks}
 use Rattle.contents.proofs.StepLaws.{step-bounds}
@@ -30,7 +33,7 @@ use Rattle.keys.specs.Listed.{hasFrom}
 use Rattle.keys.specs.Table.{Laid}
 use Rattle.keys.proofs.NamedLaws.{Names, inas-names, spas-names}
 use Rattle.references.specs.Named.{Says, Alike}
-use Rattle.references.specs.Readable.{recordReadable}
+use Rattle.references.specs.Readable.{allReadable, recordReadable}
 use Rattle.references.proofs.MarkLaws.{alike-same, says-none, parts-more, parts-refused, mark-more, mark-loose}
 use Rattle.references.proofs.ReadableLaws.{inas-readable, spas-readable, second-readable, second-marks, readable-here, readable-next}
 
@@ -127,11 +130,11 @@ module _ (f : List ℕ) (start tag : ℕ) (b : List ℕ) (i : ℕ) where
 
 pub ruleset field-ways = (field-inas, field-spas, field-other, inas-readable, spas-readable)
 
--- ---- the loop over the fields of a record: field i at place q, where the whole is `whole`
+-- ---- the fields of a record one by one: field i at place q, where the whole is `whole`
 
 module _ (f : List ℕ) (start : ℕ) (r : List ℕ) (h : Shape) (q i : ℕ) (whole : List Mark) (inv : Alike f start (marks i (fieldsAt r h q)) whole)
     (e : Place) (en : e ≡ placeAt r h q) where
-  pub fields-over : e ≡ Done → Says f start whole Through
+  fields-over : e ≡ Done → Says f start whole Through
   unfolding marks
   fields-over x = says-none f start whole (rw (fields-done r h q e en x) at inv)
 
@@ -144,13 +147,81 @@ module _ (f : List ℕ) (start : ℕ) (r : List ℕ) (h : Shape) (q i : ℕ) (wh
     unfolding marks
     parted = rw (fields-more r h q e en tag from end next x) at inv
 
-    pub fields-on : v ≡ Through → Alike f start behind whole
+    fields-on : v ≡ Through → Alike f start behind whole
     fields-on y = parts-more f start (fieldMarks i (record { tag = tag; body = between r from end })) behind whole parted v s y
 
-    pub fields-refused : (k y z : ℕ) → v ≡ Refused k y z → Says f start whole (Refused k y z)
+    fields-refused : (k y z : ℕ) → v ≡ Refused k y z → Says f start whole (Refused k y z)
     fields-refused k y z w = parts-refused f start (fieldMarks i (record { tag = tag; body = between r from end })) behind whole parted v s k y z w
 
+-- ---- one field by its entry at q: the first of the fields from there on
+
+module _ (f : List ℕ) (start : ℕ) (r : List ℕ) (h : Shape) (q i : ℕ) (e : Place) (en : e ≡ placeAt r h q) where
+  pub entry-done : e ≡ Done → Says f start (marks i (take 1 (fieldsAt r h q))) Through
+  unfolding marks
+  entry-done x = rw (fields-done r h q e en x) (says-none f start [] (alike-same f start []))
+
+  module _ (tag from end next : ℕ) (x : e ≡ At tag from end next) where
+    alone : marks i (take 1 (fieldsAt r h q)) ≡ fieldMarks i (record { tag = tag; body = between r from end })
+    unfolding marks
+    alone = rw (fields-more r h q e en tag from end next x) (append-nil _)
+
+    pub entry-there : (v : Verdict) → Says f start (fieldMarks i (record { tag = tag; body = between r from end })) v
+        → Says f start (marks i (take 1 (fieldsAt r h q))) v
+    entry-there v s = rw alone s
+
+-- a field whose tag is that of no association, in a directory that is right
+pub entry-plain : (f : List ℕ) (start : ℕ) (r : List ℕ) (h : Shape) (q i : ℕ) → RightFrom r h q → (getD r q 0 ≡ 30 → ⊥) → (tag : ℕ) → tag ≡ tagAt r q
+    → (tag ≡ 0x494e4153 → ⊥) → (tag ≡ 0x53504153 → ⊥) → Says f start (marks i (take 1 (fieldsAt r h q))) Through
+entry-plain f start r h q i k o tag et n m =
+    let x = right-next r h q k o in
+    let en : At tag (x .start) (x .end) (q + (4 + h .a + h .b)) ≡ placeAt r h q = rw et (x .place) in
+    entry-there f start r h q i _ en tag (x .start) (x .end) _ refl Through
+    (field-other f start tag (between r (x .start) (x .end)) i n m)
+
+-- ---- the loop over the entries of a record: field i at place q, where the whole is `whole`
+
+module _ (f : List ℕ) (start : ℕ) (r : List ℕ) (h : Shape) (q i : ℕ) (whole : List Mark) (inv : Alike f start (marks i (fieldsAt r h q)) whole)
+    (k : RightFrom r h q) where
+  pub fields-end : getD r q 0 ≡ 30 → Says f start whole Through
+  fields-end y = fields-over f start r h q i whole inv Done (right-done r h q k y) refl
+
+  module _ (o : getD r q 0 ≡ 30 → ⊥) where
+    next : Next r h q
+    next = right-next r h q k o
+
+    pub fields-counts : i ≤ q → i + 1 ≤ q + (4 + h .a + h .b)
+    fields-counts l = omega arith
+
+    pub fields-number : i ≤ q → length r ≤ 16777216 → i + 1 < 2 ^ 64
+    fields-number l g = let d = next .fits in omega arith
+
+    pub fields-word : length r ≤ 16777216 → q + (4 + h .a + h .b) < 2 ^ 64
+    fields-word g = let d = next .fits in omega arith
+
+    pub fields-readable : allReadable (fieldsAt r h q) ≡ true → allReadable (fieldsAt r h (q + (4 + h .a + h .b))) ≡ true
+    fields-readable a = readable-next r h q _ (next .place) (tagAt r q) (next .start) (next .end) _ refl a
+
+    module _ (v : Verdict) (s : Says f start (marks i (take 1 (fieldsAt r h q))) v) where
+      said : Says f start (fieldMarks i (record { tag = tagAt r q; body = between r (next .start) (next .end) })) v
+      said = rw (← alone f start r h q i _ (next .place) (tagAt r q) (next .start) (next .end) _ refl) s
+
+      pub fields-passed : v ≡ Through → Alike f start (marks (i + 1) (fieldsAt r h (q + (4 + h .a + h .b)))) whole
+      fields-passed = fields-on f start r h q i whole inv _ (next .place) (tagAt r q) (next .start) (next .end) _ refl v said
+
+      pub fields-loose : (n y z : ℕ) → v ≡ Refused n y z → Says f start whole (Refused n y z)
+      fields-loose = fields-refused f start r h q i whole inv _ (next .place) (tagAt r q) (next .start) (next .end) _ refl v said
+
 -- behind the first field
+none-not : (fs : List Field) → recordReadable fs ≡ true → fs ≡ [] → ⊥
+unfolding recordReadable
+none-not fs e z = let w : false ≡ true = rw z at e in (let y : _≡_ {A = ℕ} 0 1 = cc in omega arith)
+
+pub second-right : (r : List ℕ) (h : Shape) → recordReadable (fieldsAt r h 24) ≡ true → RightFrom r h 24 → RightFrom r h (28 + h .a + h .b)
+second-right r h e k =
+    let o : getD r 24 0 ≡ 30 → ⊥ = λ y. none-not (fieldsAt r h 24) e (fields-done r h 24 Done (right-done r h 24 k y) refl) in
+    let z : 24 + (4 + h .a + h .b) ≡ 28 + h .a + h .b = omega arith in
+    rw z at (right-on r h 24 k o)
+
 pub second-alike : (f : List ℕ) (start : ℕ) (r : List ℕ) (h : Shape) → recordReadable (fieldsAt r h 24) ≡ true
     → Alike f start (marks 2 (fieldsAt r h (28 + h .a + h .b))) (marks 1 (fieldsAt r h 24))
 second-alike f start r h e = rw (second-marks r h e) (alike-same f start (marks 1 (fieldsAt r h 24)))
@@ -159,4 +230,6 @@ second-alike f start r h e = rw (second-marks r h e) (alike-same f start (marks 
 pub part-small : (r : List ℕ) (i j n : ℕ) → length r ≤ n → length (between r i j) ≤ n
 part-small r i j n h = omega (arith, length-take (j - i) (drop i r), length-drop i r)
 
-pub ruleset fields-turn = (second-readable, second-alike, fields-over, fields-on, fields-refused, part-small, readable-here, readable-next, step-bounds)
+pub ruleset fields-turn = (second-readable, second-alike, second-right, fields-end, fields-counts, fields-number, fields-word, fields-readable, fields-passed, fields-loose, right-in, right-on, right-falls)
+
+pub ruleset entry-ways = (entry-done, entry-there, entry-plain, part-small, readable-here, step-bounds, right-tag)

@@ -4,21 +4,23 @@ use base::Verdict;
 use keys::look::key_at;
 use keys::present::has;
 use skeleton::directory::Shape;
+use skeleton::directory::tag_at;
 use skeleton::place::Place;
 use skeleton::place::place_at;
 ghost use mathlib.Core.Path.{_≡_};
 ghost use mathlib.Core.Bool.{true};
 ghost use mathlib.Core.List.{[], _∷_};
 ghost use Prim.Native.Nat.{_≤_};
-ghost use lib.ListN.{length};
+ghost use lib.ListN.{length, getD, take};
 ghost use Rattle.fields.specs.Table.{headOf, tupleOf};
 ghost use Rattle.fields.specs.Content.{fill, many};
 ghost use Rattle.fields.specs.declared.Format.the-variants.{InasNew, Spas};
 ghost use Rattle.skeleton.specs.Place.{fieldsAt};
+ghost use Rattle.skeleton.specs.RightFrom.{RightFrom};
 ghost use Rattle.skeleton.specs.Shape.{Bounded};
 ghost use Rattle.rules.specs.Associations.{inasKey, spasMarks, fieldMarks, marks};
 ghost use Rattle.keys.specs.Table.{Laid};
-ghost use Rattle.references.specs.Readable.{readable, recordReadable};
+ghost use Rattle.references.specs.Readable.{readable, allReadable, recordReadable};
 ghost use Rattle.references.specs.Named.{Says};
 
 // The record that the INAS b, field i, names.
@@ -88,6 +90,39 @@ fn field_named(
     Verdict::Passed
 }
 
+// The records that field i names, whose entry stands at q of a directory that was found right: where its tag is that of no association,
+// no number of the entry is read.
+fn entry_named(
+    f: &[u8],
+    start: usize,
+    t: &[u32],
+    n: usize,
+    map: &[u8],
+    r: &[u8],
+    h: Shape,
+    q: usize,
+    i: usize,
+) -> Verdict
+    requires { ⌜ (Laid (now f) start (now t) n (now map)) × Bounded h × (length (now r) ≤ 16777216) × (allReadable (fieldsAt (now r) h q) ≡ true) × RightFrom (now r) h q × (getD (now r) q 0 ≡ 30 → ⊥) ⌝ }
+    ensures { λ v. ⌜ Says (now (f .entry)) start (marks i (take 1 (fieldsAt (now (r .entry)) h q))) v ⌝ }
+{
+    let tag = tag_at(r, q);
+    if tag != 0x494e4153 {
+        if tag != 0x53504153 {
+            return Verdict::Passed;
+        }
+    }
+    match place_at(r, h, q) {
+        Place::At {
+            tag,
+            start: from,
+            end,
+            next: _,
+        } => field_named(f, start, t, n, map, tag, &r[from..end], i),
+        Place::Done => Verdict::Passed,
+    }
+}
+
 // The records that the record r names: its first field is its identifier, which names none, and the second entry stands behind that one.
 pub fn record_named(
     f: &[u8],
@@ -98,29 +133,22 @@ pub fn record_named(
     r: &[u8],
     h: Shape,
 ) -> Verdict
-    requires { ⌜ (Laid (now f) start (now t) n (now map)) × Bounded h × (length (now r) ≤ 16777216) × (recordReadable (fieldsAt (now r) h 24) ≡ true) ⌝ }
+    requires { ⌜ (Laid (now f) start (now t) n (now map)) × Bounded h × (length (now r) ≤ 16777216) × (recordReadable (fieldsAt (now r) h 24) ≡ true) × RightFrom (now r) h 24 ⌝ }
     ensures { λ v. ⌜ Says (now (f .entry)) start (marks 1 (fieldsAt (now (r .entry)) h 24)) v ⌝ }
 {
     let mut q = 28 + h.a + h.b;
     let mut i = 2;
     loop {
-        match place_at(r, h, q) {
-            Place::At {
-                tag,
-                start: from,
-                end,
-                next,
-            } => match field_named(f, start, t, n, map, tag, &r[from..end], i) {
-                Verdict::Passed => {
-                    q = next;
-                    i += 1;
-                }
-                Verdict::Refused(k, x, y) => {
-                    return Verdict::Refused(k, x, y);
-                }
-            },
-            Place::Done => {
-                return Verdict::Passed;
+        if r[q] == 0x1e {
+            return Verdict::Passed;
+        }
+        match entry_named(f, start, t, n, map, r, h, q, i) {
+            Verdict::Passed => {
+                q += 4 + h.a + h.b;
+                i += 1;
+            }
+            Verdict::Refused(k, x, y) => {
+                return Verdict::Refused(k, x, y);
             }
         }
     }

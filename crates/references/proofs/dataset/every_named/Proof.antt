@@ -38,7 +38,7 @@ part-record-named-end : tie.Need-part-record-named-end Inv-loop μ-loop
 part-record-named-end c = search records-turn
 
 record-named-requires : tie.Need-record-named-requires Inv-loop μ-loop
-record-named-requires c κs = (search needs, search records-turn, search records-turn, search records-turn)
+record-named-requires c κs = (search needs, search records-turn, search records-turn, search records-turn, search records-turn)
 
 enum-told : tie.Need-enum-told Inv-loop μ-loop
 enum-told c = search needs
