@@ -15,6 +15,7 @@ use Rattle.base.specs.Verdict.{verdictOf}
 use Rattle.base.specs.declared.Verdict.{Verdict}
 use Rattle.skeleton.specs.File.{Field}
 use Rattle.skeleton.specs.Place.{fieldsAt}
+use Rattle.skeleton.specs.RightFrom.{RightFrom}
 use Rattle.skeleton.specs.declared.directory.Shape.{Shape}
 use Rattle.rules.specs.Tags.{IRID, PRID, MRID, FRID}
 use Rattle.rules.specs.ByTag.{firstTag}
@@ -27,7 +28,7 @@ use Rattle.rules.specs.declared.Kind.the-variants.{Info, Point, Multi, Feature}
 use Rattle.rules.specs.declared.Mode.{Mode}
 use Rattle.contents.specs.Fit.{allFit}
 use Rattle.contents.specs.Keys.{keysIn, onceFrom}
-use Rattle.contents.proofs.StepLaws.{second-entry}
+use Rattle.contents.proofs.StepLaws.{second-entry, second-right}
 use Rattle.contents.proofs.FitLaws.{five-fit, all-any}
 
 -- ---- the record
@@ -53,6 +54,9 @@ module _ (r : List ℕ) (h : Shape) (m : Mode) (k : Kind) (five : number5 m k (f
   parted : (f : Field) × (fieldsAt r h 24 ≡ f ∷ fieldsAt r h (28 + h .a + h .b))
   parted = second-entry r h (λ e. kind-some k (rw e at first))
 
+  pub seven-right : RightFrom r h 24 → RightFrom r h (28 + h .a + h .b)
+  seven-right = second-right r h (λ e. kind-some k (rw e at first))
+
   pub seven-fit : allFit false (fieldsAt r h (28 + h .a + h .b)) ≡ true
   seven-fit =
       let f : Field = parted .0 in
@@ -66,7 +70,7 @@ module _ (r : List ℕ) (h : Shape) (m : Mode) (k : Kind) (five : number5 m k (f
       let t : f .tag ≡ tagOf k = rw (parted .1) at first in
       rw (parted .1) (rw (ident-marks k f t) y)
 
-pub ruleset seven-ways = (seven-fit, seven-rest)
+pub ruleset seven-ways = (seven-right, seven-fit, seven-rest)
 
 -- ---- for callers
 

@@ -3,13 +3,15 @@ use mathlib.Core.Path.{_≡_, refl}
 use mathlib.Core.List.{List, [], _∷_}
 use Prim.Native.Nat.{ℕ, _+_, _-_, _^_, _≤_, _<_}
 use native.Mathlib.Omega.{arith}
-use lib.ListN.{length}
+use lib.ListN.{length, getD}
 use Rattle.skeleton.specs.File.{Field}
 use Rattle.skeleton.specs.Place.{between, placeAt, fieldsAt}
+use Rattle.skeleton.specs.RightFrom.{RightFrom}
 use Rattle.skeleton.specs.declared.directory.Shape.{Shape}
 use Rattle.skeleton.specs.declared.place.Place.{Place}
 use Rattle.skeleton.specs.declared.place.Place.the-variants.{At, Done}
 use Rattle.skeleton.proofs.PlaceLaws.{held, fields-more, fields-done, place-falls, place-runs, place-in}
+use Rattle.skeleton.proofs.RightLaws.{right-done, right-on}
 
 module _ (r : List ℕ) (h : Shape) (p : ℕ) (e : Place) (en : e ≡ placeAt r h p) (tag start end next : ℕ) (x : e ≡ At tag start end next) where
   -- as each entry takes bytes, a count of them stays below their place
@@ -31,6 +33,13 @@ second-entry r h some = by-place (placeAt r h 24) refl
         let n : next ≡ 28 + h .a + h .b = let g = held r h 24 (At tag start end next) en tag start end next refl in omega arith in
         (record { tag = tag; body = between r start end }, rw n at (fields-more r h 24 (At tag start end next) en tag start end next refl))
     by-place Done en = absurd (some (fields-done r h 24 Done en refl))
+
+-- and where its directory is right, it is so from the second entry on
+pub second-right : (r : List ℕ) (h : Shape) → (fieldsAt r h 24 ≡ [] → ⊥) → RightFrom r h 24 → RightFrom r h (28 + h .a + h .b)
+second-right r h some k =
+    let o : getD r 24 0 ≡ 30 → ⊥ = λ y. some (fields-done r h 24 Done (right-done r h 24 k y) refl) in
+    let z : 24 + (4 + h .a + h .b) ≡ 28 + h .a + h .b = omega arith in
+    rw z at (right-on r h 24 k o)
 
 -- what such a loop wants besides the laws of its own definition
 pub ruleset step-bounds = (place-falls, place-runs, place-in, step-counts, step-word, arith)

@@ -13,13 +13,14 @@ use fields::le32;
 use rules::Kind;
 use rules::Mode;
 use skeleton::directory::Shape;
+use skeleton::directory::tag_at;
 use skeleton::place::Place;
 use skeleton::place::place_at;
 ghost use mathlib.Core.Path.{_≡_};
 ghost use mathlib.Core.Bool.{true, false, not};
 ghost use mathlib.Core.List.{[], _∷_};
 ghost use Prim.Native.Nat.{_+_, _*_, _≤_};
-ghost use lib.ListN.{length, take};
+ghost use lib.ListN.{length, getD, take};
 ghost use Rattle.base.specs.Check.{pass};
 ghost use Rattle.base.specs.Keys.{among};
 ghost use Rattle.base.specs.Verdict.{verdictOf};
@@ -27,14 +28,16 @@ ghost use Rattle.fields.specs.Table.{headOf, tupleOf};
 ghost use Rattle.fields.specs.Content.{fill};
 ghost use Rattle.fields.specs.declared.Format.the-variants.{Spas};
 ghost use Rattle.skeleton.specs.Place.{fieldsAt};
+ghost use Rattle.skeleton.specs.Directory.{tagAt};
+ghost use Rattle.skeleton.specs.RightFrom.{RightFrom};
 ghost use Rattle.skeleton.specs.Shape.{Bounded};
 ghost use Rattle.rules.specs.Tags.{INAS};
-ghost use Rattle.rules.specs.ByTag.{firstTag, has};
+ghost use Rattle.rules.specs.ByTag.{firstTag, front, has};
 ghost use Rattle.rules.specs.Kind.{tagOf};
 ghost use Rattle.rules.specs.Content.{inasFormat, number5};
 ghost use Rattle.rules.specs.Associations.{number7};
 ghost use Rattle.contents.specs.Fit.{fits, allFit};
-ghost use Rattle.contents.specs.Keys.{seenBefore, topWith, spasFrom, inasOnce, fieldOnce, onceFrom};
+ghost use Rattle.contents.specs.Keys.{keysIn, seenBefore, topWith, spasFrom, inasOnce, fieldOnce, onceFrom};
 
 // A field's keys: each is new, and then the largest number of a spatial key so far; or the tuple, 0 in an INAS, whose key stands twice.
 pub enum Keys {
@@ -124,9 +127,41 @@ fn field_once(
     Keys::Once(top)
 }
 
+// The keys of the field with this tag whose entry stands at q, behind the first n fields from the entry at p on, in a directory that was found right:
+// where the tag is that of no association, no number of the entry is read.
+fn entry_once(
+    r: &[u8],
+    h: Shape,
+    p: usize,
+    n: usize,
+    q: usize,
+    tag: u32,
+    top: usize,
+    informed: bool,
+) -> Keys
+    requires { ⌜ Bounded h × (allFit false (fieldsAt (now r) h p) ≡ true) × (allFit false (fieldsAt (now r) h q) ≡ true) × (top ≡ topWith 0 (keysIn (take n (fieldsAt (now r) h p)))) × (informed ≡ has INAS (take n (fieldsAt (now r) h p))) ⌝ }
+    requires { ⌜ RightFrom (now r) h q × (getD (now r) q 0 ≡ 30 → ⊥) × (tag ≡ tagAt (now r) q) ⌝ }
+    ensures { λ e. ⌜ e ≡ fieldOnce (now (r .entry)) h p n tag (front (fieldsAt (now (r .entry)) h q)) top ⌝ }
+{
+    if tag != 0x494e4153 {
+        if tag != 0x53504153 {
+            return Keys::Once(top);
+        }
+    }
+    match place_at(r, h, q) {
+        Place::At {
+            tag: read,
+            start,
+            end,
+            next: _,
+        } => field_once(r, h, p, n, read, &r[start..end], top, informed),
+        Place::Done => Keys::Once(top),
+    }
+}
+
 // Whether each key of the fields from the entry at p on, the second of the record, stands once; else 7.
 fn keys_once(r: &[u8], h: Shape, p: usize) -> Verdict
-    requires { ⌜ Bounded h × (2 ≤ p) × (allFit false (fieldsAt (now r) h p) ≡ true) ⌝ }
+    requires { ⌜ Bounded h × (2 ≤ p) × (allFit false (fieldsAt (now r) h p) ≡ true) × RightFrom (now r) h p ⌝ }
     ensures { λ v. ⌜ v ≡ onceFrom (now (r .entry)) h p 0 ⌝ }
 {
     let mut q = p;
@@ -134,34 +169,29 @@ fn keys_once(r: &[u8], h: Shape, p: usize) -> Verdict
     let mut top = 0;
     let mut informed = false;
     loop {
-        match place_at(r, h, q) {
-            Place::At {
-                tag,
-                start,
-                end,
-                next,
-            } => match field_once(r, h, p, n, tag, &r[start..end], top, informed) {
-                Keys::Once(t) => {
-                    top = t;
-                    informed = tag_passed(informed, tag, 0x494e4153);
-                    q = next;
-                    n += 1;
-                }
-                Keys::Twice(j) => {
-                    let field = n + 2;
-                    return Verdict::Refused(7, field, j);
-                }
-            },
-            Place::Done => {
-                return Verdict::Passed;
+        if r[q] == 0x1e {
+            return Verdict::Passed;
+        }
+        let tag = tag_at(r, q);
+        match entry_once(r, h, p, n, q, tag, top, informed) {
+            Keys::Once(t) => {
+                top = t;
+                informed = tag_passed(informed, tag, 0x494e4153);
+                q += 4 + h.a + h.b;
+                n += 1;
+            }
+            Keys::Twice(j) => {
+                let field = n + 2;
+                return Verdict::Refused(7, field, j);
             }
         }
     }
 }
 
-// Number 7 within a record of kind k that number 5 passed, and whose first field is its identifier: the second entry stands behind that one.
+// Number 7 within a record of kind k that number 5 passed, whose directory was found right and whose first field is its identifier: the second entry
+// stands behind that one.
 pub fn check_keys(r: &[u8], h: Shape, mode: Mode, k: Kind) -> Verdict
-    requires { ⌜ Bounded h × (number5 mode k (fieldsAt (now r) h 24) ≡ pass) × (firstTag (fieldsAt (now r) h 24) ≡ tagOf k) ⌝ }
+    requires { ⌜ Bounded h × (number5 mode k (fieldsAt (now r) h 24) ≡ pass) × (firstTag (fieldsAt (now r) h 24) ≡ tagOf k) × RightFrom (now r) h 24 ⌝ }
     ensures { λ v. ⌜ v ≡ verdictOf (number7 (fieldsAt (now (r .entry)) h 24)) ⌝ }
 {
     keys_once(r, h, 28 + h.a + h.b)

@@ -112,7 +112,7 @@ module _ (f : List ℕ) (start p len : ℕ) (h : Shape) (m top : ℕ) (hd : reco
     four-stopped t n i j x =
         standing-before f start p m top _ s l (recordAt f p) refl len (h .base) (h .a) (h .b) hd (fault n i j) (wrong-is _ n i j (sym x ∙ numbers))
 
-pub ruleset seventh-ways = (placed-five, placed-tag, at-bounded, at-in, at-word, base-word, base-small, key-comes, key-kind, key-twice, links-twice, record-right, arith)
+pub ruleset seventh-ways = (placed-five, placed-tag, at-bounded, at-right, at-in, at-word, base-word, base-small, key-comes, key-kind, key-twice, links-twice, record-right, arith)
 
 pub ruleset admit-ways = (at-bounded, at-right, at-in, at-word, four-passed, four-stopped, arith)
 

@@ -26,7 +26,7 @@ use Rattle.skeleton.proofs.PlaceLaws.{fields-more, fields-done}
 use Rattle.skeleton.proofs.RightLaws.{Next, right-next, right-done, right-in, right-tag, right-on, right-falls}
 use Rattle.rules.specs.Tags.{INAS, SPAS}
 use Rattle.rules.specs.Associations.{Mark, inasKey, spasKey, spasMarks, fieldMarks, marks}
-use Rattle.contents.proofs.StepLaws.{step-bounds}
+use Rattle.contents.proofs.StepLaws.{step-bounds, second-right}
 use Rattle.contents.proofs.SpatialLaws.{spas-next, spas-ends}
 use Rattle.keys.specs.Key.{keyAt, KeyFits}
 use Rattle.keys.specs.Listed.{hasFrom}
@@ -216,11 +216,8 @@ none-not : (fs : List Field) → recordReadable fs ≡ true → fs ≡ [] → �
 unfolding recordReadable
 none-not fs e z = let w : false ≡ true = rw z at e in (let y : _≡_ {A = ℕ} 0 1 = cc in omega arith)
 
-pub second-right : (r : List ℕ) (h : Shape) → recordReadable (fieldsAt r h 24) ≡ true → RightFrom r h 24 → RightFrom r h (28 + h .a + h .b)
-second-right r h e k =
-    let o : getD r 24 0 ≡ 30 → ⊥ = λ y. none-not (fieldsAt r h 24) e (fields-done r h 24 Done (right-done r h 24 k y) refl) in
-    let z : 24 + (4 + h .a + h .b) ≡ 28 + h .a + h .b = omega arith in
-    rw z at (right-on r h 24 k o)
+pub behind-right : (r : List ℕ) (h : Shape) → recordReadable (fieldsAt r h 24) ≡ true → RightFrom r h 24 → RightFrom r h (28 + h .a + h .b)
+behind-right r h e = second-right r h (none-not (fieldsAt r h 24) e)
 
 pub second-alike : (f : List ℕ) (start : ℕ) (r : List ℕ) (h : Shape) → recordReadable (fieldsAt r h 24) ≡ true
     → Alike f start (marks 2 (fieldsAt r h (28 + h .a + h .b))) (marks 1 (fieldsAt r h 24))
@@ -230,6 +227,6 @@ second-alike f start r h e = rw (second-marks r h e) (alike-same f start (marks 
 pub part-small : (r : List ℕ) (i j n : ℕ) → length r ≤ n → length (between r i j) ≤ n
 part-small r i j n h = omega (arith, length-take (j - i) (drop i r), length-drop i r)
 
-pub ruleset fields-turn = (second-readable, second-alike, second-right, fields-end, fields-counts, fields-number, fields-word, fields-readable, fields-passed, fields-loose, right-in, right-on, right-falls)
+pub ruleset fields-turn = (second-readable, second-alike, behind-right, fields-end, fields-counts, fields-number, fields-word, fields-readable, fields-passed, fields-loose, right-in, right-on, right-falls)
 
 pub ruleset entry-ways = (entry-done, entry-there, entry-plain, part-small, readable-here, step-bounds, right-tag)

@@ -11,7 +11,7 @@ add-keys-once-2 : tie.Need-add-keys-once-2
 add-keys-once-2 c = search needs
 
 keys-once-requires : tie.Need-keys-once-requires
-keys-once-requires c κs = (search needs, omega arith, search seven-ways)
+keys-once-requires c κs = (search needs, omega arith, search seven-ways, search seven-ways)
 
 returns : tie.Need-returns
 returns c = search seven-ways
