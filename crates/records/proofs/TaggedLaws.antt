@@ -5,17 +5,21 @@ use mathlib.Core.List.{List, [], _∷_}
 use Prim.Native.Nat.{ℕ, _+_, _-_, _≤_, _<_}
 use native.Mathlib.Omega.{arith}
 use native.Mathlib.Nat.{add-zero}
-use borrow.Author.Tests.{eq-eqb}
+use borrow.Author.Tests.{eq-eqb, ne-eqb}
 use lib.Dec.{eqb}
 use lib.ListN.{length, getD, take, drop, length-take, length-drop, List·getD-eq-default}
 use lib.Seq.{getD-take, getD-drop}
 use Rattle.base.specs.Choice.{pick}
 use Rattle.base.specs.Lists.{each, empty}
 use Rattle.skeleton.specs.File.{Field}
-use Rattle.skeleton.specs.Place.{between, fieldsAt, findFrom, fromTag}
+use Rattle.skeleton.specs.Directory.{tagAt}
+use Rattle.skeleton.specs.Place.{between, placeAt, fieldsAt, findFrom, fromTag}
+use Rattle.skeleton.specs.RightFrom.{RightFrom}
 use Rattle.skeleton.specs.declared.directory.Shape.{Shape}
 use Rattle.skeleton.specs.declared.place.Place.{Place}
 use Rattle.skeleton.specs.declared.place.Place.the-variants.{At, Done}
+use Rattle.skeleton.proofs.PlaceLaws.{fields-more, fields-done}
+use Rattle.skeleton.proofs.RightLaws.{Next, right-next, right-done, right-in, right-tag, right-on, right-word, right-falls}
 use Rattle.skeleton.proofs.FindLaws.{found-none, found-first, found-tag, found-runs, found-in}
 use Rattle.rules.specs.ByTag.{withTag, has, bodies, bodyOf}
 use Rattle.rules.specs.Grammar.{couiByte}
@@ -50,10 +54,6 @@ module _ (r : List ℕ) (h : Shape) (t p : ℕ) (e : Place) (en : e ≡ findFrom
   unfolding withTag
   with-none x = with-from t (fieldsAt r h p) ∙ rw (found-none r h t p e en x)
 
-  pub has-none : e ≡ Done → false ≡ has t (fieldsAt r h p)
-  unfolding has empty
-  has-none x = rw (with-none x)
-
   module _ (tag start end next : ℕ) (x : e ≡ At tag start end next) where
     pub with-first : withTag t (fieldsAt r h p) ≡ record { tag = tag; body = between r start end } ∷ withTag t (fieldsAt r h next)
     unfolding withTag
@@ -61,11 +61,30 @@ module _ (r : List ℕ) (h : Shape) (t p : ℕ) (e : Place) (en : e ≡ findFrom
         with-from t (fieldsAt r h p)
         ∙ rw (found-first r h t p e en tag start end next x) (simp (eq-eqb tag t (found-tag r h t p e en tag start end next x)))
 
-    pub has-first : true ≡ has t (fieldsAt r h p)
-    unfolding has empty
-    has-first = rw with-first
+-- ---- a tag in a directory that is right: from q on, where the whole comes to A
 
-pub ruleset has-ways = (has-none, has-first)
+module _ (r : List ℕ) (h : Shape) (t q : ℕ) (k : RightFrom r h q) (A : Bool) (inv : has t (fieldsAt r h q) ≡ A) where
+  pub has-end : getD r q 0 ≡ 30 → false ≡ A
+  unfolding has withTag empty
+  has-end y = rw (fields-done r h q Done (right-done r h q k y) refl) at inv
+
+  module _ (o : getD r q 0 ≡ 30 → ⊥) where
+    next : Next r h q
+    next = right-next r h q k o
+
+    module _ (tag : ℕ) (et : tag ≡ tagAt r q) where
+      here : At tag (next .start) (next .end) (q + (4 + h .a + h .b)) ≡ placeAt r h q
+      here = rw et (next .place)
+
+      pub has-here : tag ≡ t → true ≡ A
+      unfolding has withTag empty
+      has-here z = simp (eq-eqb tag t z) at (rw (fields-more r h q _ here tag (next .start) (next .end) _ refl) at inv)
+
+      pub has-on : (tag ≡ t → ⊥) → has t (fieldsAt r h (q + (4 + h .a + h .b))) ≡ A
+      unfolding has withTag
+      has-on z = simp (ne-eqb tag t z) at (rw (fields-more r h q _ here tag (next .start) (next .end) _ refl) at inv)
+
+pub ruleset has-turn = (has-end, has-here, has-on, right-in, right-tag, right-on, right-word, right-falls)
 
 -- ---- COUI
 

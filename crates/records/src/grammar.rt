@@ -99,7 +99,7 @@ pub fn as_stored(mode: Mode, ruin: u8) -> bool
 
 // Whether every field is there that a record of a dataset needs: a point's C2IT, a feature's FOID.
 fn is_complete(r: &[u8], h: Shape, p: usize, k: Kind) -> bool
-    requires { ⌜ Bounded h ⌝ }
+    requires { ⌜ Bounded h × RightFrom (now r) h p ⌝ }
     ensures { λ b. ⌜ b ≡ complete (rowsOf k) (fieldsAt (now (r .entry)) h p) ⌝ }
 {
     match k {
@@ -132,7 +132,7 @@ fn kind_order(r: &[u8], h: Shape, p: usize, k: Kind, s: Instructions) -> usize
 // The instructions of a record with this RUIN, its fields from the entry at p on. In a dataset they take no COCC (0x434f4343), whatever they are:
 // none is looked for.
 fn instructions(r: &[u8], h: Shape, p: usize, mode: Mode, ruin: u8) -> Instructions
-    requires { ⌜ Bounded h ⌝ }
+    requires { ⌜ Bounded h × RightFrom (now r) h p ⌝ }
     ensures { λ s. ⌜ s ≡ instructionsOf mode ruin (fieldsAt (now (r .entry)) h p) ⌝ }
 {
     match mode {

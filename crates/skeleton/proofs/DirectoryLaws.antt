@@ -185,11 +185,12 @@ past-zeros r p l y z =
     let e : p + 4 + 5 ≡ p + 9 = omega arith in
     let m = five-small r (p + 4) (omega arith) y in
     let n = five-small r (p + 9) (omega arith) z in
-    rw (e, m, n) refl
+    let w : p + 9 + 5 ≡ p + 14 = omega arith in
+    rw (e, w, m, n) refl
 
 past-none : (r : List ℕ) (a b p : ℕ) → entryPast r 0 a b p ≡ entryIn r a b p
 unfolding entryPast entryIn
-past-none r a b p = simp (zero-add, add-zero)
+past-none r a b p = let w : p + 4 + a + b ≡ p + (4 + a + b) = omega arith in simp (zero-add, add-zero, w)
 
 -- what smallness says
 small-holds : (r : List ℕ) (a b p : ℕ) → smallAt r a b p ≡ true → (a ≡ 5) × (b ≡ 5) × (zerosAt r (p + 4) ≡ true) × (zerosAt r (p + 9) ≡ true)
@@ -279,7 +280,7 @@ module _ (r : List ℕ) (z a b p : ℕ) (m : Number) (em : m ≡ numberAt r (p +
     unfolding entryPast
     entry-no-pos y = simp (← em, x, ← ek, y)
 
-    pub entry-field : (pos tag : ℕ) → k ≡ Value pos → tag ≡ tagAt r p → Field tag pos len (p + (4 + (z + a) + (z + b))) ≡ entryPast r z a b p
+    pub entry-field : (pos tag : ℕ) → k ≡ Value pos → tag ≡ tagAt r p → Field tag pos len (p + 4 + (z + a) + (z + b)) ≡ entryPast r z a b p
     unfolding entryPast
     entry-field pos tag y w = simp (← em, x, ← ek, y, ← w)
 

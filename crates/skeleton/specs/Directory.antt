@@ -35,7 +35,7 @@ entryIn r a b p = entryOf (tagAt r p) (p + (4 + a + b)) (numberAt r (p + 4) a) (
 -- the same entry, read past z zeros at the front of each number: m and n digits are left of them
 unfoldable pub entryPast : List ℕ → ℕ → ℕ → ℕ → ℕ → Entry
 entryPast r z m n p =
-    entryOf (tagAt r p) (p + (4 + (z + m) + (z + n))) (numberAt r (p + 4 + z) m) (numberAt r (p + 4 + (z + m) + z) n)
+    entryOf (tagAt r p) (p + 4 + (z + m) + (z + n)) (numberAt r (p + 4 + z) m) (numberAt r (p + 4 + (z + m) + z) n)
 
 -- two zeros (48) stand at p
 unfoldable pub zerosAt : List ℕ → ℕ → Bool
