@@ -1,6 +1,7 @@
 #!/usr/bin/env python3
-"""Tests docs/RULES.md: every name `crate/Module.definition` on it is a definition of crates/crate/specs/Module.antt, and every point of
-docs/DECISIONS.md that has a label is in its last table. Exit 1 where one is not."""
+"""Tests two pages. docs/RULES.md: every name `crate/Module.definition` on it is a definition of crates/crate/specs/Module.antt, and every point
+of docs/DECISIONS.md that has a label is in its last table. docs/PROMISES.md: every edit that must fail is on it, and what a row says it is
+shown by is such an edit. Exit 1 where that is not so."""
 import pathlib
 import re
 import sys
@@ -15,20 +16,32 @@ def defined(path):
     return set(re.findall(r"^(?:unfoldable |abbrev )?pub (?:data |record )?(\S+)", path.read_text(), re.M))
 
 
+def promised():
+    """What is wrong between docs/PROMISES.md and the edits that must fail."""
+    text = (ROOT / "docs/PROMISES.md").read_text()
+    edits = {path.stem for path in ROOT.glob("crates/*/must-fail/*.edit")}
+    for name in sorted(edits - set(re.findall(r"`(\w+)`", text))):
+        yield f"docs/PROMISES.md: the edit {name} is not on it"
+    for table in re.findall(r"^\|.*shown by \|\n((?:\|.*\n)+)", text, re.M):
+        for name in re.findall(r"`(\w+)`", "".join(row.rsplit("|", 2)[1] for row in table.splitlines())):
+            if name not in edits:
+                yield f"docs/PROMISES.md: {name} is no edit that must fail"
+
+
 def main():
     text = (ROOT / "docs/RULES.md").read_text()
-    faults = []
+    faults = list(promised())
     for crate, module, name in sorted(set(re.findall(r"`(?!docs/)([a-z]+)/([A-Z]\w*)\.(\w+)`", text))):
         if name not in defined(ROOT / "crates" / crate / "specs" / f"{module}.antt"):
-            faults.append(f"{crate}/{module}.{name} is no definition")
+            faults.append(f"docs/RULES.md: {crate}/{module}.{name} is no definition")
     decisions = ROOT / "docs/DECISIONS.md"
     if decisions.exists():
         mapped = set(re.findall(r"^\| ([A-G]\d+) \|", text, re.M))
         for label in re.findall(r"^\| ([A-G]\d+) \|", decisions.read_text(), re.M):
             if label not in mapped:
-                faults.append(f"point {label} of docs/DECISIONS.md is not on the page")
+                faults.append(f"docs/RULES.md: point {label} of docs/DECISIONS.md is not on it")
     for fault in faults:
-        print("docs/RULES.md:", fault)
+        print(fault)
     sys.exit(1 if faults else 0)
 
 
