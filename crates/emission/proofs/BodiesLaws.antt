@@ -73,7 +73,7 @@ pub ruleset put-ways = (put-none, put-inside, put-some)
 -- ---- the body of one cell
 
 -- the body of cell i, in the slice that the cell names
-module _ (d u c : List ℕ) (i start n : ℕ) (s : (start ≡ u24 c (7 * i)) × (start ≤ 16777215)) (e : (n ≡ u24 c (7 * i + 4)) × (n ≤ 16777215)) where
+module _ (d u c : List ℕ) (i start n : ℕ) (s : (start ≡ u24 c (7 * i)) × (start < 16777216)) (e : (n ≡ u24 c (7 * i + 4)) × (n < 16777216)) where
   pub body-old : getD c (7 * i + 3) 0 ≡ 0 → between d start (start + n) ≡ bodyAt d u c i
   unfolding bodyAt source
   body-old z = rw (eq-eqb (getD c (7 * i + 3) 0) 0 z, s .0, e .0)

@@ -1,4 +1,5 @@
 // The bodies that cells refer to: how long they are, and copies of them.
+use cells::cell::u24_at;
 use memory::writing::put_byte;
 use memory::writing::put_part;
 use writing::parts::put_entry;
@@ -9,19 +10,8 @@ ghost use Rattle.memory.specs.Wrote.{Wrote};
 ghost use Rattle.skeleton.specs.Emit.{sizes, entries, contents};
 ghost use Rattle.skeleton.specs.Place.{between};
 ghost use Rattle.rules.specs.Written.{fieldWidth};
-ghost use Rattle.cells.specs.Cells.{u24, bodyAt, bodiesOf};
+ghost use Rattle.cells.specs.Cells.{bodyAt, bodiesOf};
 ghost use Rattle.emission.specs.Bodies.{joined, inasFields};
-
-// The number of three bytes at an index, the lowest first.
-fn number24(c: &[u8], at: usize) -> usize
-    requires { ⌜ at + 3 ≤ length (now c) ⌝ }
-    ensures { λ r. ⌜ (r ≡ u24 (now (c .entry)) at) × (r ≤ 16777215) ⌝ }
-{
-    let low = c[at] as usize;
-    let middle = c[at + 1] as usize;
-    let high = c[at + 2] as usize;
-    low + 256 * middle + 65536 * high
-}
 
 // How many of n bytes from `start` on are in b.
 fn inside(b: &[u8], start: usize, n: usize) -> usize
@@ -42,8 +32,8 @@ pub fn body_length(d: &[u8], u: &[u8], c: &[u8], i: usize) -> usize
     requires { ⌜ 7 * i + 7 ≤ length (now c) ⌝ }
     ensures { λ r. ⌜ (r ≡ length (bodyAt (now (d .entry)) (now (u .entry)) (now (c .entry)) i)) × (r ≤ 16777215) ⌝ }
 {
-    let start = number24(c, 7 * i);
-    let n = number24(c, 7 * i + 4);
+    let start = u24_at(c, 7 * i);
+    let n = u24_at(c, 7 * i + 4);
     if c[7 * i + 3] == 0 {
         return inside(d, start, n);
     }
@@ -67,8 +57,8 @@ pub fn put_body(d: &[u8], u: &[u8], c: &[u8], i: usize, out: &mut [u8], at: usiz
     requires { ⌜ (7 * i + 7 ≤ length (now c)) × (at + length (bodyAt (now d) (now u) (now c) i) ≤ length (now out)) ⌝ }
     ensures { λ p. ⌜ Wrote at (bodyAt (now (d .entry)) (now (u .entry)) (now (c .entry)) i) (now (out .entry)) p (now (out .exit)) ⌝ }
 {
-    let start = number24(c, 7 * i);
-    let n = number24(c, 7 * i + 4);
+    let start = u24_at(c, 7 * i);
+    let n = u24_at(c, 7 * i + 4);
     if c[7 * i + 3] == 0 {
         return put_inside(d, start, n, out, at);
     }
