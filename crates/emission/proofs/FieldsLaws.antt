@@ -5,7 +5,7 @@ use mathlib.Core.Bool.{Bool, true, false}
 use mathlib.Core.List.{List, [], _∷_, _++_}
 use native.Mathlib.Omega.{arith}
 use borrow.Author.Tests.{eq-eqb, ne-eqb}
-use lib.ListN.{length, take, drop, length-append, length-take, length-drop}
+use lib.ListN.{length, length-append}
 use Rattle.base.specs.Lists.{each}
 use Rattle.skeleton.specs.File.{Field}
 use Rattle.skeleton.specs.Emit.{sizes}
@@ -19,7 +19,7 @@ use Rattle.version.specs.declared.Version.{Version}
 use Rattle.writing.specs.Found.{Summed}
 use Rattle.writing.specs.declared.measuring.Sum.{Sum}
 use Rattle.emission.specs.Bodies.{joined, inasFields}
-use Rattle.emission.specs.Fields.{identPart, foidPart, coordPart, spasPart, inasPart, lastFields, versionFields, listSize, listCount, identSize, foidSize, lastSize, lastCount, total, Rooms, Few, Measured}
+use Rattle.emission.specs.Fields.{identPart, foidPart, lastFields, versionFields, listSize, listCount, identSize, foidSize, lastSize, lastCount, total, Rooms, Few, Measured, Indexed}
 use Rattle.emission.specs.declared.measuring.Sizes.{Sizes}
 use Rattle.emission.proofs.ListLaws.{sizes-append, size-most, count-most, length-list, sizes-list}
 use Rattle.emission.proofs.IdentLaws.{length-ident}
@@ -81,108 +81,86 @@ unfolding inasFields each
 length-inas [] = refl
 length-inas (b ∷ bs) = ap suc (length-inas bs)
 
-pub inas-count : (d u w : List ℕ) (v : Version) → length (inasPart d u w v) ≡ v .inas
-unfolding inasPart
-inas-count d u w v = length-inas (bodiesOf d u (inasArea w) (v .inas)) ∙ length-bodies d u (inasArea w) 0 (v .inas)
+module _ (d u inas : List ℕ) (v : Version) (c s : List ℕ) (lc : length c ≡ 8 * v .coord) (ls : length s ≡ 15 * v .spas) where
+  -- the INAS fields
+  abbrev associations : List Field
+  associations = inasFields (bodiesOf d u inas (v .inas))
 
-module _ (d u w : List ℕ) (v : Version) (room : Rooms d u w v) where
-  pub coord-long : length (coordPart w v) ≡ 8 * v .coord
-  unfolding coordPart
-  coord-long = simp (length-take, length-drop) (omega (arith, room .work, room .coord-room))
-
-  pub few : Few v
-  few =
-      record {
-        inas = omega (arith, room .inas-room);
-        coord = omega (arith, room .coord-room);
-        spas = omega (arith, room .spas-room);
-      }
-
-  pub last-size : sizes (lastFields d u w v) ≡ lastSize v (sizes (inasPart d u w v))
+  pub last-size : sizes (lastFields d u inas v c s) ≡ lastSize v (sizes associations)
   unfolding lastFields lastSize
   last-size =
-      let i = inasPart d u w v in
-      let c = listField (coordTag (v .kind)) (coordPart w v) in
-      let s = listField SPAS (spasPart d u w v) in
-      sizes-append (i ++ c) s
-      ∙ ap₂ (λ (x y : ℕ). x + y) (sizes-append i c) (sizes-list SPAS (spasPart d u w v) ∙ ap listSize (room .spas-long))
-      ∙ ap (λ (x : ℕ). sizes i + x + listSize (15 * v .spas)) (sizes-list (coordTag (v .kind)) (coordPart w v) ∙ ap listSize coord-long)
+      let f = listField (coordTag (v .kind)) c in
+      sizes-append (associations ++ f) (listField SPAS s)
+      ∙ ap₂ (λ (x y : ℕ). x + y) (sizes-append associations f) (sizes-list SPAS s ∙ ap listSize ls)
+      ∙ ap (λ (x : ℕ). sizes associations + x + listSize (15 * v .spas)) (sizes-list (coordTag (v .kind)) c ∙ ap listSize lc)
 
-  pub last-count : length (lastFields d u w v) ≡ lastCount v
+  pub last-count : length (lastFields d u inas v c s) ≡ lastCount v
   unfolding lastFields lastCount
   last-count =
-      let a = inas-count d u w v in
-      let b = length-list (coordTag (v .kind)) (coordPart w v) ∙ ap listCount coord-long in
-      let c = length-list SPAS (spasPart d u w v) ∙ ap listCount (room .spas-long) in
+      let i : length associations ≡ v .inas = length-inas (bodiesOf d u inas (v .inas)) ∙ length-bodies d u inas 0 (v .inas) in
+      let a = length-list (coordTag (v .kind)) c ∙ ap listCount lc in
+      let b = length-list SPAS s ∙ ap listCount ls in
       simp length-append (omega arith)
 
-  module _ (m : Sizes) (k : Measured d u w v m) where
-    pub attr-small : m .attr ≤ 1000000000000
-    attr-small = let a : 8 * v .attr ≤ 200000 = room .attr-room in omega (arith, k .attr-is .most)
+  module _ (m : Sizes) (k : Indexed d u inas v m) (t : List ℕ) (lt : length t ≡ m .attr) where
+    version-count : length (versionFields d u inas v t c s) ≡ total v m .fields
+    unfolding versionFields total
+    version-count =
+        let a = length-list FOID (foidPart d u v) ∙ ap listCount (k .foid-long) in
+        let b = length-list ATTR t ∙ ap listCount lt in
+        simp length-append (omega (arith, last-count))
 
-    pub inas-small : m .inas ≤ 1000000000000
-    inas-small = omega (arith, k .inas-small)
+    version-size : sizes (versionFields d u inas v t c s) ≡ total v m .bytes
+    unfolding versionFields total sizes
+    version-size =
+        let i : List Field = fieldAs (tagOf (v .kind)) (identPart v) ∷ [] in
+        let f = listField FOID (foidPart d u v) in
+        let a = listField ATTR t in
+        let l = last-size ∙ ap (lastSize v) (sym (k .inas-is)) in
+        let x = sizes-list FOID (foidPart d u v) ∙ ap listSize (k .foid-long) in
+        let y = sizes-list ATTR t ∙ ap listSize lt in
+        omega (arith, sizes-append (i ++ f ++ a) (lastFields d u inas v c s), sizes-append (i ++ f) a, sizes-append i f, length-ident v)
 
-    module _ (t : List ℕ) (e : length t ≡ m .attr) where
-      pub version-count : length (versionFields d u w v t) ≡ total v m .fields
-      unfolding versionFields total
-      version-count =
-          let a = length-list FOID (foidPart d u v) ∙ ap listCount (room .foid-long) in
-          let b = length-list ATTR t ∙ ap listCount e in
-          simp length-append (omega (arith, last-count))
+    pub version-summed : Summed (versionFields d u inas v t c s) (total v m)
+    version-summed =
+        record {
+          fields-are = sym version-count;
+          bytes-are = sym version-size;
+          few = fields-few;
+          small = bytes-few;
+        }
+      where
+        fields-few : total v m .fields ≤ 16777216
+        fields-few =
+            unfold total lastCount in
+            omega (
+              arith,
+              count-most (foidSize (v .foids)),
+              count-most (m .attr),
+              count-most (8 * v .coord),
+              count-most (15 * v .spas),
+              k .few .inas,
+            )
 
-      pub version-size : sizes (versionFields d u w v t) ≡ total v m .bytes
-      unfolding versionFields total sizes
-      version-size =
-          let i : List Field = fieldAs (tagOf (v .kind)) (identPart v) ∷ [] in
-          let f = listField FOID (foidPart d u v) in
-          let a = listField ATTR t in
-          let l = last-size ∙ ap (lastSize v) (sym (k .inas-is)) in
-          let x = sizes-list FOID (foidPart d u v) ∙ ap listSize (room .foid-long) in
-          let y = sizes-list ATTR t ∙ ap listSize e in
-          omega (arith, sizes-append (i ++ f ++ a) (lastFields d u w v), sizes-append (i ++ f) a, sizes-append i f, length-ident v)
-
-      pub version-summed : Summed (versionFields d u w v t) (total v m)
-      version-summed =
-          record {
-            fields-are = sym version-count;
-            bytes-are = sym version-size;
-            few = fields-few;
-            small = bytes-few;
-          }
-        where
-          fields-few : total v m .fields ≤ 16777216
-          fields-few =
-              unfold total lastCount in
-              omega (
-                arith,
-                count-most (foidSize (v .foids)),
-                count-most (m .attr),
-                count-most (8 * v .coord),
-                count-most (15 * v .spas),
-                few .inas,
-              )
-
-          bytes-few : total v m .bytes ≤ 281474993487872
-          bytes-few =
-              unfold total lastSize in
-              omega (
-                arith,
-                ident-most v,
-                size-most (foidSize (v .foids)),
-                foid-most (v .foids),
-                size-most (m .attr),
-                size-most (8 * v .coord),
-                size-most (15 * v .spas),
-                few .coord,
-                few .spas,
-                attr-small,
-                inas-small,
-              )
+        bytes-few : total v m .bytes ≤ 281474993487872
+        bytes-few =
+            unfold total lastSize in
+            omega (
+              arith,
+              ident-most v,
+              size-most (foidSize (v .foids)),
+              foid-most (v .foids),
+              size-most (m .attr),
+              size-most (8 * v .coord),
+              size-most (15 * v .spas),
+              k .few .coord,
+              k .few .spas,
+              k .attr-small,
+              k .inas-small,
+            )
 
 -- ---- `measure`
 
 pub measured : (d u w : List ℕ) (v : Version) (a i : ℕ) → Rooms d u w v → Sized d u (listArea w) (v .attr) a
     → (i ≡ sizes (inasFields (bodiesOf d u (inasArea w) (v .inas)))) × (i ≤ 16777216 * v .inas) → Measured d u w v (record { attr = a; inas = i })
-unfolding inasPart
 measured d u w v a i room s e = record { attr-is = s; inas-is = e .0; inas-small = omega (arith, e .1, room .inas-room) }

@@ -11,6 +11,7 @@ use Rattle.base.specs.Choice.{pick}
 use Rattle.base.specs.Check.{passed, pass}
 use Rattle.base.specs.Lists.{each, gather}
 use Rattle.memory.specs.Digits.{digits, littleEndian}
+use Rattle.memory.specs.Put.{part}
 use Rattle.skeleton.specs.File.{Field}
 use Rattle.skeleton.specs.Place.{between}
 use Rattle.fields.specs.Bytes.{bytes}
@@ -43,7 +44,7 @@ use Rattle.version.specs.declared.Version.{Version}
 use Rattle.writing.proofs.RecordPartLaws.{passed-inv}
 use Rattle.writing.proofs.SameBytesLaws.{foid-again, inas-again, Lists, none, one, coords-again, spatial-again}
 use Rattle.emission.specs.Bodies.{joined, inasFields}
-use Rattle.emission.specs.Fields.{codePart, identPart, foidPart, coordPart, spasPart, inasPart, lastFields, versionFields, foidSize, Rooms}
+use Rattle.emission.specs.Fields.{codePart, identPart, foidPart, lastFields, versionFields, foidSize, Rooms}
 use Rattle.emission.proofs.FieldsLaws.{length-bodies}
 
 -- ---- the identifier
@@ -129,7 +130,6 @@ spas-total (b ∷ bs) g =
 -- ---- the rooms
 
 pub held-rooms : (d u w : List ℕ) (v : Version) → (length d ≤ 16777216) × (length u ≤ 16777216) × (400000 ≤ length w) → (r : Rec) → Held d u w v r → Rooms d u w v
-unfolding spasPart
 held-rooms d u w v l r h =
     let p = h .parts in
     record {
@@ -154,8 +154,8 @@ area-bytes (suc n) (x ∷ l) g zero = g zero
 area-bytes (suc n) (x ∷ l) g (suc k) = area-bytes n l (λ j. g (suc j)) k
 
 module _ (d u w : List ℕ) (v : Version) (g : Bytes w) (l : 400000 ≤ length w) (r : Rec) (h : Held d u w v r) where
-  coords-held : putAll (tupleOf C2il) (each coordVals (r .parts .coordinates)) ≡ coordPart w v
-  unfolding coordPart
+  coords-held : putAll (tupleOf C2il) (each coordVals (r .parts .coordinates)) ≡ part 0 (8 * v .coord) (listArea w)
+  unfolding part
   coords-held =
       let p = h .parts in
       let b = take (8 * v .coord) (listArea w) in
@@ -163,14 +163,12 @@ module _ (d u w : List ℕ) (v : Version) (g : Bytes w) (l : 400000 ≤ length w
       ap (λ (cs : List Coord). putAll (tupleOf C2il) (each coordVals cs)) (p .coordinates)
       ∙ coord-as b (v .coord) (area-bytes (8 * v .coord) (listArea w) (area-bytes 200000 w g)) n
 
-  spas-held : putAll (tupleOf SpasNew) (each spatialVals (r .parts .spatial)) ≡ spasPart d u w v
-  unfolding spasPart
+  spas-held : putAll (tupleOf SpasNew) (each spatialVals (r .parts .spatial)) ≡ joined (bodiesOf d u (spasArea w) (v .spas))
   spas-held =
       let p = h .parts in
       ap (λ (ss : List Spatial). putAll (tupleOf SpasNew) (each spatialVals ss)) (p .spatial) ∙ spas-as (bodiesOf d u (spasArea w) (v .spas)) (p .spas-right)
 
-  inas-held : each assocField (r .parts .associations) ≡ inasPart d u w v
-  unfolding inasPart
+  inas-held : each assocField (r .parts .associations) ≡ inasFields (bodiesOf d u (inasArea w) (v .inas))
   inas-held = let p = h .parts in ap (each assocField) (p .associations) ∙ inas-as (bodiesOf d u (inasArea w) (v .inas)) (p .inas-right)
 
   foid-held : puts (headOf Foid) (nums (r .foid)) ≡ foidPart d u v
@@ -179,15 +177,16 @@ module _ (d u w : List ℕ) (v : Version) (g : Bytes w) (l : 400000 ≤ length w
       ap (λ (ns : List ℕ). puts (headOf Foid) (nums ns)) (h .foid)
       ∙ foid-as (eqb (v .foids) 0) (between (source (v .slice) d u) (v .foid) (v .foid + 8)) (h .foid-right)
 
-  pub held-fields : writtenFields r ≡ versionFields d u w v (treeBytes (r .parts .attributes))
+  pub held-fields : writtenFields r
+      ≡ versionFields d u (inasArea w) v (treeBytes (r .parts .attributes)) (part 0 (8 * v .coord) (listArea w)) (joined (bodiesOf d u (spasArea w) (v .spas)))
   unfolding writtenFields partFields versionFields lastFields
   held-fields =
       let i = fieldAs (tagOf (v .kind)) (identPart v) in
       let f = listField FOID (foidPart d u v) in
       let a = listField ATTR (treeBytes (r .parts .attributes)) in
-      let n = inasPart d u w v in
-      let c = listField (coordTag (v .kind)) (coordPart w v) in
-      let s = listField SPAS (spasPart d u w v) in
+      let n = inasFields (bodiesOf d u (inasArea w) (v .inas)) in
+      let c = listField (coordTag (v .kind)) (part 0 (8 * v .coord) (listArea w)) in
+      let s = listField SPAS (joined (bodiesOf d u (spasArea w) (v .spas))) in
       rw (
         ident-as (r .kind) v r (h .kind) refl (h .rcid) (h .code) (h .rver),
         foid-held,

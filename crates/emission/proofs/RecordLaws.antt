@@ -26,10 +26,10 @@ use Rattle.writing.specs.declared.measuring.Sum.{Sum}
 use Rattle.writing.proofs.MeasuringLaws.{length-is}
 use Rattle.writing.proofs.WriterLaws.{wrote-record}
 use Rattle.emission.specs.Bodies.{joined}
-use Rattle.emission.specs.Fields.{coordPart, spasPart, inasPart, lastFields, versionFields, lastOf, fieldsOf, total, Rooms, Few, Measured, Indexed, Placed, Listed}
+use Rattle.emission.specs.Fields.{versionFields, total, Rooms, Few, Measured, Indexed, Placed, Listed}
 use Rattle.emission.specs.declared.measuring.Sizes.{Sizes}
 use Rattle.emission.proofs.HeldLaws.{held-rooms, held-fields}
-use Rattle.emission.proofs.LengthLaws.{held-small, held-summed}
+use Rattle.emission.proofs.LengthLaws.{list-long, held-indexed, held-summed}
 
 -- ---- `put_record`
 
@@ -64,7 +64,7 @@ module _ (d u list inas spas : List ℕ) (v : Version) (m : Sizes) (at : ℕ) (o
       module _ (p₂ : ℕ) (o₂ : List ℕ)
           (w₂ : (p₂ ≡ p₁ + 14 * (total v m .fields))
           × ((t c b : List ℕ) → length t ≡ m .attr → length c ≡ 8 * v .coord → length b ≡ 15 * v .spas
-          → Wrote p₁ (entries fieldWidth fieldWidth 0 (fieldsOf d u inas v t c b)) o₁ p₂ o₂)) (l : length o₂ ≡ length o₁) where
+          → Wrote p₁ (entries fieldWidth fieldWidth 0 (versionFields d u inas v t c b)) o₁ p₂ o₂)) (l : length o₂ ≡ length o₁) where
         pub record-mark : p₂ + 1 ≤ length o₂
         record-mark = omega (arith, g .1 .2, w₁ .0, wrote-length (w₁ .1), w₂ .0, l)
 
@@ -74,7 +74,7 @@ module _ (d u list inas spas : List ℕ) (v : Version) (m : Sizes) (at : ℕ) (o
 
           -- the fields that are written, where f is the attributes
           abbrev fields : Forest → List Field
-          fields f = fieldsOf d u inas v (treeBytes f) (part 0 (8 * v .coord) list) (joined (bodiesOf d u spas (v .spas)))
+          fields f = versionFields d u inas v (treeBytes f) (part 0 (8 * v .coord) list) (joined (bodiesOf d u spas (v .spas)))
 
           pub record-written : (p₄ : ℕ) (o₄ : List ℕ) → ((f : Forest) → its d u list 0 (v .attr) ≡ flat 0 f → Wrote p₃ (contents (fields f)) o₃ p₄ o₄)
               → (f : Forest) → its d u list 0 (v .attr) ≡ flat 0 f → Summed (fields f) (total v m)
@@ -89,62 +89,41 @@ module _ (d u list inas spas : List ℕ) (v : Version) (m : Sizes) (at : ℕ) (o
 
 module _ (d u w : List ℕ) (v : Version) (l : (length d ≤ 16777216) × (length u ≤ 16777216) × (400000 ≤ length w)) (b : Bytes w) (m : Sizes) (k : Measured d u w v m)
     (at : ℕ) (out : List ℕ) where
-  -- the fields from the areas
-  fields-of : (t : List ℕ) → versionFields d u w v t ≡ fieldsOf d u (inasArea w) v t (part 0 (8 * v .coord) (listArea w)) (joined (bodiesOf d u (spasArea w) (v .spas)))
-  unfolding versionFields lastFields inasPart coordPart spasPart fieldsOf lastOf part
-  fields-of t = refl
-
   module _ (r : Rec) (h : Held d u w v r) where
     rooms : Rooms d u w v
     rooms = held-rooms d u w v l r h
 
     same-fields : writtenFields r
-        ≡ fieldsOf d u (inasArea w) v (treeBytes (r .parts .attributes)) (part 0 (8 * v .coord) (listArea w)) (joined (bodiesOf d u (spasArea w) (v .spas)))
-    same-fields = held-fields d u w v b (l .2) r h ∙ fields-of (treeBytes (r .parts .attributes))
+        ≡ versionFields d u (inasArea w) v (treeBytes (r .parts .attributes)) (part 0 (8 * v .coord) (listArea w)) (joined (bodiesOf d u (spasArea w) (v .spas)))
+    same-fields = held-fields d u w v b (l .2) r h
 
     summed : Summed (writtenFields r) (total v m)
     summed = held-summed d u w v l r h m k b (total v m) refl
 
-    indexed : Indexed d u (inasArea w) v m
-    unfolding inasPart
-    indexed =
-        let x = held-small d u w v l r h m k in
-        let n : length (inasArea w) ≡ 92000 = simp (length-take, length-drop) (omega (arith, l .2)) in
-        record {
-          few = x .0;
-          foid-long = rooms .foid-long;
-          attr-small = x .1;
-          inas-short = omega arith;
-          inas-room = omega (arith, rooms .inas-room);
-          inas-is = k .inas-is;
-          inas-small = x .2;
-        }
-
-    list-long : length (listArea w) ≡ 200000
-    list-long = simp (length-take, length-drop) (omega (arith, l .2))
+    list-room : length (listArea w) ≡ 200000
+    list-room = list-long w (l .2)
 
     placed : Placed d u (listArea w) (spasArea w) v
-    unfolding spasPart
     placed =
         let n : length (spasArea w) ≡ 94000 = simp (length-take, length-drop) (omega (arith, l .2)) in
-        record { coord-room = omega (arith, list-long, rooms .coord-room); spas-room = omega (arith, rooms .spas-room); spas-long = rooms .spas-long }
+        record { coord-room = omega (arith, list-room, rooms .coord-room); spas-room = omega (arith, rooms .spas-room); spas-long = rooms .spas-long }
 
     listed : Listed d u (listArea w) v m
-    listed = record { old = l .0; new = l .1; short = omega (arith, list-long); attr-room = omega (arith, list-long, rooms .attr-room); attr-is = k .attr-is }
+    listed = record { old = l .0; new = l .1; short = omega (arith, list-room); attr-room = omega (arith, list-room, rooms .attr-room); attr-is = k .attr-is }
 
     pub version-room : at + writtenLength (writtenFields r) ≤ length out
         → (Indexed d u (inasArea w) v m × Placed d u (listArea w) (spasArea w) v × Listed d u (listArea w) v m)
         × ((total v m .fields ≤ 16777216) × (total v m .bytes ≤ 281474993487872) × (at + 25 + 14 * (total v m .fields) + (total v m .bytes) ≤ length out))
     version-room q = (
-      (indexed, placed, listed),
+      (held-indexed d u w v l r h m k, placed, listed),
       (summed .few, summed .small, omega (arith, q, length-is (writtenFields r) (total v m) summed)),
     )
 
     pub version-written : (n : ℕ) (o : List ℕ)
         → ((f : Forest) → its d u (listArea w) 0 (v .attr) ≡ flat 0 f
-        → Summed (fieldsOf d u (inasArea w) v (treeBytes f) (part 0 (8 * v .coord) (listArea w)) (joined (bodiesOf d u (spasArea w) (v .spas)))) (total v m)
-        → (n ≡ at + writtenLength (fieldsOf d u (inasArea w) v (treeBytes f) (part 0 (8 * v .coord) (listArea w)) (joined (bodiesOf d u (spasArea w) (v .spas)))))
-        × Wrote at (emit fieldWidth fieldWidth false (fieldsOf d u (inasArea w) v (treeBytes f) (part 0 (8 * v .coord) (listArea w)) (joined (bodiesOf d u (spasArea w) (v .spas))))) out n o)
+        → Summed (versionFields d u (inasArea w) v (treeBytes f) (part 0 (8 * v .coord) (listArea w)) (joined (bodiesOf d u (spasArea w) (v .spas)))) (total v m)
+        → (n ≡ at + writtenLength (versionFields d u (inasArea w) v (treeBytes f) (part 0 (8 * v .coord) (listArea w)) (joined (bodiesOf d u (spasArea w) (v .spas)))))
+        × Wrote at (emit fieldWidth fieldWidth false (versionFields d u (inasArea w) v (treeBytes f) (part 0 (8 * v .coord) (listArea w)) (joined (bodiesOf d u (spasArea w) (v .spas))))) out n o)
         → (n ≡ at + writtenLength (writtenFields r)) × Wrote at (emit fieldWidth fieldWidth false (writtenFields r)) out n o
     version-written n o q =
         let z = q (r .parts .attributes) (h .parts .attributes) (subst (λ (fs : List Field). Summed fs (total v m)) same-fields summed) in

@@ -25,7 +25,7 @@ use Rattle.version.specs.declared.Version.{Version}
 use Rattle.writing.specs.Parts.{entryBytes}
 use Rattle.writing.proofs.PartsLaws.{wrote-as}
 use Rattle.emission.specs.Bodies.{joined, inasFields}
-use Rattle.emission.specs.Fields.{identPart, foidPart, lastOf, fieldsOf, listSize, listCount, identSize, foidSize, lastSize, lastCount, total, ListEntry, Few, Indexed, Placed, Listed}
+use Rattle.emission.specs.Fields.{identPart, foidPart, lastFields, versionFields, listSize, listCount, identSize, foidSize, lastSize, lastCount, total, ListEntry, Few, Indexed, Placed, Listed}
 use Rattle.emission.specs.declared.measuring.Sizes.{Sizes}
 use Rattle.emission.proofs.ListLaws.{sizes-append, sizes-list, field-none, contents-then, entries-then}
 use Rattle.emission.proofs.IdentLaws.{length-ident}
@@ -95,8 +95,8 @@ module _ (d u list inas spas : List ℕ) (v : Version) (at : ℕ) (out : List �
       last-spas = (g .0 .2 .spas-room, g .0 .2 .spas-long, omega (arith, last-all, first-next, wrote-length w₁, w₂ .0, wrote-length (w₂ .1 0)))
 
       pub last-written : (p₃ : ℕ) (o₃ : List ℕ) → Wrote p₂ (contents (listField SPAS (joined (bodiesOf d u spas (v .spas))))) o₂ p₃ o₃
-          → Wrote at (contents (lastOf d u inas v (part 0 (8 * v .coord) list) (joined (bodiesOf d u spas (v .spas))))) out p₃ o₃
-      unfolding lastOf
+          → Wrote at (contents (lastFields d u inas v (part 0 (8 * v .coord) list) (joined (bodiesOf d u spas (v .spas))))) out p₃ o₃
+      unfolding lastFields
       last-written p₃ o₃ w₃ = contents-then _ _ w₃ (contents-then _ _ (w₂ .1 (coordTag (v .kind))) w₁)
 
 -- ---- `put_contents`
@@ -135,9 +135,9 @@ module _ (d u list inas spas : List ℕ) (v : Version) (m : Sizes) (at : ℕ) (o
           omega (arith, contents-all, w₁ .0, wrote-length (w₁ .1), foid-next, wrote-length w₂, w₃ .0, l, ap (lastSize v) (g .0 .0 .inas-is)),
         )
 
-        pub contents-written : (c s : List ℕ) (p₄ : ℕ) (o₄ : List ℕ) → Wrote p₃ (contents (lastOf d u inas v c s)) o₃ p₄ o₄
-            → (f : Forest) → its d u list 0 (v .attr) ≡ flat 0 f → Wrote at (contents (fieldsOf d u inas v (treeBytes f) c s)) out p₄ o₄
-        unfolding fieldsOf
+        pub contents-written : (c s : List ℕ) (p₄ : ℕ) (o₄ : List ℕ) → Wrote p₃ (contents (lastFields d u inas v c s)) o₃ p₄ o₄
+            → (f : Forest) → its d u list 0 (v .attr) ≡ flat 0 f → Wrote at (contents (versionFields d u inas v (treeBytes f) c s)) out p₄ o₄
+        unfolding versionFields
         contents-written c s p₄ o₄ w₄ f h = contents-then _ _ w₄ (contents-then _ _ (w₃ .1 f h) (contents-then _ _ w₂ (w₁ .1)))
 
 -- ---- `put_last_entries`
@@ -167,8 +167,8 @@ module _ (d u inas : List ℕ) (v : Version) (m : Sizes) (at pos : ℕ) (out : L
         entries-next = omega (arith, w₁ .0, w₂ .next, w₃ .next)
 
         entries-fields : (c s : List ℕ) → length c ≡ 8 * v .coord → length s ≡ 15 * v .spas
-            → Wrote at (entries fieldWidth fieldWidth pos (lastOf d u inas v c s)) out p₃ o₃
-        unfolding lastOf
+            → Wrote at (entries fieldWidth fieldWidth pos (lastFields d u inas v c s)) out p₃ o₃
+        unfolding lastFields
         entries-fields c s ec es =
             let i = inasFields (bodiesOf d u inas (v .inas)) in
             let f = listField (coordTag (v .kind)) c in
@@ -178,7 +178,7 @@ module _ (d u inas : List ℕ) (v : Version) (m : Sizes) (at pos : ℕ) (out : L
             (entries-then pos (pos + m .inas) i f (omega (arith, g .0 .inas-is)) q (w₁ .1))
 
         pub entries-last : (p₃ ≡ at + 14 * lastCount v)
-            × ((c s : List ℕ) → length c ≡ 8 * v .coord → length s ≡ 15 * v .spas → Wrote at (entries fieldWidth fieldWidth pos (lastOf d u inas v c s)) out p₃ o₃)
+            × ((c s : List ℕ) → length c ≡ 8 * v .coord → length s ≡ 15 * v .spas → Wrote at (entries fieldWidth fieldWidth pos (lastFields d u inas v c s)) out p₃ o₃)
         entries-last = (entries-next, entries-fields)
 
 -- ---- `put_directory`
@@ -224,14 +224,14 @@ module _ (d u inas : List ℕ) (v : Version) (m : Sizes) (at : ℕ) (out : List 
         module _ (p₄ : ℕ) (o₄ : List ℕ)
             (w₄ : (p₄ ≡ p₃ + 14 * lastCount v)
             × ((c s : List ℕ) → length c ≡ 8 * v .coord → length s ≡ 15 * v .spas
-            → Wrote p₃ (entries fieldWidth fieldWidth (i + 1 + a + b) (lastOf d u inas v c s)) o₃ p₄ o₄)) where
+            → Wrote p₃ (entries fieldWidth fieldWidth (i + 1 + a + b) (lastFields d u inas v c s)) o₃ p₄ o₄)) where
           index-next : p₄ ≡ at + 14 * (total v m .fields)
           unfolding total
           index-next = omega (arith, w₁ .0, ap listCount (en .0), w₂ .next, w₃ .next, w₄ .0)
 
           index-fields : (t c s : List ℕ) → length t ≡ m .attr → length c ≡ 8 * v .coord → length s ≡ 15 * v .spas
-              → Wrote at (entries fieldWidth fieldWidth 0 (fieldsOf d u inas v t c s)) out p₄ o₄
-          unfolding fieldsOf sizes
+              → Wrote at (entries fieldWidth fieldWidth 0 (versionFields d u inas v t c s)) out p₄ o₄
+          unfolding versionFields sizes
           index-fields t c s lt lc ls =
               let x : List Field = fieldAs (tagOf (v .kind)) (identPart v) ∷ [] in
               let y = listField FOID (foidPart d u v) in
@@ -240,11 +240,11 @@ module _ (d u inas : List ℕ) (v : Version) (m : Sizes) (at : ℕ) (out : List 
               let ly : length (foidPart d u v) ≡ n = g .0 .foid-long ∙ sym (en .0) in
               let sy : sizes y ≡ a = sizes-list FOID (foidPart d u v) ∙ ap listSize ly ∙ sym (ea .0) in
               let sz : sizes z ≡ b = sizes-list ATTR t ∙ ap listSize lt ∙ sym (eb .0) in
-              entries-then 0 (i + 1 + a + b) (x ++ y ++ z) (lastOf d u inas v c s) (omega (arith, sizes-append (x ++ y) z, sizes-append x y)) (w₄ .1 c s lc ls)
+              entries-then 0 (i + 1 + a + b) (x ++ y ++ z) (lastFields d u inas v c s) (omega (arith, sizes-append (x ++ y) z, sizes-append x y)) (w₄ .1 c s lc ls)
               (entries-then 0 (i + 1 + a) (x ++ y) z (omega (arith, sizes-append x y)) (w₃ .is t lt)
               (entries-then 0 (i + 1) x y (omega arith) (w₂ .is (foidPart d u v) ly) first-entry))
 
           pub index-written : (p₄ ≡ at + 14 * (total v m .fields))
               × ((t c s : List ℕ) → length t ≡ m .attr → length c ≡ 8 * v .coord → length s ≡ 15 * v .spas
-              → Wrote at (entries fieldWidth fieldWidth 0 (fieldsOf d u inas v t c s)) out p₄ o₄)
+              → Wrote at (entries fieldWidth fieldWidth 0 (versionFields d u inas v t c s)) out p₄ o₄)
           index-written = (index-next, index-fields)

@@ -3,7 +3,7 @@ use Prim.Native.Nat.{ℕ, _+_, _*_, _≤_, _<_}
 use mathlib.Core.Path.{_≡_}
 use mathlib.Core.Bool.{Bool, true, false}
 use mathlib.Core.List.{List, [], _∷_, _++_}
-use lib.ListN.{length, take}
+use lib.ListN.{length}
 use lib.Dec.{eqb}
 use Rattle.base.specs.Choice.{pick}
 use Rattle.memory.specs.Digits.{littleEndian}
@@ -43,36 +43,13 @@ identPart v =
 unfoldable pub foidPart : List ℕ → List ℕ → Version → List ℕ
 foidPart d u v = joined (foidBodies d u v)
 
--- the coordinates
-unfoldable pub coordPart : List ℕ → Version → List ℕ
-coordPart w v = take (8 * v .coord) (listArea w)
-
--- the spatial associations
-unfoldable pub spasPart : List ℕ → List ℕ → List ℕ → Version → List ℕ
-spasPart d u w v = joined (bodiesOf d u (spasArea w) (v .spas))
-
--- the associations with information types
-unfoldable pub inasPart : List ℕ → List ℕ → List ℕ → Version → List Field
-inasPart d u w v = inasFields (bodiesOf d u (inasArea w) (v .inas))
-
--- what follows the attributes
-unfoldable pub lastFields : List ℕ → List ℕ → List ℕ → Version → List Field
-lastFields d u w v = inasPart d u w v ++ listField (coordTag (v .kind)) (coordPart w v) ++ listField SPAS (spasPart d u w v)
+-- what follows the attributes, from the cells of the INAS fields, and the bodies c of the coordinates, s of the spatial associations
+unfoldable pub lastFields : List ℕ → List ℕ → List ℕ → Version → List ℕ → List ℕ → List Field
+lastFields d u inas v c s = inasFields (bodiesOf d u inas (v .inas)) ++ listField (coordTag (v .kind)) c ++ listField SPAS s
 
 -- all fields, where t is the body of the attributes
-unfoldable pub versionFields : List ℕ → List ℕ → List ℕ → Version → List ℕ → List Field
-versionFields d u w v t =
-    (fieldAs (tagOf (v .kind)) (identPart v) ∷ []) ++ listField FOID (foidPart d u v) ++ listField ATTR t ++ lastFields d u w v
-
--- ---- the same fields from the cells of the INAS fields, and the bodies t of the attributes, c of the coordinates, s of the spatial associations
-
--- what follows the attributes
-unfoldable pub lastOf : List ℕ → List ℕ → List ℕ → Version → List ℕ → List ℕ → List Field
-lastOf d u inas v c s = inasFields (bodiesOf d u inas (v .inas)) ++ listField (coordTag (v .kind)) c ++ listField SPAS s
-
--- all fields
-unfoldable pub fieldsOf : List ℕ → List ℕ → List ℕ → Version → List ℕ → List ℕ → List ℕ → List Field
-fieldsOf d u inas v t c s = (fieldAs (tagOf (v .kind)) (identPart v) ∷ []) ++ listField FOID (foidPart d u v) ++ listField ATTR t ++ lastOf d u inas v c s
+unfoldable pub versionFields : List ℕ → List ℕ → List ℕ → Version → List ℕ → List ℕ → List ℕ → List Field
+versionFields d u inas v t c s = (fieldAs (tagOf (v .kind)) (identPart v) ∷ []) ++ listField FOID (foidPart d u v) ++ listField ATTR t ++ lastFields d u inas v c s
 
 -- ---- their sizes
 
@@ -126,7 +103,7 @@ pub record Rooms (d u w : List ℕ) (v : Version) : Type 0 where
   pub coord-room : 8 * v .coord ≤ 200000
   pub spas-room : 7 * v .spas ≤ 94000
   pub foid-long : length (foidPart d u v) ≡ foidSize (v .foids)
-  pub spas-long : length (spasPart d u w v) ≡ 15 * v .spas
+  pub spas-long : length (joined (bodiesOf d u (spasArea w) (v .spas))) ≡ 15 * v .spas
 
 -- so few that all sizes are words
 pub record Few (v : Version) : Type 0 where
@@ -137,7 +114,7 @@ pub record Few (v : Version) : Type 0 where
 -- m is the bytes of the attributes' tuples, and those of the INAS fields, the 1E of each included
 pub record Measured (d u w : List ℕ) (v : Version) (m : Sizes) : Type 0 where
   pub attr-is : Sized d u (listArea w) (v .attr) (m .attr)
-  pub inas-is : m .inas ≡ sizes (inasPart d u w v)
+  pub inas-is : m .inas ≡ sizes (inasFields (bodiesOf d u (inasArea w) (v .inas)))
   pub inas-small : m .inas ≤ 220500000000
 
 -- what the directory stands on
@@ -174,5 +151,5 @@ Writable d u list inas spas v m at room =
 abbrev pub Recorded : List ℕ → List ℕ → List ℕ → List ℕ → List ℕ → Version → Sizes → ℕ → List ℕ → ℕ → List ℕ → Type 0
 Recorded d u list inas spas v m at o n e =
     (f : Forest) → its d u list 0 (v .attr) ≡ flat 0 f
-    → let fs = fieldsOf d u inas v (treeBytes f) (part 0 (8 * v .coord) list) (joined (bodiesOf d u spas (v .spas))) in
+    → let fs = versionFields d u inas v (treeBytes f) (part 0 (8 * v .coord) list) (joined (bodiesOf d u spas (v .spas))) in
     Summed fs (total v m) → (n ≡ at + writtenLength fs) × Wrote at (emit fieldWidth fieldWidth false fs) o n e

@@ -16,7 +16,7 @@ ghost use lib.ListN.{length};
 ghost use Rattle.memory.specs.Wrote.{Wrote};
 ghost use Rattle.skeleton.specs.Emit.{entries};
 ghost use Rattle.rules.specs.Written.{fieldWidth};
-ghost use Rattle.emission.specs.Fields.{lastOf, fieldsOf, lastCount, total, Indexed};
+ghost use Rattle.emission.specs.Fields.{lastFields, versionFields, lastCount, total, Indexed};
 
 // The entries of what follows the attributes: the INAS fields, of which the cells are in `inas`, the coordinates and the spatial associations.
 fn put_last_entries(
@@ -31,7 +31,7 @@ fn put_last_entries(
 ) -> usize
     requires { ⌜ Indexed (now d) (now u) (now inas) v m ⌝ }
     requires { ⌜ (pos ≤ 281474976710656) × (at + 14 * lastCount v ≤ length (now out)) ⌝ }
-    ensures { λ p. ⌜ (p ≡ at + 14 * lastCount v) × ((c s : List ℕ) → length c ≡ 8 * v .coord → length s ≡ 15 * v .spas → Wrote at (entries fieldWidth fieldWidth pos (lastOf (now (d .entry)) (now (u .entry)) (now (inas .entry)) v c s)) (now (out .entry)) p (now (out .exit))) ⌝ }
+    ensures { λ p. ⌜ (p ≡ at + 14 * lastCount v) × ((c s : List ℕ) → length c ≡ 8 * v .coord → length s ≡ 15 * v .spas → Wrote at (entries fieldWidth fieldWidth pos (lastFields (now (d .entry)) (now (u .entry)) (now (inas .entry)) v c s)) (now (out .entry)) p (now (out .exit))) ⌝ }
 {
     let kind = v.kind;
     let p1 = put_inas_entries(d, u, inas, v.inas, out, at, pos);
@@ -53,7 +53,7 @@ pub fn put_directory(
     at: usize,
 ) -> usize
     requires { ⌜ Indexed (now d) (now u) (now inas) v m × (at + 14 * (total v m .fields) ≤ length (now out)) ⌝ }
-    ensures { λ p. ⌜ (p ≡ at + 14 * (total v m .fields)) × ((t c s : List ℕ) → length t ≡ m .attr → length c ≡ 8 * v .coord → length s ≡ 15 * v .spas → Wrote at (entries fieldWidth fieldWidth 0 (fieldsOf (now (d .entry)) (now (u .entry)) (now (inas .entry)) v t c s)) (now (out .entry)) p (now (out .exit))) ⌝ }
+    ensures { λ p. ⌜ (p ≡ at + 14 * (total v m .fields)) × ((t c s : List ℕ) → length t ≡ m .attr → length c ≡ 8 * v .coord → length s ≡ 15 * v .spas → Wrote at (entries fieldWidth fieldWidth 0 (versionFields (now (d .entry)) (now (u .entry)) (now (inas .entry)) v t c s)) (now (out .entry)) p (now (out .exit))) ⌝ }
 {
     let kind = v.kind;
     let pos1 = ident_size(kind) + 1;

@@ -28,7 +28,7 @@ ghost use Rattle.cells.specs.Cells.{bodiesOf};
 ghost use Rattle.version.specs.Areas.{inasArea, spasArea};
 ghost use Rattle.version.specs.Held.{Held};
 ghost use Rattle.emission.specs.Bodies.{joined, inasFields};
-ghost use Rattle.emission.specs.Fields.{foidPart, lastOf, fieldsOf, foidSize, listSize, lastSize, total, Few, Indexed, Placed, Listed, Writable, Recorded};
+ghost use Rattle.emission.specs.Fields.{foidPart, lastFields, versionFields, foidSize, listSize, lastSize, total, Few, Indexed, Placed, Listed, Writable, Recorded};
 
 // The FOID, if there is one, and its 1E.
 fn put_foid(d: &[u8], u: &[u8], v: Version, out: &mut [u8], at: usize) -> usize
@@ -57,7 +57,7 @@ fn put_last(
 ) -> usize
     requires { ⌜ Few v × (7 * v .inas ≤ length (now inas)) × Placed (now d) (now u) (now list) (now spas) v ⌝ }
     requires { ⌜ at + lastSize v (sizes (inasFields (bodiesOf (now d) (now u) (now inas) (v .inas)))) ≤ length (now out) ⌝ }
-    ensures { λ p. ⌜ Wrote at (contents (lastOf (now (d .entry)) (now (u .entry)) (now (inas .entry)) v (part 0 (8 * v .coord) (now (list .entry))) (joined (bodiesOf (now (d .entry)) (now (u .entry)) (now (spas .entry)) (v .spas))))) (now (out .entry)) p (now (out .exit)) ⌝ }
+    ensures { λ p. ⌜ Wrote at (contents (lastFields (now (d .entry)) (now (u .entry)) (now (inas .entry)) v (part 0 (8 * v .coord) (now (list .entry))) (joined (bodiesOf (now (d .entry)) (now (u .entry)) (now (spas .entry)) (v .spas))))) (now (out .entry)) p (now (out .exit)) ⌝ }
 {
     let p1 = put_inas_fields(d, u, inas, v.inas, out, at);
     let p2 = put_list(list, 0, 8 * v.coord, out, p1);
@@ -78,7 +78,7 @@ fn put_contents(
 ) -> usize
     requires { ⌜ Indexed (now d) (now u) (now inas) v m × Placed (now d) (now u) (now list) (now spas) v × Listed (now d) (now u) (now list) v m ⌝ }
     requires { ⌜ at + total v m .bytes ≤ length (now out) ⌝ }
-    ensures { λ p. ⌜ ((f : Forest) → its (now (d .entry)) (now (u .entry)) (now (list .entry)) 0 (v .attr) ≡ flat 0 f → Wrote at (contents (fieldsOf (now (d .entry)) (now (u .entry)) (now (inas .entry)) v (treeBytes f) (part 0 (8 * v .coord) (now (list .entry))) (joined (bodiesOf (now (d .entry)) (now (u .entry)) (now (spas .entry)) (v .spas))))) (now (out .entry)) p (now (out .exit))) ⌝ }
+    ensures { λ p. ⌜ ((f : Forest) → its (now (d .entry)) (now (u .entry)) (now (list .entry)) 0 (v .attr) ≡ flat 0 f → Wrote at (contents (versionFields (now (d .entry)) (now (u .entry)) (now (inas .entry)) v (treeBytes f) (part 0 (8 * v .coord) (now (list .entry))) (joined (bodiesOf (now (d .entry)) (now (u .entry)) (now (spas .entry)) (v .spas))))) (now (out .entry)) p (now (out .exit))) ⌝ }
 {
     let p1 = put_first(v, out, at);
     let p2 = put_foid(d, u, v, out, p1);
