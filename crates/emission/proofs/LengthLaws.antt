@@ -3,7 +3,7 @@ use Prim.Native.Nat.{ℕ, _*_, _≤_}
 use mathlib.Core.Path.{_≡_, sym}
 use mathlib.Core.List.{List}
 use native.Mathlib.Omega.{arith}
-use lib.ListN.{length, length-take, length-drop}
+use lib.ListN.{length}
 use Rattle.memory.specs.Put.{part}
 use Rattle.memory.proofs.PutLaws.{length-part}
 use Rattle.fields.specs.Valid.{Bytes}
@@ -13,6 +13,7 @@ use Rattle.cells.specs.Cells.{bodiesOf}
 use Rattle.version.specs.Areas.{listArea, inasArea, spasArea}
 use Rattle.version.specs.Held.{Held}
 use Rattle.version.specs.declared.Version.{Version}
+use Rattle.version.proofs.AreaLaws.{list-long, inas-long}
 use Rattle.writing.specs.Found.{Summed}
 use Rattle.writing.specs.declared.measuring.Sum.{Sum}
 use Rattle.emission.specs.Bodies.{joined}
@@ -20,10 +21,6 @@ use Rattle.emission.specs.Fields.{total, Rooms, Few, Measured, Indexed}
 use Rattle.emission.specs.declared.measuring.Sizes.{Sizes}
 use Rattle.emission.proofs.FieldsLaws.{version-summed}
 use Rattle.emission.proofs.HeldLaws.{held-rooms, held-fields}
-
--- the area of the attributes, or of the coordinates, is whole
-pub list-long : (w : List ℕ) → 400000 ≤ length w → length (listArea w) ≡ 200000
-list-long w l = simp (length-take, length-drop) (omega (arith, l))
 
 module _ (d u w : List ℕ) (v : Version) (l : (length d ≤ 16777216) × (length u ≤ 16777216) × (400000 ≤ length w)) (r : Rec) (h : Held d u w v r)
     (m : Sizes) (k : Measured d u w v m) where
@@ -33,7 +30,7 @@ module _ (d u w : List ℕ) (v : Version) (l : (length d ≤ 16777216) × (lengt
   -- what the directory stands on
   pub held-indexed : Indexed d u (inasArea w) v m
   held-indexed =
-      let n : length (inasArea w) ≡ 92000 = simp (length-take, length-drop) (omega (arith, l .2)) in
+      let n : length (inasArea w) ≡ 92000 = inas-long w (l .2) in
       record {
         few = record { inas = omega (arith, rooms .inas-room); coord = omega (arith, rooms .coord-room); spas = omega (arith, rooms .spas-room) };
         foid-long = rooms .foid-long;

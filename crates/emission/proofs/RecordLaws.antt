@@ -4,7 +4,7 @@ use mathlib.Core.Path.{_≡_, refl, sym, ap, _∙_, subst}
 use mathlib.Core.Bool.{false}
 use mathlib.Core.List.{List, [], _∷_}
 use native.Mathlib.Omega.{arith}
-use lib.ListN.{length, length-take, length-drop}
+use lib.ListN.{length}
 use Rattle.memory.specs.Put.{part}
 use Rattle.memory.specs.Wrote.{Wrote}
 use Rattle.memory.proofs.PutLaws.{length-part}
@@ -21,15 +21,16 @@ use Rattle.cells.specs.Cells.{bodiesOf}
 use Rattle.version.specs.Areas.{listArea, inasArea, spasArea}
 use Rattle.version.specs.Held.{Held}
 use Rattle.version.specs.declared.Version.{Version}
+use Rattle.version.proofs.AreaLaws.{list-long, spas-long}
 use Rattle.writing.specs.Found.{Summed}
 use Rattle.writing.specs.declared.measuring.Sum.{Sum}
 use Rattle.writing.proofs.MeasuringLaws.{length-is}
 use Rattle.writing.proofs.WriterLaws.{wrote-record}
 use Rattle.emission.specs.Bodies.{joined}
-use Rattle.emission.specs.Fields.{versionFields, total, Rooms, Few, Measured, Indexed, Placed, Listed}
+use Rattle.emission.specs.Fields.{versionFields, total, Rooms, Few, Measured, Indexed, Placed, Listed, Writable, Recorded}
 use Rattle.emission.specs.declared.measuring.Sizes.{Sizes}
 use Rattle.emission.proofs.HeldLaws.{held-rooms, held-fields}
-use Rattle.emission.proofs.LengthLaws.{list-long, held-indexed, held-summed}
+use Rattle.emission.proofs.LengthLaws.{held-indexed, held-summed}
 
 -- ---- `put_record`
 
@@ -89,42 +90,51 @@ module _ (d u list inas spas : List ℕ) (v : Version) (m : Sizes) (at : ℕ) (o
 
 module _ (d u w : List ℕ) (v : Version) (l : (length d ≤ 16777216) × (length u ≤ 16777216) × (400000 ≤ length w)) (b : Bytes w) (m : Sizes) (k : Measured d u w v m)
     (at : ℕ) (out : List ℕ) where
-  module _ (r : Rec) (h : Held d u w v r) where
+  module _ (r : Rec) (h : Held d u w v r) (list inas spas : List ℕ) (el : list ≡ listArea w) (ei : inas ≡ inasArea w) (es : spas ≡ spasArea w) where
     rooms : Rooms d u w v
     rooms = held-rooms d u w v l r h
 
+    -- the fields from the areas
     same-fields : writtenFields r
-        ≡ versionFields d u (inasArea w) v (treeBytes (r .parts .attributes)) (part 0 (8 * v .coord) (listArea w)) (joined (bodiesOf d u (spasArea w) (v .spas)))
-    same-fields = held-fields d u w v b (l .2) r h
+        ≡ versionFields d u inas v (treeBytes (r .parts .attributes)) (part 0 (8 * v .coord) list) (joined (bodiesOf d u spas (v .spas)))
+    same-fields = rw (el, ei, es) (held-fields d u w v b (l .2) r h)
 
     summed : Summed (writtenFields r) (total v m)
     summed = held-summed d u w v l r h m k b (total v m) refl
 
-    list-room : length (listArea w) ≡ 200000
-    list-room = list-long w (l .2)
+    indexed : Indexed d u inas v m
+    indexed = rw ei (held-indexed d u w v l r h m k)
 
-    placed : Placed d u (listArea w) (spasArea w) v
+    list-room : length list ≡ 200000
+    list-room = ap length el ∙ list-long w (l .2)
+
+    placed : Placed d u list spas v
     placed =
-        let n : length (spasArea w) ≡ 94000 = simp (length-take, length-drop) (omega (arith, l .2)) in
-        record { coord-room = omega (arith, list-room, rooms .coord-room); spas-room = omega (arith, rooms .spas-room); spas-long = rooms .spas-long }
+        let n : length spas ≡ 94000 = ap length es ∙ spas-long w (l .2) in
+        record {
+          coord-room = omega (arith, list-room, rooms .coord-room);
+          spas-room = omega (arith, rooms .spas-room);
+          spas-long = rw es (rooms .spas-long);
+        }
 
-    listed : Listed d u (listArea w) v m
-    listed = record { old = l .0; new = l .1; short = omega (arith, list-room); attr-room = omega (arith, list-room, rooms .attr-room); attr-is = k .attr-is }
+    listed : Listed d u list v m
+    listed =
+        record {
+          old = l .0;
+          new = l .1;
+          short = omega (arith, list-room);
+          attr-room = omega (arith, list-room, rooms .attr-room);
+          attr-is = rw el (k .attr-is);
+        }
 
-    pub version-room : at + writtenLength (writtenFields r) ≤ length out
-        → (Indexed d u (inasArea w) v m × Placed d u (listArea w) (spasArea w) v × Listed d u (listArea w) v m)
-        × ((total v m .fields ≤ 16777216) × (total v m .bytes ≤ 281474993487872) × (at + 25 + 14 * (total v m .fields) + (total v m .bytes) ≤ length out))
+    pub version-room : at + writtenLength (writtenFields r) ≤ length out → Writable d u list inas spas v m at (length out)
     version-room q = (
-      (held-indexed d u w v l r h m k, placed, listed),
+      (indexed, placed, listed),
       (summed .few, summed .small, omega (arith, q, length-is (writtenFields r) (total v m) summed)),
     )
 
-    pub version-written : (n : ℕ) (o : List ℕ)
-        → ((f : Forest) → its d u (listArea w) 0 (v .attr) ≡ flat 0 f
-        → Summed (versionFields d u (inasArea w) v (treeBytes f) (part 0 (8 * v .coord) (listArea w)) (joined (bodiesOf d u (spasArea w) (v .spas)))) (total v m)
-        → (n ≡ at + writtenLength (versionFields d u (inasArea w) v (treeBytes f) (part 0 (8 * v .coord) (listArea w)) (joined (bodiesOf d u (spasArea w) (v .spas)))))
-        × Wrote at (emit fieldWidth fieldWidth false (versionFields d u (inasArea w) v (treeBytes f) (part 0 (8 * v .coord) (listArea w)) (joined (bodiesOf d u (spasArea w) (v .spas))))) out n o)
+    pub version-written : (n : ℕ) (o : List ℕ) → Recorded d u list inas spas v m at out n o
         → (n ≡ at + writtenLength (writtenFields r)) × Wrote at (emit fieldWidth fieldWidth false (writtenFields r)) out n o
     version-written n o q =
-        let z = q (r .parts .attributes) (h .parts .attributes) (subst (λ (fs : List Field). Summed fs (total v m)) same-fields summed) in
+        let z = q (r .parts .attributes) (rw el (h .parts .attributes)) (subst (λ (fs : List Field). Summed fs (total v m)) same-fields summed) in
         subst (λ (fs : List Field). (n ≡ at + writtenLength fs) × Wrote at (emit fieldWidth fieldWidth false fs) out n o) (sym same-fields) z

@@ -4,6 +4,8 @@ use crate::identifier::ident_size;
 use crate::lists::list_count;
 use crate::lists::list_size;
 use version::Version;
+use version::areas::inas_of;
+use version::areas::list_of;
 use writing::measuring::Sum;
 ghost use mathlib.Core.Path.{_≡_};
 ghost use Prim.Native.Nat.{_≤_, _+_, _*_};
@@ -34,8 +36,8 @@ pub fn measure(d: &[u8], u: &[u8], work: &[u8], v: Version) -> Sizes
     requires { ⌜ Rooms (now d) (now u) (now work) v ⌝ }
     ensures { λ m. ⌜ Measured (now (d .entry)) (now (u .entry)) (now (work .entry)) v m ⌝ }
 {
-    let attr = numbering::size(d, u, &work[0..200000], v.attr);
-    let inas = inas_size(d, u, &work[200000..292000], v.inas);
+    let attr = numbering::size(d, u, list_of(work), v.attr);
+    let inas = inas_size(d, u, inas_of(work), v.inas);
     Sizes { attr, inas }
 }
 

@@ -10,6 +10,9 @@ use crate::measuring::measure;
 use crate::measuring::sum_up;
 use memory::writing::put_byte;
 use version::Version;
+use version::areas::inas_of;
+use version::areas::list_of;
+use version::areas::spas_of;
 use writing::parts::put_leader;
 ghost use mathlib.Core.Path.{_≡_};
 ghost use mathlib.Core.Bool.{false};
@@ -25,7 +28,6 @@ ghost use Rattle.rules.specs.Record.{Rec};
 ghost use Rattle.rules.specs.Written.{fieldWidth, listField, treeBytes, writtenFields, writtenLength};
 ghost use Rattle.items.specs.Items.{its};
 ghost use Rattle.cells.specs.Cells.{bodiesOf};
-ghost use Rattle.version.specs.Areas.{inasArea, spasArea};
 ghost use Rattle.version.specs.Held.{Held};
 ghost use Rattle.emission.specs.Bodies.{joined, inasFields};
 ghost use Rattle.emission.specs.Fields.{foidPart, lastFields, versionFields, foidSize, listSize, lastSize, total, Few, Indexed, Placed, Listed, Writable, Recorded};
@@ -109,43 +111,6 @@ fn put_record(
     put_contents(d, u, list, inas, spas, v, m, out, p3)
 }
 
-// The same, where the spatial associations are in their area of the workspace.
-fn put_with_spatial(
-    d: &[u8],
-    u: &[u8],
-    list: &[u8],
-    inas: &[u8],
-    work: &[u8],
-    v: Version,
-    m: Sizes,
-    out: &mut [u8],
-    at: usize,
-) -> usize
-    requires { ⌜ 400000 ≤ length (now work) ⌝ }
-    requires { ⌜ Writable (now d) (now u) (now list) (now inas) (spasArea (now work)) v m at (length (now out)) ⌝ }
-    ensures { λ n. ⌜ (Recorded (now (d .entry)) (now (u .entry)) (now (list .entry)) (now (inas .entry)) (spasArea (now (work .entry))) v m at (now (out .entry)) n (now (out .exit))) ⌝ }
-{
-    put_record(d, u, list, inas, &work[292000..386000], v, m, out, at)
-}
-
-// The same, where those with information types are in theirs too.
-fn put_with_associations(
-    d: &[u8],
-    u: &[u8],
-    list: &[u8],
-    work: &[u8],
-    v: Version,
-    m: Sizes,
-    out: &mut [u8],
-    at: usize,
-) -> usize
-    requires { ⌜ 400000 ≤ length (now work) ⌝ }
-    requires { ⌜ Writable (now d) (now u) (now list) (inasArea (now work)) (spasArea (now work)) v m at (length (now out)) ⌝ }
-    ensures { λ n. ⌜ (Recorded (now (d .entry)) (now (u .entry)) (now (list .entry)) (inasArea (now (work .entry))) (spasArea (now (work .entry))) v m at (now (out .entry)) n (now (out .exit))) ⌝ }
-{
-    put_with_spatial(d, u, list, &work[200000..292000], work, v, m, out, at)
-}
-
 // The record that the workspace holds, written from `at` on; d the dataset, u the update.
 pub fn write_version(
     d: &[u8],
@@ -160,5 +125,15 @@ pub fn write_version(
     ensures { λ n. ⌜ ((r : Rec) → Held (now (d .entry)) (now (u .entry)) (now (work .entry)) v r → (n ≡ at + writtenLength (writtenFields r)) × Wrote at (emit fieldWidth fieldWidth false (writtenFields r)) (now (out .entry)) n (now (out .exit))) ⌝ }
 {
     let m = measure(d, u, work, v);
-    put_with_associations(d, u, &work[0..200000], work, v, m, out, at)
+    put_record(
+        d,
+        u,
+        list_of(work),
+        inas_of(work),
+        spas_of(work),
+        v,
+        m,
+        out,
+        at,
+    )
 }

@@ -1,11 +1,25 @@
--- A part of the workspace that was lent and has come back: it is as it was left, and the other areas are as they were. Assumes nothing.
+-- The areas of the workspace: how long they are; and a part that was lent and has come back is as it was left, the other areas as they were. Assumes nothing.
 use Prim.Native.Nat.{ℕ, _+_, _-_, _≤_}
 use mathlib.Core.Path.{_≡_, refl, sym, ap, _∙_}
 use mathlib.Core.List.{List, _++_, append-assoc}
 use native.Mathlib.Omega.{arith}
 use lib.ListN.{length, take, drop, length-take, length-drop, length-append, take-append-drop}
 use lib.Seq.{take-at, drop-at, drop-drop, take-append-le, drop-append-le, drop-append-add}
-use Rattle.version.specs.Areas.{area}
+use Rattle.version.specs.Areas.{area, listArea, inasArea, spasArea}
+
+-- ---- how long they are
+
+module _ (w : List ℕ) (wide : 400000 ≤ length w) where
+  pub list-long : length (listArea w) ≡ 200000
+  list-long = simp (length-take, length-drop) (omega arith)
+
+  pub inas-long : length (inasArea w) ≡ 92000
+  inas-long = simp (length-take, length-drop) (omega arith)
+
+  pub spas-long : length (spasArea w) ≡ 94000
+  spas-long = simp (length-take, length-drop) (omega arith)
+
+-- ---- a part that was lent
 
 -- w with ys in place of the k bytes from a on
 unfoldable pub lent : ℕ → ℕ → List ℕ → List ℕ → List ℕ

@@ -1,6 +1,8 @@
 // The present version of one record in the workspace.
 use rules::Kind;
 
+pub mod areas;
+
 // What is kept of a version by value: its identifier, where the eight bytes of its FOID stand, and how many items each area of the workspace holds.
 pub struct Version {
     pub kind: Kind,
