@@ -1,8 +1,8 @@
 -- Laws of the flags of keys. Assumes nothing.
-use mathlib.Core.Path.{_≡_, refl, sym, ap, _∙_}
+use mathlib.Core.Path.{_≡_, refl, sym, ap, _∙_, subst}
 use mathlib.Core.Bool.{Bool, true, false, true≢false}
 use mathlib.Core.List.{List, [], _∷_, _++_}
-use Prim.Native.Nat.{ℕ, _%_, _/_, _≤_, _<_}
+use Prim.Native.Nat.{ℕ, _/_, _≤_, _<_}
 use native.Mathlib.Omega.{arith}
 use borrow.Author.Tests.{eqb-true, eqb-false}
 use lib.ListN.{length, take, drop, length-take, length-drop}
@@ -12,10 +12,10 @@ use Rattle.keys.specs.Bits.{flagOf, raised}
 use Rattle.keys.specs.Listed.{listed}
 use Rattle.keys.proofs.BitLaws.{flag-same, flag-other, raised-long}
 use Rattle.keys.proofs.ListLaws.{listed-none, listed-more}
-use Rattle.version.specs.Areas.{flagArea}
+use Rattle.version.specs.Areas.{listArea, inasArea, spasArea, flagArea}
 use Rattle.version.specs.Present.{FlagsKept}
-use Rattle.version.proofs.AreaLaws.{lent, lent-same}
-use Rattle.history.specs.Flags.{keyFlag, Flags}
+use Rattle.version.proofs.AreaLaws.{lent, lent-same, lent-before}
+use Rattle.history.specs.Flags.{keyFlag, Flags, Marked}
 
 -- ---- which keys have raised flags
 
@@ -58,22 +58,32 @@ flags-more l t v k z f e j y = ap (λ (x : List ℕ). flagOf x (keyFlag j)) e �
 
 -- ---- their area
 
-module _ (w : List ℕ) (h : 400000 ≤ length w) where
-  pub area-long : length (flagArea w) ≡ 14000
-  area-long = simp (length-take, length-drop) (omega arith)
-
-  pub area-room : (key : ℕ) → key % 111997 / 8 < length (flagArea w)
-  area-room key = let l = area-long in omega arith
-
-  pub area-raised : (key : ℕ) (ys : List ℕ) → ys ≡ raised (flagArea w) (keyFlag key)
-      → flagArea (take 386000 w ++ (ys ++ drop 14000 (drop 386000 w))) ≡ raised (flagArea w) (keyFlag key)
-  unfolding lent
-  area-raised key ys e =
-      lent-same 386000 14000 ys w (ap length e ∙ raised-long (flagArea w) (keyFlag key) ∙ area-long) (omega arith) ∙ e
-
 -- a version leaves them alone
 pub flags-kept : (w v : List ℕ) → FlagsKept w v → flagArea v ≡ flagArea w
-flags-kept w v e = ap (take 14000) e
+flags-kept w v e = ap (λ (l : List ℕ). take 14000 l) e
+
+module _ (w : List ℕ) (h : 400000 ≤ length w) where
+  pub area-long : length (flagArea w) ≡ 14000
+  area-long = omega (arith, length-take 14000 (drop 386000 w), length-drop 386000 w)
+
+  pub area-marked : (key : ℕ) (v : List ℕ) → v ≡ take 386000 w ++ (raised (flagArea w) (keyFlag key) ++ drop 14000 (drop 386000 w)) → Marked w key v
+  area-marked key v e =
+      let ys : List ℕ = raised (flagArea w) (keyFlag key) in
+      let long : length ys ≡ 14000 = raised-long (flagArea w) (keyFlag key) ∙ area-long in
+      let back : v ≡ lent 386000 14000 ys w = unfold lent in e in
+      record {
+        flags = ap (λ (x : List ℕ). flagArea x) back ∙ lent-same 386000 14000 ys w long (omega arith);
+        list = ap (λ (x : List ℕ). listArea x) back ∙ lent-before 386000 14000 ys w long (omega arith) 0 200000 (omega arith);
+        inas = ap (λ (x : List ℕ). inasArea x) back ∙ lent-before 386000 14000 ys w long (omega arith) 200000 92000 (omega arith);
+        spas = ap (λ (x : List ℕ). spasArea x) back ∙ lent-before 386000 14000 ys w long (omega arith) 292000 94000 (omega arith);
+      }
+
+-- f is the flags of the workspace w
+pub flag-there : (w f : List ℕ) → 400000 ≤ length w → f ≡ flagArea w → (key : ℕ) → keyFlag key / 8 < length f
+flag-there w f h e key = subst (λ (l : List ℕ). keyFlag key / 8 < length l) (sym e) (let l = area-long w h in omega arith)
+
+pub flag-is : (w f : List ℕ) → f ≡ flagArea w → (j : ℕ) (b : Bool) → b ≡ flagOf f j → b ≡ flagOf (flagArea w) j
+flag-is w f e j b h = subst (λ (l : List ℕ). b ≡ flagOf l j) e h
 
 -- ---- `turns`
 
@@ -83,5 +93,3 @@ module _ (b c : Bool) (j : ℕ) (e : b ≡ c) where
 
   pub turns-none : b ≡ false → 0 ≡ pick c j 0
   turns-none x = rw (← e, x)
-
-pub ruleset flag-ways = (flags-none, area-room, area-raised, turns-all, turns-none, arith)

@@ -28,7 +28,7 @@ use Rattle.updates.specs.Streamed.{verdicts}
 use Rattle.updates.proofs.Acted.{lawful}
 use Rattle.stock.specs.Stock.{stockFrom}
 use Rattle.incoming.specs.Fitting.{Single, AllSingle, Rest}
-use Rattle.keys.specs.Bits.{flagOf, raised}
+use Rattle.keys.specs.Bits.{flagOf}
 use Rattle.keys.specs.Listed.{keyOf, keysFrom, listed}
 use Rattle.keys.specs.Look.{lookAt, Sound}
 use Rattle.keys.specs.Numbered.{numberOf, Ranged}
@@ -44,7 +44,7 @@ use Rattle.version.specs.declared.Present.{Present}
 use Rattle.version.specs.declared.Changed.{Changed}
 use Rattle.version.specs.declared.Changed.the-variants.{Refused, Now}
 use Rattle.history.specs.Here.{recordHere, namedIn}
-use Rattle.history.specs.Flags.{keyFlag, Flags}
+use Rattle.history.specs.Flags.{keyFlag, Flags, Marked}
 use Rattle.history.specs.Ready.{Short, Ready}
 use Rattle.history.specs.Played.{Acting, Acted, Latest}
 use Rattle.history.specs.Judged.{Reached, Names, Due, judgedBy, AllJudged}
@@ -228,7 +228,7 @@ module _ (d : List ℕ) (ds : ℕ) (u : List ℕ) (us q j : ℕ) (w : List ℕ) 
             }
 
         -- it is accepted, and its flag is raised
-        module _ (p : Present) (z : c ≡ Now p) (long : 400000 ≤ length v) (v2 : List ℕ) (g : flagArea v2 ≡ raised (flagArea v) (keyFlag key)) where
+        module _ (p : Present) (z : c ≡ Now p) (long : 400000 ≤ length v) (v2 : List ℕ) (g : Marked v key v2) where
           room : j < length ((recordsFrom u us) .items)
           room = omega (arith, ap length (t .reached .same ∙ here .split), length-drop j ((recordsFrom u us) .items))
 
@@ -255,7 +255,7 @@ module _ (d : List ℕ) (ds : ℕ) (u : List ℕ) (us q j : ℕ) (w : List ℕ) 
               = sym (keys-drop j ((recordsFrom u us) .items)) ∙ ap (each keyOf) (t .reached .same) ∙ here .keys in
               let f : Flags (take j (keysFrom u us)) (flagArea v) = subst (λ (x : List ℕ). Flags (take j (keysFrom u us)) x) (sym (flags-kept w v (b .kept))) (t .flags) in
               subst (λ (x : List ℕ). Flags x (flagArea v2)) (sym (split-take (keysFrom u us) j key (keysFrom u (q + len)) k))
-              (flags-more (take j (keysFrom u us)) (flagArea v) (flagArea v2) key (area-long v long) f g)
+              (flags-more (take j (keysFrom u us)) (flagArea v) (flagArea v2) key (area-long v long) f (g .flags))
 
           pub judging-next : Judging d ds u us (q + len) (j + 1) v2
           judging-next = record {

@@ -1,30 +1,54 @@
 // The flags of keys, in the last area of the workspace.
 use keys::bits::flag;
 use keys::bits::raise;
-use memory::clearing::zero;
+use memory::clearing::zero_part;
 ghost use mathlib.Core.Path.{_≡_};
-ghost use mathlib.Core.List.{[]};
-ghost use Prim.Native.Nat.{_≤_};
-ghost use lib.ListN.{length};
+ghost use mathlib.Core.List.{[], _++_};
+ghost use Prim.Native.Nat.{_-_, _≤_};
+ghost use lib.ListN.{length, take, drop};
 ghost use Rattle.base.specs.Choice.{pick};
 ghost use Rattle.keys.specs.Bits.{flagOf, raised};
 ghost use Rattle.version.specs.Areas.{flagArea};
-ghost use Rattle.history.specs.Flags.{keyFlag, Flags};
+ghost use Rattle.history.specs.Flags.{keyFlag, Flags, Marked};
+
+// The bytes from `from` to `to`. The ends are not numbers here, which a proof about a part of a slice would count.
+fn part(s: &[u8], from: usize, to: usize) -> &[u8]
+    requires { ⌜ (from ≤ to) × (to ≤ length (now s)) ⌝ }
+    ensures { λ r. ⌜ now r ≡ take (to - from) (drop from (now (s .entry))) ⌝ }
+{
+    &s[from..to]
+}
+
+// Raises flag i of those in the bytes from `from` to `to`, which are not numbers here either.
+fn raise_in(s: &mut [u8], from: usize, to: usize, i: usize)
+    requires { ⌜ (from ≤ to) × (to ≤ length (now s)) ⌝ }
+    ensures { λ _. ⌜ now (s .exit) ≡ take from (now (s .entry)) ++ (raised (take (to - from) (drop from (now (s .entry)))) i ++ drop (to - from) (drop from (now (s .entry)))) ⌝ }
+{
+    raise(&mut s[from..to], i);
+}
+
+// All of them. Lent here alone, so that the functions that hand them on need not speak of the area's ends.
+pub fn flags_of(work: &[u8]) -> &[u8]
+    requires { ⌜ 400000 ≤ length (now work) ⌝ }
+    ensures { λ r. ⌜ now r ≡ flagArea (now (work .entry)) ⌝ }
+{
+    part(work, 386000, 400000)
+}
 
 // Lowers all of them.
 pub fn lower(work: &mut [u8])
     requires { ⌜ 400000 ≤ length (now work) ⌝ }
     ensures { λ _. ⌜ Flags [] (flagArea (now (work .exit))) ⌝ }
 {
-    zero(&mut work[386000..400000]);
+    zero_part(work, 386000, 14000);
 }
 
-// Whether the flag of a key is raised.
-fn flagged(work: &[u8], key: u64) -> bool
+// Whether the flag of a key is raised: where it is not, no update record so far names the key.
+pub fn flagged(work: &[u8], key: u64) -> bool
     requires { ⌜ 400000 ≤ length (now work) ⌝ }
     ensures { λ b. ⌜ b ≡ flagOf (flagArea (now (work .entry))) (keyFlag key) ⌝ }
 {
-    flag(&work[386000..400000], (key % 111997) as usize)
+    flag(flags_of(work), (key % 111997) as usize)
 }
 
 // How many of the j update records before have to be looked at for the key: none of them names it where its flag is not raised.
@@ -41,7 +65,7 @@ pub fn turns(work: &[u8], key: u64, j: usize) -> usize
 // Raises the flag of a key.
 pub fn mark(work: &mut [u8], key: u64)
     requires { ⌜ 400000 ≤ length (now work) ⌝ }
-    ensures { λ _. ⌜ flagArea (now (work .exit)) ≡ raised (flagArea (now (work .entry))) (keyFlag key) ⌝ }
+    ensures { λ _. ⌜ Marked (now (work .entry)) key (now (work .exit)) ⌝ }
 {
-    raise(&mut work[386000..400000], (key % 111997) as usize);
+    raise_in(work, 386000, 400000, (key % 111997) as usize);
 }

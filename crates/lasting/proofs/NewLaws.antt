@@ -45,6 +45,7 @@ use Rattle.composing.proofs.KnownLaws.{known-right, deleted-known}
 use Rattle.composing.proofs.ResultLaws.{joined-some, history-sound}
 use Rattle.history.specs.Here.{namedIn}
 use Rattle.history.specs.Played.{Playing, Played}
+use Rattle.history.proofs.FlagLaws.{flags-kept}
 use Rattle.history.proofs.HereLaws.{known-sent}
 use Rattle.history.proofs.PlayingLaws.{rest-sound, Named, single-named}
 use Rattle.lasting.specs.Whole.{Whole, New}
@@ -53,7 +54,7 @@ use Rattle.lasting.specs.Stays.{Lasting, Stays, LastStep, NewStep}
 use Rattle.lasting.specs.declared.Step.{Step}
 use Rattle.lasting.specs.declared.Step.the-variants.{Nothing}
 use Rattle.lasting.proofs.WalkLaws.{take-records}
-use Rattle.lasting.proofs.WholeLaws.{singles-known, rest-sendable, flags-kept, whole-fine, whole-kept}
+use Rattle.lasting.proofs.WholeLaws.{singles-known, rest-sendable, whole-fine, whole-kept}
 use Rattle.lasting.proofs.NamingLaws.{place-is, insert-one}
 use Rattle.lasting.proofs.StepLaws.{stepped-as}
 

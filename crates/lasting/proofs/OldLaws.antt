@@ -54,7 +54,7 @@ use Rattle.composing.proofs.ResultLaws.{kept-some, history-sound}
 use Rattle.history.specs.Here.{recordHere}
 use Rattle.history.specs.Ready.{Writable}
 use Rattle.history.specs.Played.{Playing, Played}
-use Rattle.history.proofs.FlagLaws.{flags-clear}
+use Rattle.history.proofs.FlagLaws.{flags-clear, flags-kept}
 use Rattle.history.proofs.HereLaws.{here-is, Known, known-stored}
 use Rattle.history.proofs.FindingLaws.{Said, said}
 use Rattle.lasting.specs.Whole.{Whole, Old}
@@ -63,7 +63,7 @@ use Rattle.lasting.specs.Stays.{Replayable, Replayed, stepBy, Stays, Las
 use Rattle.lasting.specs.declared.Step.{Step}
 use Rattle.lasting.specs.declared.Step.the-variants.{Nothing}
 use Rattle.lasting.proofs.WalkLaws.{take-records}
-use Rattle.lasting.proofs.WholeLaws.{rest-sendable, flags-kept, whole-known, whole-fine, whole-kept}
+use Rattle.lasting.proofs.WholeLaws.{rest-sendable, whole-known, whole-fine, whole-kept}
 use Rattle.lasting.proofs.NamingLaws.{place-is, named-listed, once-there}
 use Rattle.lasting.proofs.ReadableLaws.{stored-readable}
 use Rattle.lasting.proofs.StepLaws.{short, made-step, stepped-as, step-flags}

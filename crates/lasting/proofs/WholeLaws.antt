@@ -1,10 +1,9 @@
 -- What is known of a dataset and an update none of whose records is refused. Assumes nothing.
-use Prim.Native.Nat.{ℕ, _/_, _%_, _≤_, _<_}
+use Prim.Native.Nat.{ℕ, _≤_}
 use mathlib.Core.Path.{_≡_, refl, sym, ap, subst}
-use mathlib.Core.Bool.{Bool}
 use mathlib.Core.List.{List, [], _∷_}
 use native.Mathlib.Omega.{arith}
-use lib.ListN.{length, take, drop, length-take, length-drop}
+use lib.ListN.{length}
 use Rattle.base.specs.Lists.{each}
 use Rattle.base.specs.Walk.{Got}
 use Rattle.skeleton.specs.File.{Field, recordsFrom}
@@ -18,7 +17,6 @@ use Rattle.sound.proofs.FileBytes.{Bodies}
 use Rattle.sound.proofs.Changed.{Sendable}
 use Rattle.stock.specs.Stock.{recIn, AllStored, stockFrom}
 use Rattle.incoming.specs.Fitting.{Single, AllSingle, Rest}
-use Rattle.keys.specs.Bits.{flagOf}
 use Rattle.keys.specs.Listed.{keyOf, keysFrom}
 use Rattle.keys.specs.Look.{Sound}
 use Rattle.keys.specs.Numbered.{Numbered}
@@ -29,6 +27,7 @@ use Rattle.composing.specs.Acts.{Known}
 use Rattle.composing.specs.Settled.{Asks, Settled}
 use Rattle.composing.proofs.KnownLaws.{known-right}
 use Rattle.history.specs.Flags.{Flags}
+use Rattle.history.proofs.FlagLaws.{flags-kept, area-long}
 use Rattle.history.proofs.FindingLaws.{Said, said}
 use Rattle.history.proofs.PlayingLaws.{rest-sound}
 use Rattle.lasting.specs.Whole.{Whole}
@@ -62,21 +61,6 @@ unfolding inUpdate
 ran-done (ran tt) e = refl
 ran-done (stop n x) e = absurd (let y : _≡_ {A = ℕ} 0 1 = cc in omega arith)
 
--- ---- the flags
-
-pub flags-kept : (w v : List ℕ) → FlagsKept w v → flagArea v ≡ flagArea w
-flags-kept w v e = ap (λ (l : List ℕ). take 14000 l) e
-
-flags-long : (w : List ℕ) → 400000 ≤ length w → 14000 ≤ length (flagArea w)
-flags-long w h = omega (arith, length-take 14000 (drop 386000 w), length-drop 386000 w)
-
--- f is the flags of the workspace w
-pub flag-there : (w f : List ℕ) → 400000 ≤ length w → f ≡ flagArea w → (key : ℕ) → key % 111997 / 8 < length f
-flag-there w f h e key = subst (λ (l : List ℕ). key % 111997 / 8 < length l) (sym e) (let l = flags-long w h in omega arith)
-
-pub flag-is : (w f : List ℕ) → f ≡ flagArea w → (j : ℕ) (b : Bool) → b ≡ flagOf f j → b ≡ flagOf (flagArea w) j
-flag-is w f e j b h = subst (λ (l : List ℕ). b ≡ flagOf l j) e h
-
 -- ---- all of it
 
 module _ (d : List ℕ) (ds : ℕ) (t : List ℕ) (n : ℕ) (map u : List ℕ) (us : ℕ) (w : List ℕ) (x : Whole d ds t n map u us w) where
@@ -85,7 +69,7 @@ module _ (d : List ℕ) (ds : ℕ) (t : List ℕ) (n : ℕ) (map u : List ℕ) (
 
   -- f is the workspace's flags
   pub whole-asks : (f : List ℕ) → f ≡ flagArea w → Asks d ds t n map u us f
-  whole-asks f e = record { laid = x .laid; sound = whole-sound; room = subst (λ (g : List ℕ). 14000 ≤ length g) (sym e) (flags-long w (x .wide)) }
+  whole-asks f e = record { laid = x .laid; sound = whole-sound; room = subst (λ (g : List ℕ). 14000 ≤ length g) (sym e) (let l = area-long w (x .wide) in omega arith) }
 
   pub whole-known : Each Known ((recordsFrom u us) .items)
   whole-known = singles-known ((recordsFrom u us) .items) (x .ready .rest .singles)

@@ -1,12 +1,12 @@
 // An old record on the way to the result: it is left alone, deleted, or changed by the update records that name it.
 use crate::Step;
-use crate::flags::flagged;
-use crate::flags::flags_of;
 use crate::stepping::last_step;
 use crate::stepping::step_of;
 use composing::acts::deleted_from;
 use composing::making::make_untouched;
 use history::finding::load_at;
+use history::flags::flagged;
+use history::flags::flags_of;
 use history::playing::play;
 use skeleton::directory::Shape;
 use version::Changed;

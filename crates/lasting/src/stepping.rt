@@ -1,8 +1,8 @@
 // A record in the workspace as one step of the result.
 use crate::Step;
 use crate::emitting::make_held;
-use crate::flags::flags_of;
 use composing::making::Made;
+use history::flags::flags_of;
 use version::Changed;
 use version::Present;
 use version::Version;

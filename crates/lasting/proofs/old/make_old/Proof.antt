@@ -8,7 +8,6 @@ use Rattle.lasting.proofs.old.make_old.Tie as tie
 use Rattle.lasting.proofs.old.make_old.Reads as reads
 use Rattle.lasting.proofs.old.make_old.Lts as lts
 use Rattle.composing.proofs.acts.deleted_from.Reads as deleted-from-reads
-use Rattle.lasting.proofs.flags.flagged.Reads as flagged-reads
 use Rattle.lasting.proofs.old.played.Reads as played-reads
 use Rattle.lasting.proofs.old.untouched.Reads as untouched-reads
 

@@ -7,7 +7,6 @@ use Rattle.lasting.proofs.old.untouched.Tie as tie
 use Rattle.lasting.proofs.old.untouched.Reads as reads
 use Rattle.lasting.proofs.old.untouched.Lts as lts
 use Rattle.composing.proofs.making.make_untouched.Reads as make-untouched-reads
-use Rattle.lasting.proofs.flags.flags_of.Reads as flags-of-reads
 use Rattle.lasting.proofs.stepping.step_of.Reads as step-of-reads
 
 flags-of-requires : tie.Need-flags-of-requires

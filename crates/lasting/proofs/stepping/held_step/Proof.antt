@@ -6,7 +6,6 @@ use Rattle.lasting.proofs.stepping.held_step.Statement.{statement}
 use Rattle.lasting.proofs.stepping.held_step.Tie as tie
 use Rattle.lasting.proofs.stepping.held_step.Reads as reads
 use Rattle.lasting.proofs.stepping.held_step.Lts as lts
-use Rattle.lasting.proofs.flags.flags_of.Reads as flags-of-reads
 use Rattle.lasting.proofs.emitting.make_held.Reads as make-held-reads
 use Rattle.lasting.proofs.stepping.step_of.Reads as step-of-reads
 

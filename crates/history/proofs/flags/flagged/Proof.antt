@@ -1,11 +1,8 @@
-use Rattle.lasting.proofs.WholeLaws.{flag-there, flag-is}
+-- `flagged` meets its contract. Assumes nothing.
+use Rattle.history.proofs.FlagLaws.{flag-there, flag-is}
 use borrow.Author.Needs.{needs}
-use Rattle.lasting.proofs.flags.flagged.Statement.{statement}
-use Rattle.lasting.proofs.flags.flagged.Tie as tie
-use Rattle.lasting.proofs.flags.flagged.Reads as reads
-use Rattle.lasting.proofs.flags.flagged.Lts as lts
-use Rattle.keys.proofs.bits.flag.Reads as flag-reads
-use Rattle.lasting.proofs.flags.flags_of.Reads as flags-of-reads
+use Rattle.history.proofs.flags.flagged.Statement.{statement}
+use Rattle.history.proofs.flags.flagged.Tie as tie
 
 flags-of-requires : tie.Need-flags-of-requires
 flags-of-requires c κs = search needs

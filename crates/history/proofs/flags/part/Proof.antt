@@ -1,9 +1,8 @@
+-- `part` meets its contract. Assumes nothing.
 use borrow.Author.Needs.{needs}
 use mathlib.Core.Path.{refl}
-use Rattle.lasting.proofs.flags.part.Statement.{statement}
-use Rattle.lasting.proofs.flags.part.Tie as tie
-use Rattle.lasting.proofs.flags.part.Reads as reads
-use Rattle.lasting.proofs.flags.part.Lts as lts
+use Rattle.history.proofs.flags.part.Statement.{statement}
+use Rattle.history.proofs.flags.part.Tie as tie
 
 sub-result : tie.Need-sub-result
 sub-result c = search needs
