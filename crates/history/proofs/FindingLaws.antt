@@ -34,7 +34,7 @@ use Rattle.keys.proofs.IdentLaws.{Keyed}
 use Rattle.keys.proofs.NumberLaws.{same-number}
 use Rattle.items.specs.Items.{source}
 use Rattle.version.specs.Held.{Held}
-use Rattle.version.specs.Present.{HeldAs}
+use Rattle.version.specs.Present.{HeldAs, FlagsKept}
 use Rattle.version.specs.declared.Version.{Version}
 use Rattle.version.specs.declared.Present.the-variants.{Here}
 use Rattle.history.specs.Here.{recordHere, kindRanked}
@@ -177,5 +177,9 @@ module _ (d : List ℕ) (at : ℕ) (s : Stock d at) (h : at < length d) (q : Hea
         let z : recIn (recordHere d at) ≡ recOf k (fieldsAt (between d at (at + len)) (record { base = base; a = a; b = b }) 24)
         = ap recIn (here-is d at h q e len base a b x) ∙ said-as k _ t in
         (recIn (recordHere d at), refl, rw z (g d u refl), y)
+
+-- what stands behind the areas of a version, said in one word
+pub flags-stay : (w v : List ℕ) → drop 386000 v ≡ drop 386000 w → FlagsKept w v
+flags-stay w v e = e
 
 pub ruleset load-ways = (here-word, here-fits, arith)

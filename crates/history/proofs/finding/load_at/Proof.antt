@@ -1,5 +1,5 @@
 -- `load_at` meets its contract. Assumes nothing.
-use Rattle.history.proofs.FindingLaws.{load-fields, load-held, load-refused, load-ways}
+use Rattle.history.proofs.FindingLaws.{load-fields, load-held, load-refused, flags-stay, load-ways}
 use Rattle.stock.specs.Stored.{stored}
 use mathlib.Core.Path.{sym, _∙_}
 use borrow.Author.Needs.{needs}
@@ -31,7 +31,12 @@ same-length : tie.Need-same-length
 same-length c = search needs
 
 returns : tie.Need-returns
-returns c = (λ u y. load-held _ _ (c .before .before .before .before .before .before .before .before .before .before .before .before .pre .0) (c .before .before .before .before .before .before .before .before .before .before .before .before .pre .1) _ (c .before .before .before .before .before .before .before .before .before .record-at .ensures) _ _ _ _ (c .before .before .before .before .before .before .before .len .given .1) _ (load-fields _ _ (c .before .before .before .before .before .before .before .before .before .before .before .before .pre .0) (c .before .before .before .before .before .before .before .before .before .before .before .before .pre .1) _ (c .before .before .before .before .before .before .before .before .before .record-at .ensures) _ _ _ _ (c .before .before .before .before .before .before .before .len .given .1) _ (c .before .before .before .before .before .key-at .ensures .0) _ (c .before .before .before .before .kind-of .ensures)) _ _ (c .before .before .load-record .ensures .0) u y, c .before .before .load-record .ensures .1)
+returns c =
+    let s = c .before .before .before .before .before .before .before .before .before .before .before .before in
+    let at = c .before .before .before .before .before .before .before .before .before .record-at .ensures in
+    let good = c .before .before .before .before .before .before .before .len .given .1 in
+    let v = c .before .before .load-record in
+    (load-held (s .args .d .now) (s .args .at) (s .pre .0) (s .pre .1) _ at _ _ _ _ good _ (load-fields (s .args .d .now) (s .args .at) (s .pre .0) (s .pre .1) _ at _ _ _ _ good _ (c .before .before .before .before .before .key-at .ensures .0) _ (c .before .before .before .before .kind-of .ensures)) (v .last .1 .1 .1 .1 .1 .1 .0) (v .result) (v .ensures .0), flags-stay (s .args .work .now) (v .last .1 .1 .1 .1 .1 .1 .0) (v .ensures .1))
 
 returns-2 : tie.Need-returns-2
 returns-2 c = load-refused _ _ (c .before .before .before .before .before .pre .0) (c .before .before .before .before .before .pre .1) _ (c .before .before .record-at .ensures) _ (c .enum-told .given .1)

@@ -17,19 +17,25 @@ enum-known-p : tie.Need-enum-known-p
 enum-known-p c = search needs
 
 act-requires : tie.Need-act-requires
-act-requires c κs = ((c .before .before .before .before .before .before .before .before .before .before .before .before .before .before .before .pre .0 .0 .short, c .before .before .before .before .before .before .before .before .before .before .before .before .before .before .before .pre .1 .0 .rest, c .before .before .before .before .before .before .before .before .before .before .before .before .before .before .before .pre .1 .1 .there, search needs), due-act _ _ _ _ (c .before .before .before .before .before .before .before .before .before .before .before .before .before .before .before .pre .0 .0) _ _ _ (c .before .before .before .before .before .before .before .before .before .before .before .before .before .before .before .pre .1 .0) (c .before .before .before .before .before .before .before .before .before .before .before .before .before .before .before .pre .1 .1) _ (c .before .before .before .before .before .before .before .before .before .before .before .before .before .before .before .pre .1 .2) _ (c .before .before .before .before .before .before .before .before .turns .ensures) _ _ (c .before .before .before .before .before .before .latest .ensures) _ (c .before .before .p .given .1))
+act-requires c κs =
+    let s = c .before .before .before .before .before .before .before .before .before .before .before .before .before .before .before in
+    ((s .pre .0 .0 .short, s .pre .1 .0 .rest, s .pre .1 .1 .there, search needs), due-act _ _ _ _ (s .pre .0 .0) _ _ _ (s .pre .1 .0) (s .pre .1 .1) (s .args .work .now) (s .pre .1 .2) _ (c .before .before .before .before .before .before .before .before .turns .ensures) _ _ (c .before .before .before .before .before .before .latest .ensures) _ (c .before .before .p .given .1))
 
 same-length : tie.Need-same-length
 same-length c = search needs
 
 returns : tie.Need-returns
-returns c = due-no _ _ _ _ (c .before .before .before .before .before .before .before .before .before .before .before .before .before .before .pre .0 .0) _ _ _ (c .before .before .before .before .before .before .before .before .before .before .before .before .before .before .pre .1 .0) (c .before .before .before .before .before .before .before .before .before .before .before .before .before .before .pre .1 .1) _ (c .before .before .before .before .before .before .before .before .before .before .before .before .before .before .pre .1 .2) _ (c .before .before .before .before .before .before .before .turns .ensures) _ _ (c .before .before .before .before .before .latest .ensures) _ _ _ (c .before .k .given .1)
+returns c =
+    let s = c .before .before .before .before .before .before .before .before .before .before .before .before .before .before in
+    due-no _ _ _ _ (s .pre .0 .0) _ _ _ (s .pre .1 .0) (s .pre .1 .1) (s .args .work .now) (s .pre .1 .2) _ (c .before .before .before .before .before .before .before .turns .ensures) _ _ (c .before .before .before .before .before .latest .ensures) _ _ _ (c .before .k .given .1)
 
 same-length-2 : tie.Need-same-length-2
 same-length-2 c = search needs
 
 returns-2 : tie.Need-returns-2
-returns-2 c = due-done _ _ _ _ (c .before .before .before .before .before .before .before .before .before .before .before .before .before .before .before .before .before .before .pre .0 .0) _ _ _ (c .before .before .before .before .before .before .before .before .before .before .before .before .before .before .before .before .before .before .pre .1 .0) (c .before .before .before .before .before .before .before .before .before .before .before .before .before .before .before .before .before .before .pre .1 .1) _ (c .before .before .before .before .before .before .before .before .before .before .before .before .before .before .before .before .before .before .pre .1 .2) _ (c .before .before .before .before .before .before .before .before .before .before .before .turns .ensures) _ _ (c .before .before .before .before .before .before .before .before .before .latest .ensures) _ (c .before .before .before .before .before .p .given .1) _ _ (c .before .before .act .ensures)
+returns-2 c =
+    let s = c .before .before .before .before .before .before .before .before .before .before .before .before .before .before .before .before .before .before in
+    due-done _ _ _ _ (s .pre .0 .0) _ _ _ (s .pre .1 .0) (s .pre .1 .1) (s .args .work .now) (s .pre .1 .2) _ (c .before .before .before .before .before .before .before .before .before .before .before .turns .ensures) _ _ (c .before .before .before .before .before .before .before .before .before .latest .ensures) _ (c .before .before .before .before .before .p .given .1) _ _ (c .before .before .act .ensures)
 
 pub due-spec : {M : Type 1} → statement M
 due-spec =
