@@ -3,7 +3,7 @@ use mathlib.Core.Path.{_≡_, refl, sym, ap, _∙_, subst}
 use mathlib.Core.Bool.{Bool, true, false}
 use mathlib.Core.Option.{Option, some}
 use mathlib.Core.List.{List, [], _∷_, _++_}
-use Prim.Native.Nat.{ℕ, zero, suc, _+_, _-_, _^_, _≤_, _<_}
+use Prim.Native.Nat.{ℕ, zero, suc, _+_, _-_, _*_, _^_, _≤_, _<_}
 use native.Mathlib.Omega.{arith}
 use native.Mathlib.Numerals.{add-one}
 use borrow.Author.Tests.{ne-eqb}
@@ -14,6 +14,8 @@ use Rattle.base.specs.Check.{Check, ok, no, bind, fault}
 use Rattle.base.specs.Lists.{each}
 use Rattle.base.specs.Keys.{same}
 use Rattle.base.specs.Walk.{Got}
+use Rattle.base.proofs.CheckLaws.{bind-inv}
+use Rattle.base.proofs.KeysLaws.{same-refl}
 use Rattle.skeleton.specs.File.{Field, recordsFrom}
 use Rattle.skeleton.proofs.FileLaws.{records-over}
 use Rattle.rules.specs.Record.{Rec}
@@ -21,7 +23,7 @@ use Rattle.sequence.specs.Keyed.{Parts, Under, Ran, find}
 use Rattle.sequence.specs.History.{history, version, due, judged}
 use Rattle.sequence.specs.Order.{named}
 use Rattle.sequence.proofs.Arms.{history-none, judged-no, judged-next, due-of}
-use Rattle.sequence.proofs.Local.{history-under}
+use Rattle.sequence.proofs.Local.{history-append, history-own, history-under}
 use Rattle.sequence.proofs.Lists.{find-under}
 use Rattle.updates.specs.Acts.{chart, inUpdate}
 use Rattle.updates.specs.Streamed.{verdicts}
@@ -29,18 +31,20 @@ use Rattle.updates.proofs.Acted.{lawful}
 use Rattle.stock.specs.Stock.{stockFrom}
 use Rattle.incoming.specs.Fitting.{Single, AllSingle, Rest}
 use Rattle.keys.specs.Bits.{flagOf}
+use Rattle.keys.specs.Key.{rankOf}
 use Rattle.keys.specs.Listed.{keyOf, keysFrom, listed}
 use Rattle.keys.specs.Look.{lookAt, Sound}
 use Rattle.keys.specs.Numbered.{numberOf, Ranged}
 use Rattle.keys.specs.declared.look.Look.{Look}
 use Rattle.keys.specs.declared.look.Look.the-variants.{At, Nothing}
 use Rattle.keys.proofs.ListLaws.{not-first, not-later, split-take}
-use Rattle.keys.proofs.NumberLaws.{same-number}
+use Rattle.keys.proofs.NumberLaws.{number-inj, same-number}
 use Rattle.keys.proofs.SoundLaws.{sound-nothing}
 use Rattle.keys.proofs.TableLaws.{drop-one}
 use Rattle.version.specs.Areas.{flagArea}
 use Rattle.version.specs.Present.{HeldAs, ChangedTo}
 use Rattle.version.specs.declared.Present.{Present}
+use Rattle.version.specs.declared.Present.the-variants.{Absent}
 use Rattle.version.specs.declared.Changed.{Changed}
 use Rattle.version.specs.declared.Changed.the-variants.{Refused, Now}
 use Rattle.history.specs.Here.{recordHere, namedIn}
@@ -51,6 +55,7 @@ use Rattle.history.specs.Judged.{Reached, Names, Due, judgedBy, AllJudge
 use Rattle.history.specs.declared.judging.Judged.the-variants.{Fine, Stopped}
 use Rattle.history.proofs.FlagLaws.{flags-clear, flags-more, flags-kept, area-long}
 use Rattle.history.proofs.PlayingLaws.{Named, single-named, Met, met, rest-sound}
+use Rattle.history.proofs.StayLaws.{held-stays}
 
 -- ---- the keys of some of the records
 
@@ -88,86 +93,105 @@ pub unflagged : (u : List ℕ) (us : ℕ) → Rest u us → (t : List ℕ) → F
 unfolding keysFrom
 unflagged u us s t f k r e = none-named ((recordsFrom u us) .items) (s .singles) k r (flags-clear (each keyOf ((recordsFrom u us) .items)) t (numberOf k) f e)
 
--- ---- `due`
+-- ---- `standing`
 
-module _ (d : List ℕ) (ds : ℕ) (u : List ℕ) (us : ℕ) (y : Ready d ds u us) (j q key : ℕ) (a : Reached u us j q) (n : Names u q key) where
-  here-named : Named (recordHere u q)
-  here-named = let s : AllSingle (recordHere u q ∷ n .later) = subst AllSingle (n .split) (a .rest .singles) in single-named (recordHere u q) (s .0)
+module _ (d : List ℕ) (ds : ℕ) (u : List ℕ) (us : ℕ) (y : Ready d ds u us) (j key : ℕ) (w : List ℕ) where
+  -- the update record before names the key as well, and what it left is held
+  pub standing-held : (last : ℕ) (p : Present) → Latest d ds u us j last w w (Now p) → key ≡ last → Latest d ds u us j key w w (Now p)
+  standing-held last p l e = subst (λ (n : ℕ). Latest d ds u us j n w w (Now p)) (sym e) l
 
-  number-is : numberOf (namedIn (recordHere u q)) ≡ key
-  number-is = sym (here-named .number) ∙ n .number
-
-  module _ (w : List ℕ) (f : Flags (take j (keysFrom u us)) (flagArea w)) (m : ℕ) (e : m ≡ pick (flagOf (flagArea w) (keyFlag key)) j 0) where
+  module _ (f : Flags (take j (keysFrom u us)) (flagArea w)) (m : ℕ) (e : m ≡ pick (flagOf (flagArea w) (keyFlag key)) j 0) where
     -- the records that are left out do not name the key
-    same-version : version chart (stockFrom d ds) (take m ((recordsFrom u us) .items)) (namedIn (recordHere u q))
-        ≡ version chart (stockFrom d ds) (take j ((recordsFrom u us) .items)) (namedIn (recordHere u q))
+    same-version : (k : List ℕ) → Ranged k → numberOf k ≡ key
+        → version chart (stockFrom d ds) (take m ((recordsFrom u us) .items)) k ≡ version chart (stockFrom d ds) (take j ((recordsFrom u us) .items)) k
     unfolding version history keysFrom
-    same-version = go (flagOf (flagArea w) (keyFlag key)) refl e
+    same-version k r i = go (flagOf (flagArea w) (keyFlag key)) refl e
       where
         go : (b : Bool) → flagOf (flagArea w) (keyFlag key) ≡ b → m ≡ pick b j 0
-            → history chart (namedIn (recordHere u q)) (take m ((recordsFrom u us) .items)) (find chart (namedIn (recordHere u q)) (stockFrom d ds))
-            ≡ history chart (namedIn (recordHere u q)) (take j ((recordsFrom u us) .items)) (find chart (namedIn (recordHere u q)) (stockFrom d ds))
+            → history chart k (take m ((recordsFrom u us) .items)) (find chart k (stockFrom d ds))
+            ≡ history chart k (take j ((recordsFrom u us) .items)) (find chart k (stockFrom d ds))
         go true x z = rw z refl
         go false x z =
-            let k = namedIn (recordHere u q) in
             let items = (recordsFrom u us) .items in
             let c : listed key (take j (each keyOf items)) ≡ false = flags-clear (take j (each keyOf items)) (flagArea w) key f x in
             let g : listed (numberOf k) (each keyOf (take j items)) ≡ false
-            = ap (λ (i : ℕ). listed i (each keyOf (take j items))) number-is ∙ ap (listed key) (keys-take j items) ∙ c in
-            let h = none-named (take j items) (singles-take j items (y .rest .singles)) k (here-named .ranged) g in
+            = ap (λ (n : ℕ). listed n (each keyOf (take j items))) i ∙ ap (listed key) (keys-take j items) ∙ c in
+            let h = none-named (take j items) (singles-take j items (y .rest .singles)) k r g in
             rw z (sym (history-none chart k (take j items) (find chart k (stockFrom d ds)) h))
 
-    module _ (v : List ℕ) (c : Changed) (l : Latest d ds u us m key w v c) where
-      came-of : ChangedTo d u v (version chart (stockFrom d ds) (take j ((recordsFrom u us) .items)) (namedIn (recordHere u q))) c
-      came-of = subst (λ (i : Check (Option Rec)). ChangedTo d u v i c) same-version (l .came (namedIn (recordHere u q)) (here-named .ranged) number-is)
+    pub standing-played : (v : List ℕ) (c : Changed) → Latest d ds u us m key w v c → Latest d ds u us j key w v c
+    standing-played v c l = record {
+      came = λ k r n. subst (λ (i : Check (Option Rec)). ChangedTo d u v i c) (same-version k r n) (l .came k r n);
+      kept = l .kept;
+    }
 
-      -- an earlier one is refused
-      pub due-no : (k i x : ℕ) → c ≡ Refused k i x → Due d ds u us j q w v (Refused k i x)
-      unfolding ChangedTo due bind
-      due-no k i x z =
-          let b : version chart (stockFrom d ds) (take j ((recordsFrom u us) .items)) (namedIn (recordHere u q)) ≡ no (fault k i x)
-          = subst (λ (t : Changed). ChangedTo d u v (version chart (stockFrom d ds) (take j ((recordsFrom u us) .items)) (namedIn (recordHere u q))) t) z came-of in
-          record { came = rw b refl; kept = l .kept }
+-- ---- `due`
 
-      module _ (p : Present) (z : c ≡ Now p) where
-        standing : (o : Option Rec) × (version chart (stockFrom d ds) (take j ((recordsFrom u us) .items)) (namedIn (recordHere u q)) ≡ ok o) × HeldAs d u v p o
-        unfolding ChangedTo
-        standing = subst (λ (t : Changed). ChangedTo d u v (version chart (stockFrom d ds) (take j ((recordsFrom u us) .items)) (namedIn (recordHere u q))) t) z came-of
+module _ (d : List ℕ) (ds : ℕ) (u : List ℕ) (us j q key : ℕ) (a : Reached u us j q) (n : Names u q key) where
+  here-named : Named (recordHere u q)
+  here-named = let s : AllSingle (recordHere u q ∷ n .later) = subst AllSingle (n .split) (a .rest .singles) in single-named (recordHere u q) (s .0)
 
-        under : Under chart (namedIn (recordHere u q)) (standing .0)
-        unfolding version
-        under =
-            history-under chart lawful (namedIn (recordHere u q)) (take j ((recordsFrom u us) .items)) (find chart (namedIn (recordHere u q)) (stockFrom d ds)) (standing .0)
-            (find-under chart (namedIn (recordHere u q)) (stockFrom d ds)) (standing .1)
+  module _ (w v : List ℕ) (c : Changed) (l : Latest d ds u us j key w v c) where
+    came-of : ChangedTo d u v (version chart (stockFrom d ds) (take j ((recordsFrom u us) .items)) (namedIn (recordHere u q))) c
+    came-of = l .came (namedIn (recordHere u q)) (here-named .ranged) (sym (here-named .number) ∙ n .number)
 
-        pub due-act : Acting d u v p (recordHere u q)
-        due-act = record { what = standing .0; held = standing .2; under = under }
+    -- an earlier one is refused
+    pub due-no : (k i x : ℕ) → c ≡ Refused k i x → Due d ds u us j q w v (Refused k i x)
+    unfolding ChangedTo due bind
+    due-no k i x z =
+        let b : version chart (stockFrom d ds) (take j ((recordsFrom u us) .items)) (namedIn (recordHere u q)) ≡ no (fault k i x)
+        = subst (λ (t : Changed). ChangedTo d u v (version chart (stockFrom d ds) (take j ((recordsFrom u us) .items)) (namedIn (recordHere u q))) t) z came-of in
+        record { came = rw b refl; kept = l .kept }
 
-        pub due-done : (t : List ℕ) (r : Changed) → Acted d u v p (recordHere u q) t r → Due d ds u us j q w t r
-        due-done t r g = record {
-          came = subst (λ (i : Check (Option Rec)). ChangedTo d u t i r)
-              (sym (due-of chart 0 (stockFrom d ds) (take j ((recordsFrom u us) .items)) (recordHere u q) [] (standing .0) (standing .1)))
-              (g .came (standing .0) (standing .2) under);
-          kept = g .kept ∙ l .kept;
-        }
+    module _ (p : Present) (z : c ≡ Now p) where
+      standing : (o : Option Rec) × (version chart (stockFrom d ds) (take j ((recordsFrom u us) .items)) (namedIn (recordHere u q)) ≡ ok o) × HeldAs d u v p o
+      unfolding ChangedTo
+      standing = subst (λ (t : Changed). ChangedTo d u v (version chart (stockFrom d ds) (take j ((recordsFrom u us) .items)) (namedIn (recordHere u q))) t) z came-of
+
+      under : Under chart (namedIn (recordHere u q)) (standing .0)
+      unfolding version
+      under =
+          history-under chart lawful (namedIn (recordHere u q)) (take j ((recordsFrom u us) .items)) (find chart (namedIn (recordHere u q)) (stockFrom d ds)) (standing .0)
+          (find-under chart (namedIn (recordHere u q)) (stockFrom d ds)) (standing .1)
+
+      pub due-act : Acting d u v p (recordHere u q)
+      due-act = record { what = standing .0; held = standing .2; under = under }
+
+      pub due-done : (t : List ℕ) (r : Changed) → Acted d u v p (recordHere u q) t r → Due d ds u us j q w t r
+      due-done t r g = record {
+        came = subst (λ (i : Check (Option Rec)). ChangedTo d u t i r)
+            (sym (due-of chart 0 (stockFrom d ds) (take j ((recordsFrom u us) .items)) (recordHere u q) [] (standing .0) (standing .1)))
+            (g .came (standing .0) (standing .2) under);
+        kept = g .kept ∙ l .kept;
+      }
 
 -- ---- `judge`
 
--- j update records from us on were found right, and the next is at q
-pub record Judging (d : List ℕ) (ds : ℕ) (u : List ℕ) (us q j : ℕ) (w : List ℕ) : Type 0 where
+-- j update records from us on were found right, and the next is at q; w and p are what they left under the key with the number `last`
+pub record Judging (d : List ℕ) (ds : ℕ) (u : List ℕ) (us q j last : ℕ) (p : Present) (w : List ℕ) : Type 0 where
   pub reached : Reached u us j q
   pub flags : Flags (take j (keysFrom u us)) (flagArea w)
   pub answer : judged chart (j + 3) (stockFrom d ds) (take j ((recordsFrom u us) .items)) ((recordsFrom u q) .items)
       ≡ judged chart 3 (stockFrom d ds) [] ((recordsFrom u us) .items)
+  pub held : Latest d ds u us j last w w (Now p)
 
-pub judging-start : (d : List ℕ) (ds : ℕ) (u : List ℕ) (us : ℕ) (w : List ℕ) → Ready d ds u us → Flags [] (flagArea w) → Judging d ds u us us 0 w
+-- no key has the number 0
+key-some : (k : List ℕ) → Ranged k → numberOf k ≡ 0 → ⊥
+unfolding numberOf
+key-some k r e =
+    let z : rankOf (r .rcnm) * 4294967296 + r .rcid ≡ 0 = rw (r .parts) at e in
+    let s = r .kind in
+    omega arith
+
+pub judging-start : (d : List ℕ) (ds : ℕ) (u : List ℕ) (us : ℕ) (w : List ℕ) → Ready d ds u us → Flags [] (flagArea w) → Judging d ds u us us 0 0 Absent w
 judging-start d ds u us w y f = record {
   reached = record { rest = y .rest; inside = y .inside; counted = omega arith; same = refl };
   flags = f;
   answer = refl;
+  held = record { came = λ k r n. absurd (key-some k r n); kept = refl };
 }
 
-module _ (d : List ℕ) (ds : ℕ) (u : List ℕ) (us q j : ℕ) (w : List ℕ) (y : Ready d ds u us) (t : Judging d ds u us q j w) where
+module _ (d : List ℕ) (ds : ℕ) (u : List ℕ) (us q j last : ℕ) (before : Present) (w : List ℕ) (y : Ready d ds u us) (t : Judging d ds u us q j last before w) where
   pub judging-sound : Sound u q
   judging-sound = rest-sound u q (t .reached .rest) (t .reached .inside) (y .short .new)
 
@@ -228,7 +252,7 @@ module _ (d : List ℕ) (ds : ℕ) (u : List ℕ) (us q j : ℕ) (w : List ℕ) 
             }
 
         -- it is accepted, and its flag is raised
-        module _ (p : Present) (z : c ≡ Now p) (long : 400000 ≤ length v) (v2 : List ℕ) (g : Marked v key v2) where
+        module _ (p : Present) (z : c ≡ Now p) (long : 400000 ≤ length v) (v2 : List ℕ) (mark : Marked v key v2) where
           room : j < length ((recordsFrom u us) .items)
           room = omega (arith, ap length (t .reached .same ∙ here .split), length-drop j ((recordsFrom u us) .items))
 
@@ -255,9 +279,25 @@ module _ (d : List ℕ) (ds : ℕ) (u : List ℕ) (us q j : ℕ) (w : List ℕ) 
               = sym (keys-drop j ((recordsFrom u us) .items)) ∙ ap (each keyOf) (t .reached .same) ∙ here .keys in
               let f : Flags (take j (keysFrom u us)) (flagArea v) = subst (λ (x : List ℕ). Flags (take j (keysFrom u us)) x) (sym (flags-kept w v (b .kept))) (t .flags) in
               subst (λ (x : List ℕ). Flags x (flagArea v2)) (sym (split-take (keysFrom u us) j key (keysFrom u (q + len)) k))
-              (flags-more (take j (keysFrom u us)) (flagArea v) (flagArea v2) key (area-long v long) f (g .flags))
+              (flags-more (take j (keysFrom u us)) (flagArea v) (flagArea v2) key (area-long v long) f (mark .flags))
 
-          pub judging-next : Judging d ds u us (q + len) (j + 1) v2
+          -- what it left under its key is what stands there after it
+          version-on : (k : List ℕ) → Ranged k → numberOf k ≡ key → ChangedTo d u v2 (version chart (stockFrom d ds) (take (j + 1) ((recordsFrom u us) .items)) k) (Now p)
+          unfolding ChangedTo version due bind
+          version-on k r n =
+              let past = take j ((recordsFrom u us) .items) in
+              let f = subst (λ (c : Changed). ChangedTo d u v (due chart (stockFrom d ds) past (recordHere u q)) c) z (b .came) in
+              let own : k ≡ namedIn (recordHere u q) = number-inj k (namedIn (recordHere u q)) r (here .ranged) (here .number ∙ sym n) in
+              let i = bind-inv (version chart (stockFrom d ds) past (namedIn (recordHere u q))) (λ o. chart .change (recordHere u q) o) (f .0) (f .1) in
+              let m : history chart k past (find chart k (stockFrom d ds)) ≡ ok (i .0) = rw own (i .1) in
+              let e : same (namedIn (recordHere u q)) k ≡ true = rw own (same-refl (namedIn (recordHere u q))) in
+              let g : history chart k (past ++ (recordHere u q ∷ [])) (find chart k (stockFrom d ds)) ≡ ok (f .0)
+              = history-append chart lawful k past (recordHere u q ∷ []) (find chart k (stockFrom d ds))
+              ∙ ap (λ (c : Check (Option Rec)). bind c (λ o. history chart k (recordHere u q ∷ []) o)) m
+              ∙ history-own chart lawful k (recordHere u q) (i .0) e ∙ i .2 in
+              (f .0, rw one-more g, held-stays d u v key v2 mark p (f .0) (f .2))
+
+          pub judging-next : Judging d ds u us (q + len) (j + 1) key p v2
           judging-next = record {
             reached = record {
               rest = here .rest;
@@ -267,4 +307,5 @@ module _ (d : List ℕ) (ds : ℕ) (u : List ℕ) (us q j : ℕ) (w : List ℕ) 
             };
             flags = flags-on;
             answer = answer-on;
+            held = record { came = version-on; kept = refl };
           }

@@ -3,5 +3,6 @@ pub mod FindingLaws
 pub mod ActingLaws
 pub mod PlayingLaws
 pub mod FlagLaws
+pub mod StayLaws
 pub mod JudgingLaws
 pub mod ReadyLaws
