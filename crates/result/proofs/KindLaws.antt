@@ -1,9 +1,11 @@
 -- Laws of the pass over one kind of a result's records, and over all four. Assumes nothing.
 use Prim.Native.Nat.{ℕ, suc, _+_, _*_, _≤_, _<_}
-use mathlib.Core.Path.{_≡_, sym, ap, subst, _∙_}
+use mathlib.Core.Path.{_≡_, refl, sym, ap, subst, _∙_}
+use mathlib.Core.Bool.{true, false}
 use mathlib.Core.List.{List}
 use native.Mathlib.Omega.{arith}
 use native.Mathlib.Numerals.{add-one}
+use lib.ListN.{length}
 use Rattle.base.specs.Walk.{Got}
 use Rattle.memory.specs.Put.{put}
 use Rattle.skeleton.specs.File.{recordsFrom}
@@ -14,124 +16,195 @@ use Rattle.stock.specs.Stock.{stockFrom}
 use Rattle.composing.specs.Composing.{Complete}
 use Rattle.composing.proofs.ComposingLaws.{left-all, left-kind, left-end, composing-start, composing-same, composing-over}
 use Rattle.result.specs.Composed.{ComposedBy}
-use Rattle.result.specs.Pass.{Within, kindsLeft, oldLeft, newLeft, linksOf, Made, Passing, Few, Walked}
+use Rattle.lasting.specs.Whole.{Whole}
+use Rattle.lasting.proofs.WholeLaws.{whole-kept}
+use Rattle.result.specs.Pass.{Within, passFrom, kindsLeft, newLeft, linksOf, Made, Passing, Few, Walked}
+use Rattle.result.specs.Side.{fileOf, Reached, StandsBy, Ended, Stands, sideLeft, sideBehind}
+use Rattle.result.specs.declared.pass.Progress.{Progress}
 use Rattle.result.specs.declared.pass.Pass.{Pass}
 use Rattle.result.specs.declared.pass.Pass.the-variants.{Loose, Went}
 use Rattle.result.specs.declared.Composed.the-variants.{Loose as LooseResult, Whole as WholeResult}
 use Rattle.result.proofs.RestLaws.{rest-bytes, rest-long}
-use Rattle.result.proofs.PassLaws.{passing-then}
+use Rattle.result.proofs.PassLaws.{walked-from, passing-then}
+use Rattle.result.proofs.WalkLaws.{old-start, old-later, old-from, new-start}
 
 -- ---- one kind
 
-pub within-more : (made to : ℕ) → Within 1073741824 made to → Within 2147483648 made to
+pub within-more : (g : Progress) → Within 1073741824 g → Within 2147483648 g
 unfolding Within
-within-more made to i = let c = i .0 in (omega arith, i .1)
+within-more g i = let c = i .0 in (omega arith, i .1)
+
+-- either side's file
+pub file-old : (d u : List ℕ) → d ≡ fileOf true d u
+unfolding fileOf
+file-old d u = refl
+
+pub file-new : (d u : List ℕ) → u ≡ fileOf false d u
+unfolding fileOf
+file-new d u = refl
+
+-- and its first record
+pub stands-old : (d : List ℕ) (ds : ℕ) (u : List ℕ) (us q p : ℕ) → Reached d ds q p → Stands d ds u us q true p
+unfolding Stands
+stands-old d ds u us q p g = old-later d ds q p g
+
+pub stands-new : (d : List ℕ) (ds : ℕ) (t : List ℕ) (n : ℕ) (map u : List ℕ) (us : ℕ) (w : List ℕ) (y : Whole d ds t n map u us w) (q : ℕ) → Stands d ds u us q false us
+unfolding Stands
+stands-new d ds t n map u us w y q = new-start d ds t n map u us w y
 
 module _ (d : List ℕ) (ds : ℕ) (u : List ℕ) (us : ℕ) where
-  few-then : (made to more next : ℕ) → Within (made + 16777216) more next → (r : Pass) → Few d ds u us 16777216 more r → Few d ds u us 33554432 made r
+  few-then : (g h : Progress) → Within (g .made + 16777216) h → (r : Pass) → Few d ds u us 16777216 h r → Few d ds u us 33554432 g r
   unfolding Few Within
-  few-then made to more next i (Loose k) f = tt
-  few-then made to more next i (Went to3 made3) f = let a = i .0 in let b = f .0 in (omega arith, f .1)
+  few-then g h i (Loose k) f = tt
+  few-then g h i (Went h3) f = let a = i .0 in let b = f .0 in (omega arith, f .1)
 
-  module _ (q : ℕ) (l : q ≤ 4) (made to : ℕ) (i : Within 1073741824 made to) (o o2 : List ℕ) (r : Pass)
-      (v : Walked d ds u us (oldLeft d ds u us q ds) (newLeft d ds u us q us) 16777216 made to o o2 r) where
-    first : Passing d ds u us (kindsLeft d ds u us q) (newLeft d ds u us q us) made to o o2 r
+  reached-from : (q : ℕ) (s : Pass) (p : ℕ) → Reached d ds q p → StandsBy (Reached d ds q) (passFrom s p)
+  unfolding StandsBy passFrom
+  reached-from q (Loose k) p g = tt
+  reached-from q (Went h) p g = g
+
+  module _ (q : ℕ) (l : q ≤ 4) (g : Progress) (z : Reached d ds q (g .next)) (w o w2 o2 : List ℕ) (r : Pass)
+      (v : Ended d ds u us (sideLeft d ds u us q true (g .next)) (sideBehind d ds u us q true) 16777216 (Stands d ds u us q true) g w o w2 o2 r) where
+    first : Passing d ds u us (kindsLeft d ds u us q) (newLeft d ds u us q us) g o o2 r
+    unfolding sideLeft sideBehind
     first =
-        subst (λ (a : List Rec). Passing d ds u us a (newLeft d ds u us q us) made to o o2 r) (sym (left-kind (stockFrom d ds) ((recordsFrom u us) .items) q l)) (v .passing)
+        subst (λ (a : List Rec). Passing d ds u us a (newLeft d ds u us q us) g o o2 r)
+        (sym (old-from d ds q (g .next) z u us) ∙ sym (left-kind (stockFrom d ds) ((recordsFrom u us) .items) q l)) (v .walked .passing)
 
-    pub kind-loose : (k : ℕ) → r ≡ Loose k → Walked d ds u us (kindsLeft d ds u us q) (kindsLeft d ds u us (suc q)) 33554432 made to o o2 (Loose k)
-    unfolding Passing Few
-    kind-loose k x = record { passing = subst (λ (a : Pass). Passing d ds u us (kindsLeft d ds u us q) (newLeft d ds u us q us) made to o o2 a) x first; few = tt }
+    pub kind-whole : (t : List ℕ) (n : ℕ) (map : List ℕ) → Whole d ds t n map u us w → length w2 ≡ length w → Whole d ds t n map u us w2
+    kind-whole t n map y k = whole-kept d ds t n map u us w y w2 (v .flags) k
 
-    module _ (next more : ℕ) (x : r ≡ Went next more) where
-      few-first : Within (made + 16777216) more next
+    pub kind-loose : (k : ℕ) → r ≡ Loose k
+        → Ended d ds u us (kindsLeft d ds u us q) (kindsLeft d ds u us (suc q)) 33554432 (Reached d ds (suc q)) g w o w2 o2 (Loose k)
+    unfolding Passing Few StandsBy
+    kind-loose k x = record {
+      walked = record { passing = subst (λ (a : Pass). Passing d ds u us (kindsLeft d ds u us q) (newLeft d ds u us q us) g o o2 a) x first; few = tt };
+      stands = tt;
+      flags = v .flags;
+    }
+
+    module _ (h : Progress) (x : r ≡ Went h) where
+      few-first : Within (g .made + 16777216) h
       unfolding Few
-      few-first = subst (λ (a : Pass). Few d ds u us 16777216 made a) x (v .few)
+      few-first = subst (λ (a : Pass). Few d ds u us 16777216 g a) x (v .walked .few)
 
-      pub kind-within : Within 2147483648 more next
+      reached : Reached d ds (suc q) (h .next)
+      unfolding StandsBy Stands
+      reached = subst (λ (a : Pass). StandsBy (Stands d ds u us q true) a) x (v .stands)
+
+      pub kind-within : Within 1073741824 g → Within 2147483648 (record { to = h .to; made = h .made; next = us })
       unfolding Within
-      kind-within = let a = few-first .0 in let b = i .0 in (omega arith, few-first .1)
+      kind-within i = let a = few-first .0 in let b = i .0 in (omega arith, few-first .1)
 
-      pub kind-on : (o3 : List ℕ) (s : Pass) → Walked d ds u us (newLeft d ds u us q us) (kindsLeft d ds u us (suc q)) 16777216 more next o2 o3 s
-          → Walked d ds u us (kindsLeft d ds u us q) (kindsLeft d ds u us (suc q)) 33554432 made to o o3 s
-      kind-on o3 s g = record {
-        passing = passing-then d ds u us (kindsLeft d ds u us q) (newLeft d ds u us q us) (kindsLeft d ds u us (suc q)) made to more next o o2 o3
-            (subst (λ (a : Pass). Passing d ds u us (kindsLeft d ds u us q) (newLeft d ds u us q us) made to o o2 a) x first)
-            s (g .passing);
-        few = few-then made to more next few-first s (g .few);
-      }
+      module _ (w3 o3 : List ℕ) (s : Pass)
+          (y : Ended d ds u us (sideLeft d ds u us q false us) (sideBehind d ds u us q false) 16777216 (Stands d ds u us q false) (record { to = h .to; made = h .made; next = us }) w2 o2 w3 o3 s) where
+        -- the place in the dataset is put by
+        aside : Passing d ds u us (kindsLeft d ds u us q) (newLeft d ds u us q us) g o o2 (Went (record { to = h .to; made = h .made; next = us }))
+        unfolding Passing
+        aside = subst (λ (a : Pass). Passing d ds u us (kindsLeft d ds u us q) (newLeft d ds u us q us) g o o2 a) x first
+
+        second : Walked d ds u us (kindsLeft d ds u us q) (kindsLeft d ds u us (suc q)) 33554432 g o o3 s
+        unfolding sideLeft sideBehind
+        second = record {
+          passing = passing-then d ds u us (kindsLeft d ds u us q) (newLeft d ds u us q us) (kindsLeft d ds u us (suc q)) g (record { to = h .to; made = h .made; next = us }) o o2 o3
+              aside s (y .walked .passing);
+          few = few-then g (record { to = h .to; made = h .made; next = us }) (unfold Within in few-first) s (y .walked .few);
+        }
+
+        pub kind-on : (p : Pass) → p ≡ passFrom s (h .next)
+            → Ended d ds u us (kindsLeft d ds u us q) (kindsLeft d ds u us (suc q)) 33554432 (Reached d ds (suc q)) g w o w3 o3 p
+        kind-on p e =
+            subst (λ (a : Pass). Ended d ds u us (kindsLeft d ds u us q) (kindsLeft d ds u us (suc q)) 33554432 (Reached d ds (suc q)) g w o w3 o3 a) (sym e)
+            (record {
+              walked = walked-from d ds u us (kindsLeft d ds u us q) (kindsLeft d ds u us (suc q)) 33554432 g o o3 s (h .next) second;
+              stands = reached-from (suc q) s (h .next) reached;
+              flags = y .flags ∙ v .flags;
+            })
 
   -- ---- all of them
 
   -- the kinds before the one with place q were made
-  pub record Kinds (q made to at : ℕ) (before out : List ℕ) : Type 0 where
-    pub passing : Passing d ds u us (kindsLeft d ds u us 1) (kindsLeft d ds u us q) 0 at before out (Went to made)
+  pub record Kinds (t : List ℕ) (n : ℕ) (map : List ℕ) (q : ℕ) (g : Progress) (at : ℕ) (before w out : List ℕ) : Type 0 where
+    pub passing : Passing d ds u us (kindsLeft d ds u us 1) (kindsLeft d ds u us q) (record { to = at; made = 0; next = ds }) before out (Went g)
+    pub reached : Reached d ds q (g .next)
+    pub whole : Whole d ds t n map u us w
     pub place : q ≤ 5
-    pub few : made ≤ 33554432 * q
-    pub room : to ≤ 299997 + 99999 * made
+    pub few : g .made ≤ 33554432 * q
+    pub room : g .to ≤ 299997 + 99999 * g .made
 
-  pub kinds-start : (at : ℕ) → at ≤ 299997 → (o : List ℕ) → Kinds 1 0 at at o o
-  unfolding Passing
-  kinds-start at h o = record { passing = λ start first z. z; place = omega arith; few = omega arith; room = omega arith }
+  module _ (t : List ℕ) (n : ℕ) (map : List ℕ) (at : ℕ) where
+    pub kinds-start : at ≤ 299997 → (o w : List ℕ) → Whole d ds t n map u us w → Kinds t n map 1 (record { to = at; made = 0; next = ds }) at o w o
+    unfolding Passing
+    kinds-start h o w y = record {
+      passing = λ start first z. z;
+      reached = old-start d ds (y .laid .sound) (y .ready .stock);
+      whole = y;
+      place = omega arith;
+      few = omega arith;
+      room = omega arith;
+    }
 
-  module _ (q made to at : ℕ) (before out : List ℕ) (g : Kinds q made to at before out) where
-    -- before the first record
-    none-made : Made d ds u us (kindsLeft d ds u us 1) at 0 at before before
-    none-made =
-        composing-same (linksOf d ds u us) (resultRecords (stockFrom d ds) ((recordsFrom u us) .items)) at before 0 at before _ _
-        (sym (left-all (stockFrom d ds) ((recordsFrom u us) .items)))
-        (composing-start (linksOf d ds u us) (resultRecords (stockFrom d ds) ((recordsFrom u us) .items)) at before)
+    module _ (q : ℕ) (g : Progress) (before w out : List ℕ) (k : Kinds t n map q g at before w out) where
+      -- before the first record
+      none-made : Made d ds u us (kindsLeft d ds u us 1) at 0 at before before
+      none-made =
+          composing-same (linksOf d ds u us) (resultRecords (stockFrom d ds) ((recordsFrom u us) .items)) at before 0 at before _ _
+          (sym (left-all (stockFrom d ds) ((recordsFrom u us) .items)))
+          (composing-start (linksOf d ds u us) (resultRecords (stockFrom d ds) ((recordsFrom u us) .items)) at before)
 
-    -- behind the last kind
-    pub kinds-over : 5 ≤ q → ComposedBy (stockFrom d ds) ((recordsFrom u us) .items) at before (WholeResult to made) out
-    unfolding Passing resultReferences
-    kinds-over h =
-        let all : Complete (linksOf d ds u us) (resultRecords (stockFrom d ds) ((recordsFrom u us) .items)) at made to before out
-        = composing-over (linksOf d ds u us) (resultRecords (stockFrom d ds) ((recordsFrom u us) .items)) at before made to out
-        (composing-same (linksOf d ds u us) (resultRecords (stockFrom d ds) ((recordsFrom u us) .items)) at before made to out _ _
-        (left-end (stockFrom d ds) ((recordsFrom u us) .items) q (omega arith)) (g .passing at before none-made)) in
-        record {
-          loose = λ k e. absurd (let z : _≡_ {A = ℕ} 0 1 = cc in omega arith);
-          linked = λ len c e. all .passed;
-          long = λ len c e. let z : len ≡ to = cc in z ∙ all .long ∙ ap (λ (n : ℕ). at + n) (rest-long (stockFrom d ds) ((recordsFrom u us) .items));
-          counted = λ len c e. let z : c ≡ made = cc in z ∙ all .count;
-          stands = λ len c e s.
-              let z : len ≡ to = cc in
-              all .wrote (omega arith) .is ∙ ap (λ (b : List ℕ). put at b before) (rest-bytes (stockFrom d ds) ((recordsFrom u us) .items));
-        }
+      -- behind the last kind
+      pub kinds-over : 5 ≤ q → ComposedBy (stockFrom d ds) ((recordsFrom u us) .items) at before (WholeResult (g .to) (g .made)) out
+      unfolding Passing resultReferences
+      kinds-over h =
+          let all : Complete (linksOf d ds u us) (resultRecords (stockFrom d ds) ((recordsFrom u us) .items)) at (g .made) (g .to) before out
+          = composing-over (linksOf d ds u us) (resultRecords (stockFrom d ds) ((recordsFrom u us) .items)) at before (g .made) (g .to) out
+          (composing-same (linksOf d ds u us) (resultRecords (stockFrom d ds) ((recordsFrom u us) .items)) at before (g .made) (g .to) out _ _
+          (left-end (stockFrom d ds) ((recordsFrom u us) .items) q (let p = k .place in omega arith)) (k .passing at before none-made)) in
+          record {
+            loose = λ i e. absurd (let z : _≡_ {A = ℕ} 0 1 = cc in omega arith);
+            linked = λ len c e. all .passed;
+            long = λ len c e. let z : len ≡ g .to = cc in z ∙ all .long ∙ ap (λ (n : ℕ). at + n) (rest-long (stockFrom d ds) ((recordsFrom u us) .items));
+            counted = λ len c e. let z : c ≡ g .made = cc in z ∙ all .count;
+            stands = λ len c e s.
+                let z : len ≡ g .to = cc in
+                all .wrote (omega arith) .is ∙ ap (λ (b : List ℕ). put at b before) (rest-bytes (stockFrom d ds) ((recordsFrom u us) .items));
+          }
 
-    module _ (l : q < 5) where
-      pub kinds-within : Within 1073741824 made to
-      unfolding Within
-      kinds-within = let f = g .few in (omega arith, g .room)
+      module _ (l : q < 5) where
+        pub kinds-within : Within 1073741824 g
+        unfolding Within
+        kinds-within = let f = k .few in (omega arith, k .room)
 
-      module _ (out2 : List ℕ) (r : Pass) (v : Walked d ds u us (kindsLeft d ds u us q) (kindsLeft d ds u us (suc q)) 33554432 made to out out2 r) where
-        on : Passing d ds u us (kindsLeft d ds u us 1) (kindsLeft d ds u us (suc q)) 0 at before out2 r
-        on = passing-then d ds u us (kindsLeft d ds u us 1) (kindsLeft d ds u us q) (kindsLeft d ds u us (suc q)) 0 at made to before out out2 (g .passing) r (v .passing)
+        module _ (w2 out2 : List ℕ) (r : Pass)
+            (v : Ended d ds u us (kindsLeft d ds u us q) (kindsLeft d ds u us (suc q)) 33554432 (Reached d ds (suc q)) g w out w2 out2 r) where
+          on : Passing d ds u us (kindsLeft d ds u us 1) (kindsLeft d ds u us (suc q)) (record { to = at; made = 0; next = ds }) before out2 r
+          on = passing-then d ds u us (kindsLeft d ds u us 1) (kindsLeft d ds u us q) (kindsLeft d ds u us (suc q)) (record { to = at; made = 0; next = ds }) g before out out2 (k .passing) r (v .walked .passing)
 
-        pub kinds-loose : (k : ℕ) → r ≡ Loose k → ComposedBy (stockFrom d ds) ((recordsFrom u us) .items) at before (LooseResult k) out2
-        unfolding Passing
-        kinds-loose k x =
-            let f : Passing d ds u us (kindsLeft d ds u us 1) (kindsLeft d ds u us (suc q)) 0 at before out2 (Loose k)
-            = subst (λ (a : Pass). Passing d ds u us (kindsLeft d ds u us 1) (kindsLeft d ds u us (suc q)) 0 at before out2 a) x on in
-            let y = f at before none-made in
-            record {
-              loose = λ j e. let z : k ≡ j = cc in (y .0, y .1, y .2 ∙ ap (λ (i : ℕ). refused 3 i (y .0)) z);
-              linked = λ len c e. absurd (let z : _≡_ {A = ℕ} 0 1 = cc in omega arith);
-              long = λ len c e. absurd (let z : _≡_ {A = ℕ} 0 1 = cc in omega arith);
-              counted = λ len c e. absurd (let z : _≡_ {A = ℕ} 0 1 = cc in omega arith);
-              stands = λ len c e. absurd (let z : _≡_ {A = ℕ} 0 1 = cc in omega arith);
-            }
+          pub kinds-loose : (i : ℕ) → r ≡ Loose i → ComposedBy (stockFrom d ds) ((recordsFrom u us) .items) at before (LooseResult i) out2
+          unfolding Passing
+          kinds-loose i x =
+              let f : Passing d ds u us (kindsLeft d ds u us 1) (kindsLeft d ds u us (suc q)) (record { to = at; made = 0; next = ds }) before out2 (Loose i)
+              = subst (λ (a : Pass). Passing d ds u us (kindsLeft d ds u us 1) (kindsLeft d ds u us (suc q)) (record { to = at; made = 0; next = ds }) before out2 a) x on in
+              let y = f at before none-made in
+              record {
+                loose = λ j e. let z : i ≡ j = cc in (y .0, y .1, y .2 ∙ ap (λ (m : ℕ). refused 3 m (y .0)) z);
+                linked = λ len c e. absurd (let z : _≡_ {A = ℕ} 0 1 = cc in omega arith);
+                long = λ len c e. absurd (let z : _≡_ {A = ℕ} 0 1 = cc in omega arith);
+                counted = λ len c e. absurd (let z : _≡_ {A = ℕ} 0 1 = cc in omega arith);
+                stands = λ len c e. absurd (let z : _≡_ {A = ℕ} 0 1 = cc in omega arith);
+              }
 
-        pub kinds-next : (next more : ℕ) → r ≡ Went next more → Kinds (q + 1) more next at before out2
-        unfolding Few Within
-        kinds-next next more x =
-            let f : Few d ds u us 33554432 made (Went next more) = subst (λ (a : Pass). Few d ds u us 33554432 made a) x (v .few) in
-            let z : suc q ≡ q + 1 = sym (add-one q) in
-            record {
-              passing = subst (λ (n : ℕ). Passing d ds u us (kindsLeft d ds u us 1) (kindsLeft d ds u us n) 0 at before out2 (Went next more)) z
-                  (subst (λ (a : Pass). Passing d ds u us (kindsLeft d ds u us 1) (kindsLeft d ds u us (suc q)) 0 at before out2 a) x on);
-              place = omega arith;
-              few = let a = g .few in let b = f .0 in omega arith;
-              room = f .1;
-            }
+          pub kinds-next : (h : Progress) → r ≡ Went h → length w2 ≡ length w → Kinds t n map (q + 1) h at before w2 out2
+          unfolding Few Within StandsBy
+          kinds-next h x s =
+              let f : Few d ds u us 33554432 g (Went h) = subst (λ (a : Pass). Few d ds u us 33554432 g a) x (v .walked .few) in
+              let z : suc q ≡ q + 1 = sym (add-one q) in
+              record {
+                passing = subst (λ (m : ℕ). Passing d ds u us (kindsLeft d ds u us 1) (kindsLeft d ds u us m) (record { to = at; made = 0; next = ds }) before out2 (Went h)) z
+                    (subst (λ (a : Pass). Passing d ds u us (kindsLeft d ds u us 1) (kindsLeft d ds u us (suc q)) (record { to = at; made = 0; next = ds }) before out2 a) x on);
+                reached = subst (λ (m : ℕ). Reached d ds m (h .next)) z (subst (λ (a : Pass). StandsBy (Reached d ds (suc q)) a) x (v .stands));
+                whole = whole-kept d ds t n map u us w (k .whole) w2 (v .flags) s;
+                place = omega arith;
+                few = let a = k .few in let b = f .0 in omega arith;
+                room = f .1;
+              }

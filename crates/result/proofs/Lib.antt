@@ -1,5 +1,5 @@
 pub mod RestLaws
 pub mod PassLaws
 pub mod WalkLaws
-pub mod PartLaws
+pub mod SideLaws
 pub mod KindLaws

@@ -37,15 +37,8 @@ use Rattle.composing.proofs.ActsLaws.{turn-sound}
 use Rattle.composing.proofs.ComposingLaws.{left-old, left-turn, left-new, left-next}
 use Rattle.lasting.proofs.NamingLaws.{place-is}
 use Rattle.lasting.specs.Whole.{Whole, Old, New}
-use Rattle.result.specs.Part.{Reached}
+use Rattle.result.specs.Side.{Reached, NewAt}
 use Rattle.result.specs.Pass.{kindsLeft, oldLeft, newLeft}
-
--- what a loop stands on at a record of the update, or where it ends
-pub record NewAt (u : List ℕ) (us p : ℕ) : Type 0 where
-  pub sound : Sound u p
-  pub rest : Rest u p
-  pub before : List (List Field)
-  pub split : before ++ (recordsFrom u p) .items ≡ (recordsFrom u us) .items
 
 -- the first record of the dataset
 pub old-start : (d : List ℕ) (ds : ℕ) → Sound d ds → Stock d ds → Reached d ds 1 ds

@@ -1,4 +1,4 @@
 pub mod Rest
 pub mod Composed
 pub mod Pass
-pub mod Part
+pub mod Side

@@ -1,7 +1,7 @@
 -- A part of the pass over a result's records: from where some of them are left to where fewer are.
 use Prim.Native.Nat.{ℕ, _+_, _*_, _≤_}
 use mathlib.Core.Path.{_≡_}
-use mathlib.Core.List.{List, _++_}
+use mathlib.Core.List.{List}
 use Rattle.base.specs.Check.{Passed}
 use Rattle.base.specs.Walk.{Got}
 use Rattle.base.specs.declared.Fault.{Fault}
@@ -17,18 +17,24 @@ use Rattle.stock.specs.Stock.{stockFrom}
 use Rattle.composing.specs.Composing.{leftKinds, leftOld, leftNew, Composing}
 use Rattle.lasting.specs.declared.Step.{Step}
 use Rattle.lasting.specs.declared.Step.the-variants.{Nothing, Loose as LooseStep, One}
+use Rattle.result.specs.declared.pass.Progress.{Progress}
 use Rattle.result.specs.declared.pass.Pass.{Pass}
 use Rattle.result.specs.declared.pass.Pass.the-variants.{Loose, Went}
 
 -- at most m records were made behind the third, and the next begins no later than where records of 99,999 bytes end
-unfoldable pub Within : ℕ → ℕ → ℕ → Type 0
-Within m made to = (made ≤ m) × (to ≤ 299997 + 99999 * made)
+unfoldable pub Within : ℕ → Progress → Type 0
+Within m g = (g .made ≤ m) × (g .to ≤ 299997 + 99999 * g .made)
 
 -- where the pass is after a step
-unfoldable pub passAfter : Step → ℕ → ℕ → Pass
-passAfter Nothing to made = Went to made
-passAfter LooseStep to made = Loose (made + 4)
-passAfter (One next) to made = Went next (made + 1)
+unfoldable pub passAfter : Step → Progress → ℕ → Pass
+passAfter Nothing g next = Went (record { to = g .to; made = g .made; next = next })
+passAfter LooseStep g next = Loose (g .made + 4)
+passAfter (One to) g next = Went (record { to = to; made = g .made + 1; next = next })
+
+-- the same pass, to go on from another place
+unfoldable pub passFrom : Pass → ℕ → Pass
+passFrom (Loose k) next = Loose k
+passFrom (Went g) next = Went (record { to = g .to; made = g .made; next = next })
 
 -- the dataset d from ds on, the update u from us on
 module _ (d : List ℕ) (ds : ℕ) (u : List ℕ) (us : ℕ) where
@@ -52,22 +58,18 @@ module _ (d : List ℕ) (ds : ℕ) (u : List ℕ) (us : ℕ) where
   abbrev pub Made : List Rec → ℕ → ℕ → ℕ → List ℕ → List ℕ → Type 0
   Made left at made to before out = Composing linksOf (resultRecords (stockFrom d ds) ((recordsFrom u us) .items)) left at made to before out
 
-  -- `left` was left where `made` records were made and the next begins at `to`; out was `before` then. The pass stopped at a loose reference; or now `later` is left
-  unfoldable pub Passing : List Rec → List Rec → ℕ → ℕ → List ℕ → List ℕ → Pass → Type 0
-  Passing left later made to before out (Loose k) = (at : ℕ) (first : List ℕ) → Made left at made to first before
+  -- `left` was left at g, and out was `before` then. The pass stopped at a loose reference; or now `later` is left
+  unfoldable pub Passing : List Rec → List Rec → Progress → List ℕ → List ℕ → Pass → Type 0
+  Passing left later g before out (Loose k) = (at : ℕ) (first : List ℕ) → Made left at (g .made) (g .to) first before
       → (x : Fault) × (x .number ≡ 11) × (resultReferences (stockFrom d ds) ((recordsFrom u us) .items) ≡ refused 3 k x)
-  Passing left later made to before out (Went next more) = (at : ℕ) (first : List ℕ) → Made left at made to first before → Made later at more next first out
+  Passing left later g before out (Went h) = (at : ℕ) (first : List ℕ) → Made left at (g .made) (g .to) first before → Made later at (h .made) (h .to) first out
 
   -- it made so many at most
-  unfoldable pub Few : ℕ → ℕ → Pass → Type 0
-  Few most made (Loose k) = Unit {0}
-  Few most made (Went next more) = Within (made + most) more next
+  unfoldable pub Few : ℕ → Progress → Pass → Type 0
+  Few most g (Loose k) = Unit {0}
+  Few most g (Went h) = Within (g .made + most) h
 
   -- the same, and that
-  pub record Walked (left later : List Rec) (most made to : ℕ) (before out : List ℕ) (r : Pass) : Type 0 where
-    pub passing : Passing left later made to before out r
-    pub few : Few most made r
-
-  -- the records rs, of which there is one at most, whatever comes behind them
-  unfoldable pub Turned : List Rec → ℕ → ℕ → List ℕ → List ℕ → Pass → Type 0
-  Turned rs made to before out r = (left : List Rec) → Walked (rs ++ left) left 1 made to before out r
+  pub record Walked (left later : List Rec) (most : ℕ) (g : Progress) (before out : List ℕ) (r : Pass) : Type 0 where
+    pub passing : Passing left later g before out r
+    pub few : Few most g r

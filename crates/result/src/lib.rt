@@ -1,5 +1,6 @@
 // The records of an update's result behind the third, straight from dataset and update into the output.
-use crate::pass::Part;
+use crate::pass::Pass;
+use crate::pass::Progress;
 use crate::walk::walk_kind;
 ghost use mathlib.Core.Path.{_≡_};
 ghost use Prim.Native.Nat.{_≤_};
@@ -20,6 +21,7 @@ ghost use Rattle.history.specs.Ready.{Ready};
 ghost use Rattle.result.specs.Composed.{ComposedBy};
 
 pub mod pass;
+pub mod turn;
 pub mod walk;
 
 // The number of the record with a loose reference; or the length of the result and the count of its records behind the third.
@@ -46,28 +48,24 @@ pub fn compose(
     ensures { λ r. ⌜ ComposedBy (stockFrom (now (d .entry)) ds) ((recordsFrom (now (u .entry)) us) .items) at (now (out .entry)) r (now (out .exit)) ⌝ }
 {
     let mut q = 1;
-    let mut from = ds;
-    let mut to = at;
-    let mut made = 0;
+    let mut g = Progress {
+        to: at,
+        made: 0,
+        next: ds,
+    };
     while q < 5 {
-        match walk_kind(d, ds, t, n, map, u, us, from, q, work, out, to, made) {
-            Part::Loose(k) => {
+        match walk_kind(d, ds, t, n, map, u, us, q, work, out, g) {
+            Pass::Loose(k) => {
                 return Composed::Loose(k);
             }
-            Part::Went {
-                to: next,
-                made: more,
-                place,
-            } => {
-                from = place;
-                to = next;
-                made = more;
+            Pass::Went(h) => {
+                g = h;
                 q += 1;
             }
         }
     }
     Composed::Whole {
-        length: to,
-        count: made,
+        length: g.to,
+        count: g.made,
     }
 }

@@ -1,46 +1,51 @@
 // Where the pass over a result's records is.
 use lasting::Step;
 ghost use mathlib.Core.Path.{_≡_};
-ghost use Rattle.result.specs.Pass.{Within, passAfter};
-ghost use Rattle.result.specs.Part.{partAt};
+ghost use Rattle.result.specs.Pass.{Within, passAfter, passFrom};
 
-// The number of the result's record with a loose reference; or where the next one begins, and how many were made behind the third.
+// Where the result's next record begins, how many were made behind the third, and the place of the next record to look at.
+pub struct Progress {
+    pub to: usize,
+    pub made: usize,
+    pub next: usize,
+}
+
+// The number of the result's record with a loose reference; or how far the pass went.
 pub enum Pass {
     Loose(usize),
-    Went { to: usize, made: usize },
+    Went(Progress),
 }
 
-// The same, and the place of the dataset's first record of a later kind.
-pub enum Part {
-    Loose(usize),
-    Went {
-        to: usize,
-        made: usize,
-        place: usize,
-    },
-}
-
-// With the place.
-pub fn part_at(s: Pass, place: usize) -> Part
-    ensures { λ r. ⌜ r ≡ partAt s place ⌝ }
+// The same, to go on from another place.
+pub fn pass_from(s: Pass, next: usize) -> Pass
+    ensures { λ r. ⌜ r ≡ passFrom s next ⌝ }
 {
     match s {
-        Pass::Loose(k) => Part::Loose(k),
-        Pass::Went { to, made } => Part::Went { to, made, place },
+        Pass::Loose(k) => Pass::Loose(k),
+        Pass::Went(g) => Pass::Went(Progress {
+            to: g.to,
+            made: g.made,
+            next,
+        }),
     }
 }
 
-// After a step.
-pub fn after(s: Step, to: usize, made: usize) -> Pass
-    requires { ⌜ Within 4294967296 made to ⌝ }
-    ensures { λ r. ⌜ r ≡ passAfter s to made ⌝ }
+// After a step, to go on from `next`.
+pub fn after(s: Step, g: Progress, next: usize) -> Pass
+    requires { ⌜ Within 4294967296 g ⌝ }
+    ensures { λ r. ⌜ r ≡ passAfter s g next ⌝ }
 {
     match s {
-        Step::Nothing => Pass::Went { to, made },
-        Step::Loose => Pass::Loose(made + 4),
-        Step::One(next) => Pass::Went {
-            to: next,
-            made: made + 1,
-        },
+        Step::Nothing => Pass::Went(Progress {
+            to: g.to,
+            made: g.made,
+            next,
+        }),
+        Step::Loose => Pass::Loose(g.made + 4),
+        Step::One(to) => Pass::Went(Progress {
+            to,
+            made: g.made + 1,
+            next,
+        }),
     }
 }

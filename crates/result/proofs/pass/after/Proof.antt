@@ -11,14 +11,14 @@ enum-told c = search needs
 enum-told-2 : tie.Need-enum-told-2
 enum-told-2 c = search needs
 
-add-t6 : tie.Need-add-t6
-add-t6 c = search after-ways
+add-t7 : tie.Need-add-t7
+add-t7 c = search after-ways
 
 enum-known-s : tie.Need-enum-known-s
 enum-known-s c = search needs
 
-add-t7 : tie.Need-add-t7
-add-t7 c = search after-ways
+add-t8 : tie.Need-add-t8
+add-t8 c = search after-ways
 
 returns : tie.Need-returns
 returns c = search after-ways
@@ -32,4 +32,4 @@ returns-3 c = search after-ways
 pub after-spec : {M : Type 1} → statement M
 after-spec =
     tie.close
-    (tie.spec enum-told enum-told-2 add-t6 enum-known-s add-t7 returns returns-2 returns-3)
+    (tie.spec enum-told enum-told-2 add-t7 enum-known-s add-t8 returns returns-2 returns-3)

@@ -1,30 +1,26 @@
-use Rattle.result.proofs.KindLaws.{within-more, kind-loose, kind-within, kind-on}
-use Rattle.result.proofs.PartLaws.{walked-loose, walked-at, was-loose, was-went, was-reached}
-use Rattle.lasting.proofs.WholeLaws.{whole-kept}
-use mathlib.Core.Path.{refl, _∙_}
+use Rattle.result.proofs.KindLaws.{within-more, file-old, file-new, stands-old, stands-new, kind-whole, kind-loose, kind-within, kind-on}
 use borrow.Author.Needs.{needs}
 use Rattle.result.proofs.walk.walk_kind.Statement.{statement}
 use Rattle.result.proofs.walk.walk_kind.Tie as tie
 use Rattle.result.proofs.walk.walk_kind.Reads as reads
 use Rattle.result.proofs.walk.walk_kind.Lts as lts
-use Rattle.result.proofs.pass.part_at.Reads as part-at-reads
-use Rattle.result.proofs.walk.walk_new.Reads as walk-new-reads
-use Rattle.result.proofs.walk.walk_old.Reads as walk-old-reads
+use Rattle.result.proofs.pass.pass_from.Reads as pass-from-reads
+use Rattle.result.proofs.walk.walk.Reads as walk-reads
 
-walk-old-requires : tie.Need-walk-old-requires
-walk-old-requires c κs = (c .before .before .before .before .before .before .before .before .pre .0, within-more _ _ (c .before .before .before .before .before .before .before .before .pre .2), c .before .before .before .before .before .before .before .before .pre .3, c .before .before .before .before .before .before .before .before .pre .4)
+walk-requires : tie.Need-walk-requires
+walk-requires c κs = let s = c .before .before .before .before .before .before .before .before in ((s .pre .0, s .pre .3, within-more _ (s .pre .2)), (file-old _ _, stands-old _ _ _ _ _ _ (s .pre .4)))
 
 enum-known-k : tie.Need-enum-known-k
 enum-known-k c = search needs
 
-enum-known-next : tie.Need-enum-known-next
-enum-known-next c = search needs
+enum-known-g : tie.Need-enum-known-g
+enum-known-g c = search needs
 
-walk-new-requires : tie.Need-walk-new-requires
-walk-new-requires c κs = (whole-kept _ _ _ _ _ _ _ _ (c .before .before .before .before .before .before .before .before .before .before .before .before .before .before .before .before .before .before .pre .0) _ (c .before .before .before .before .before .before .before .before .before .walk-old .ensures .2) (search needs), kind-within _ _ _ _ _ (c .before .before .before .before .before .before .before .before .before .before .before .before .before .before .before .before .before .before .pre .1) _ _ (c .before .before .before .before .before .before .before .before .before .before .before .before .before .before .before .before .before .before .pre .2) _ _ _ (was-went _ _ _ _ _ _ _ _ _ _ _ _ _ (c .before .before .before .before .before .before .before .before .before .walk-old .ensures .0) (c .before .before .before .before .before .before .before .before .before .walk-old .ensures .1) _ _ _ (c .before .before .before .next .given .1)) _ _ refl)
+walk-requires-2 : tie.Need-walk-requires-2
+walk-requires-2 c κs = let s = c .before .before .before .before .before .before .before .before .before .before .before .before .before .before .before .before .before .before in let v = c .before .before .before .before .before .before .before .before .before .walk .ensures in ((kind-whole _ _ _ _ _ (s .pre .1) _ (s .pre .4) _ _ _ _ _ v _ _ _ (s .pre .0) (search needs), s .pre .3, kind-within _ _ _ _ _ (s .pre .1) _ (s .pre .4) _ _ _ _ _ v _ (c .before .before .before .g .given .1) (s .pre .2)), (file-new _ _, stands-new _ _ _ _ _ _ _ _ (s .pre .0) _))
 
-part-at-requires : tie.Need-part-at-requires
-part-at-requires c κs = search needs
+pass-from-requires : tie.Need-pass-from-requires
+pass-from-requires c κs = search needs
 
 same-length : tie.Need-same-length
 same-length c = search needs
@@ -33,7 +29,7 @@ same-length-2 : tie.Need-same-length-2
 same-length-2 c = search needs
 
 returns : tie.Need-returns
-returns c = walked-loose _ _ _ _ _ _ _ _ _ _ _ _ _ (kind-loose _ _ _ _ _ (c .before .before .before .before .before .before .before .before .before .before .before .before .before .before .before .before .pre .1) _ _ (c .before .before .before .before .before .before .before .before .before .before .before .before .before .before .before .before .pre .2) _ _ _ (was-loose _ _ _ _ _ _ _ _ _ _ _ _ _ (c .before .before .before .before .before .before .before .walk-old .ensures .0) (c .before .before .before .before .before .before .before .walk-old .ensures .1) _ (c .before .k .given .1)) _ refl) (c .before .before .before .before .before .before .before .walk-old .ensures .2)
+returns c = let s = c .before .before .before .before .before .before .before .before .before .before .before .before .before .before .before .before in kind-loose _ _ _ _ _ (s .pre .1) _ (s .pre .4) _ _ _ _ _ (c .before .before .before .before .before .before .before .walk .ensures) _ (c .before .k .given .1)
 
 same-length-3 : tie.Need-same-length-3
 same-length-3 c = search needs
@@ -42,17 +38,17 @@ same-length-4 : tie.Need-same-length-4
 same-length-4 c = search needs
 
 returns-2 : tie.Need-returns-2
-returns-2 c = walked-at _ _ _ _ _ _ _ _ _ _ _ _ _ (kind-on _ _ _ _ _ (c .before .before .before .before .before .before .before .before .before .before .before .before .before .before .before .before .before .before .before .before .before .before .before .before .pre .1) _ _ (c .before .before .before .before .before .before .before .before .before .before .before .before .before .before .before .before .before .before .before .before .before .before .before .before .pre .2) _ _ _ (was-went _ _ _ _ _ _ _ _ _ _ _ _ _ (c .before .before .before .before .before .before .before .before .before .before .before .before .before .before .before .walk-old .ensures .0) (c .before .before .before .before .before .before .before .before .before .before .before .before .before .before .before .walk-old .ensures .1) _ _ _ (c .before .before .before .before .before .before .before .before .before .next .given .1)) _ _ refl _ _ (c .before .before .before .before .before .walk-new .ensures .0)) _ (was-reached _ _ _ _ _ _ _ _ _ _ _ _ _ (c .before .before .before .before .before .before .before .before .before .before .before .before .before .before .before .walk-old .ensures .0) (c .before .before .before .before .before .before .before .before .before .before .before .before .before .before .before .walk-old .ensures .1) _ _ _ (c .before .before .before .before .before .before .before .before .before .next .given .1)) _ (c .part-at .ensures) (c .before .before .before .before .before .walk-new .ensures .1 ∙ c .before .before .before .before .before .before .before .before .before .before .before .before .before .before .before .walk-old .ensures .2)
+returns-2 c = let s = c .before .before .before .before .before .before .before .before .before .before .before .before .before .before .before .before .before .before .before .before .before .before .before .before in kind-on _ _ _ _ _ (s .pre .1) _ (s .pre .4) _ _ _ _ _ (c .before .before .before .before .before .before .before .before .before .before .before .before .before .before .before .walk .ensures) _ (c .before .before .before .before .before .before .before .before .before .g .given .1) _ _ _ (c .before .before .before .before .before .walk2 .ensures) _ (c .pass-from .ensures)
 
 pub walk-kind-spec : {M : Type 1} → statement M
 walk-kind-spec =
     tie.close
     (tie.spec
-    walk-old-requires
+    walk-requires
     enum-known-k
-    enum-known-next
-    walk-new-requires
-    part-at-requires
+    enum-known-g
+    walk-requires-2
+    pass-from-requires
     same-length
     same-length-2
     returns
