@@ -1,7 +1,7 @@
 -- What the fields of a modify have passed, by their tags. Assumes nothing.
 use Prim.Native.Nat.{ℕ, _*_, _%_, _≤_}
 use mathlib.Core.Path.{_≡_, refl, sym, ap, _∙_, subst}
-use mathlib.Core.Bool.{Bool, true, false, true≢false}
+use mathlib.Core.Bool.{Bool, true, false}
 use mathlib.Core.Option.{some, none}
 use mathlib.Core.List.{List, [], _∷_}
 use native.Mathlib.Omega.{arith}
@@ -34,31 +34,10 @@ use Rattle.sound.proofs.Stand.{Formed, all-formed, all-treed}
 use Rattle.sound.proofs.Records.{four-inv}
 use Rattle.sound.proofs.Changed.{tests}
 use Rattle.coords.specs.Placing.{EvenLists}
-use Rattle.version.specs.Held.{takesTree}
+use Rattle.version.proofs.RowLaws.{tree-row, place-row, point-row}
 use Rattle.acting.specs.Ready.{Has, Due}
 
 -- ---- the kinds
-
-tree-row : (k : Kind) → rowed ATTR (rowsOf k) ≡ true → takesTree k ≡ true
-unfolding rowsOf rowed takesTree
-tree-row Info e = refl
-tree-row Point e = absurd (true≢false (sym e))
-tree-row Multi e = absurd (true≢false (sym e))
-tree-row Feature e = refl
-
-place-row : (k : Kind) → rowed COCC (rowsOf k) ≡ true → takesTree k ≡ false
-unfolding rowsOf rowed takesTree
-place-row Info e = absurd (true≢false (sym e))
-place-row Point e = refl
-place-row Multi e = refl
-place-row Feature e = absurd (true≢false (sym e))
-
-point-row : (k : Kind) → rowed C2IT (rowsOf k) ≡ true → takesTree k ≡ false
-unfolding rowsOf rowed takesTree
-point-row Info e = absurd (true≢false (sym e))
-point-row Point e = refl
-point-row Multi e = refl
-point-row Feature e = absurd (true≢false (sym e))
 
 -- COCC stands once
 place-most : (k : Kind) → most COCC (rowsOf k) ≡ true

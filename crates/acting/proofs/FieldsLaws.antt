@@ -4,8 +4,7 @@ use mathlib.Core.Path.{_≡_, refl, sym, ap, _∙_, subst}
 use mathlib.Core.List.{List, _∷_}
 use native.Mathlib.Omega.{arith}
 use borrow.Author.Tests.{eq-eqb, ne-eqb, eqb-true, eqb-false}
-use lib.ListN.{length, take, drop}
-use lib.Seq.{take-take, drop-drop}
+use lib.ListN.{length}
 use lib.Dec.{eqb}
 use Rattle.base.specs.Check.{Check, ok, no, bind, fault, refuse, inField}
 use Rattle.skeleton.specs.Emit.{size, sizes}
@@ -18,6 +17,7 @@ use Rattle.skeleton.specs.declared.place.Place.{Place}
 use Rattle.skeleton.specs.declared.place.Place.the-variants.{At, Done}
 use Rattle.skeleton.proofs.PlaceLaws.{place-falls, place-runs, place-in, fields-more, fields-done}
 use Rattle.skeleton.proofs.RecordLaws.{right}
+use Rattle.skeleton.proofs.BetweenLaws.{length-between, between-between}
 use Rattle.fields.specs.Valid.{Bytes}
 use Rattle.rules.specs.Tags.{ATTR, INAS, SPAS, COCC, C2IT}
 use Rattle.rules.specs.ByTag.{withTag}
@@ -28,8 +28,6 @@ use Rattle.rules.specs.Written.{fieldAs}
 use Rattle.rules.specs.declared.Kind.{Kind}
 use Rattle.sequence.specs.Keyed.{Each}
 use Rattle.sequence.proofs.Tests.{by-bool}
-use Rattle.cells.proofs.FrontLaws.{drop-take}
-use Rattle.cells.proofs.TupleLaws.{length-between}
 use Rattle.stock.proofs.FilledLaws.{record-filled, record-short}
 use Rattle.version.specs.Held.{HeldParts}
 use Rattle.version.specs.Present.{FlagsKept}
@@ -69,16 +67,6 @@ acts-not d u new t b w v na ni nc np ns =
     }
 
 -- ---- the loop
-
--- a part of a part
-part-of : (b : List ℕ) (at len start end : ℕ) → end ≤ len → between (between b at (at + len)) start end ≡ between b (at + start) (at + end)
-part-of b at len start end l =
-    let m : ℕ = at + len - at in
-    let same : at + end - (at + start) ≡ end - start = omega arith in
-    ap (take (end - start)) (drop-take start m (drop at b))
-    ∙ take-take (end - start) (m - start) (drop start (drop at b)) (omega arith)
-    ∙ ap (take (end - start)) (drop-drop start at b)
-    ∙ ap (λ (n : ℕ). take n (drop (at + start) b)) (sym same)
 
 -- the fields before q, which is number i, have acted on version v of workspace w, and it is version e of workspace o
 pub record Going (d u : List ℕ) (at len : ℕ) (h : Shape) (w : List ℕ) (v : Version) (o : List ℕ) (q i : ℕ) (e : Version) : Type 0 where
@@ -216,7 +204,7 @@ module _ (d u : List ℕ) (at len : ℕ) (h : Shape) (w : List ℕ) (v : Version
       rest = fieldsAt rs h next
 
       fields-are : fieldsAt rs h q ≡ here ∷ rest
-      fields-are = fields-more rs h q x en tag start end next y ∙ ap (λ (body : List ℕ). fieldAs tag body ∷ rest) (part-of u at len start end within)
+      fields-are = fields-more rs h q x en tag start end next y ∙ ap (λ (body : List ℕ). fieldAs tag body ∷ rest) (between-between u at len start end within)
 
       due-here : Due (v .kind) here × Each (Due (v .kind)) rest
       unfolding Each

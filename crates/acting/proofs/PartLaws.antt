@@ -4,12 +4,11 @@ use mathlib.Core.Path.{_≡_, refl, sym, ap, _∙_, subst}
 use mathlib.Core.Bool.{true, false, true≢false}
 use mathlib.Core.List.{List, [], _∷_, _++_, append-nil}
 use native.Mathlib.Omega.{arith}
-use borrow.Author.Tests.{eqb-true, leb-true}
+use borrow.Author.Tests.{eqb-true}
 use lib.ListN.{length, getD, take, drop, length-take}
-use lib.Dec.{eqb, leb}
+use lib.Dec.{eqb}
 use Rattle.base.specs.Check.{Check, ok, bind, refuse, pass, passed}
 use Rattle.base.specs.Lists.{each}
-use Rattle.base.proofs.ChoiceLaws.{both-hold}
 use Rattle.skeleton.specs.Emit.{size, sizes}
 use Rattle.skeleton.specs.File.{Field}
 use Rattle.skeleton.specs.Place.{between, fieldsAt}
@@ -18,15 +17,16 @@ use Rattle.skeleton.specs.Shape.{Bounded}
 use Rattle.skeleton.specs.declared.directory.Shape.{Shape}
 use Rattle.skeleton.proofs.ReadLaws.{bytes-between}
 use Rattle.skeleton.proofs.RecordLaws.{right}
+use Rattle.skeleton.proofs.BetweenLaws.{length-between}
 use Rattle.fields.specs.Bytes.{le}
 use Rattle.fields.specs.Table.{headOf, tupleOf}
 use Rattle.fields.specs.Values.{values, numAt}
 use Rattle.fields.specs.Content.{fill, many}
 use Rattle.fields.specs.Valid.{Bytes, allows}
-use Rattle.fields.specs.Sizes.{inRange}
 use Rattle.fields.specs.declared.Format.the-variants.{Attr, Spas, Cocc, C2it}
 use Rattle.fields.proofs.FieldLaws.{head-length}
 use Rattle.fields.proofs.ValueLaws.{head-number, head-allowed}
+use Rattle.fields.proofs.SizeLaws.{in-range}
 use Rattle.forest.specs.Forest.{Forest}
 use Rattle.rules.specs.Tags.{ATTR, INAS, SPAS, COCC, C2IT}
 use Rattle.rules.specs.Place.{placed, Place as Edit}
@@ -37,6 +37,7 @@ use Rattle.rules.specs.Associations.{inasKey}
 use Rattle.rules.specs.Record.{Parts, Assoc, Spatial, assocOf}
 use Rattle.rules.specs.Modify.{withAttributes, withAssociations, withCoordinates, withSpatial, actAttr, actInas, actSpas, actField}
 use Rattle.rules.specs.Written.{fieldAs}
+use Rattle.rules.proofs.CoordinateLaws.{coords-count}
 use Rattle.cells.specs.Cells.{bodiesOf, spatialIn}
 use Rattle.cells.specs.Keys.{Every, InasBody, SpasBody}
 use Rattle.cells.specs.Acts.{InasNow, InasActs, SpasNow, SpasActs}
@@ -45,12 +46,10 @@ use Rattle.cells.specs.declared.acting.Acted.the-variants.{Refused as Unfit, No
 use Rattle.cells.proofs.FindLaws.{bodies-bytes}
 use Rattle.cells.proofs.InasLaws.{inas-bytes}
 use Rattle.cells.proofs.LiftLaws.{acted-every}
-use Rattle.cells.proofs.TupleLaws.{length-between}
 use Rattle.coords.specs.Tuples.{tuplesOf}
 use Rattle.coords.specs.Placing.{EvenLists, PlacedAs}
 use Rattle.coords.specs.declared.placing.Placed.{Placed}
 use Rattle.coords.specs.declared.placing.Placed.the-variants.{Refused as Outside, Now as Inside}
-use Rattle.coords.proofs.TupleLaws.{coords-count}
 use Rattle.edits.specs.Applied.{Outcome, Applied}
 use Rattle.edits.specs.declared.Edited.{Edited}
 use Rattle.edits.specs.declared.Edited.the-variants.{Refused as Uneditable, Done}
@@ -59,12 +58,13 @@ use Rattle.version.specs.Held.{All, RightInas, RightSpas, takesTree, HeldParts}
 use Rattle.version.specs.Present.{FlagsKept}
 use Rattle.version.specs.declared.Version.{Version}
 use Rattle.version.proofs.AreaLaws.{lent, length-lent, lent-behind}
+use Rattle.version.proofs.BodyLaws.{spas-every, spas-all, every-all, all-every}
 use Rattle.acting.specs.Ready.{Ready, Sending, Placing}
 use Rattle.acting.specs.Acted.{Holding, PartActs, FieldActs, changed, editAt, attrPart, inasPart, coccPart, spasPart}
 use Rattle.acting.specs.declared.part.Part.{Part}
 use Rattle.acting.specs.declared.part.Part.the-variants.{Wrong, Right}
 use Rattle.acting.proofs.WideLaws.{attr-area, inas-area, spas-area}
-use Rattle.acting.proofs.VersionLaws.{inas-every, spas-every, every-all, all-every, spas-all, same-ident, with-items, with-tuples, with-inas, with-spas}
+use Rattle.acting.proofs.VersionLaws.{inas-every, same-ident, with-items, with-tuples, with-inas, with-spas}
 
 -- ---- the rules' acts by tag
 
@@ -322,9 +322,6 @@ sending-inside u at len h t = right u at (recordAt u at) refl len (h .base) (h .
 pub sending-word : (u : List ℕ) (at len : ℕ) (h : Shape) → Sending u at len h → length u ≤ 16777216 → at + len < 2 ^ 64
 sending-word u at len h t l = omega (arith, sending-inside u at len h t)
 
-in-range : (lo hi n : ℕ) → inRange lo hi n ≡ true → (lo ≤ n) × (n ≤ hi)
-in-range lo hi n e = let a = both-hold (leb lo n) _ e in (leb-true lo n (a .0), leb-true n hi (a .1))
-
 module _ (u w : List ℕ) (v : Version) (from to : ℕ) (r : Ready u w v COCC from to) where
   abbrev coccBody : List ℕ
   coccBody = between u from to
@@ -478,7 +475,7 @@ module _ (d u w : List ℕ) (v : Version) (from to : ℕ) (r : Ready u w v SPAS 
         let room = r .rooms .spas in
         let full : 7 * m ≤ 94000 = omega (arith, spas-long) in
         let ss : List Spatial = each spatialIn (bodiesOf d u ys m) in
-        let all : All RightSpas (bodiesOf d u ys m) = spas-all (bodiesOf d u ys m) (a .right) (bodies-bytes d u ys gd gu m 0) in (
+        let all : All RightSpas (bodiesOf d u ys m) = spas-all (bodiesOf d u ys m) (a .right) (every-all Bytes (bodiesOf d u ys m) (bodies-bytes d u ys gd gu m 0)) in (
           λ new. record {
             held = λ p h. (
               withSpatial ss p,

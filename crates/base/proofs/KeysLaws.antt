@@ -32,3 +32,11 @@ same-sym a b h = go (same b a) refl
     go : (t : Bool) → same b a ≡ t → t ≡ false
     go false e = refl
     go true e = sym (same-refl a) ∙ ap (same a) (sym (same-sound b a e)) ∙ h
+
+-- two keys are the same either way round
+pub same-comm : (a b : List ℕ) → same a b ≡ same b a
+same-comm a b = go (same a b) refl
+  where
+    go : (t : Bool) → same a b ≡ t → t ≡ same b a
+    go true e = sym (ap (λ (k : List ℕ). same b k) (same-sound a b e) ∙ same-refl b)
+    go false e = sym (same-sym a b e)

@@ -1,4 +1,5 @@
 pub mod ChoiceLaws
 pub mod CheckLaws
+pub mod ListLaws
 pub mod KeysLaws
 pub mod WalkLaws

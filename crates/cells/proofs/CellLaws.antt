@@ -1,5 +1,5 @@
 -- Laws of cells: bodies one by one and in a row, and what a store or a removal makes of them. Assumes nothing.
-use Prim.Native.Nat.{ℕ, zero, suc, _+_, _-_, _*_, _/_, _%_, _≤_, _<_}
+use Prim.Native.Nat.{ℕ, zero, suc, _+_, _-_, _*_, _≤_, _<_}
 use mathlib.Core.Path.{_≡_, refl, ap, _∙_}
 use mathlib.Core.List.{List, [], _∷_, _++_}
 use native.Mathlib.Nat.{add-zero, zero-add, suc-add}
@@ -91,9 +91,6 @@ module _ (d u c e : List ℕ) where
       rw (body-same i j (λ k l. h k (omega arith)), bodies-same m (i + 1) (j + 1) later)
 
 -- ---- a cell that is stored
-
-three : (x : ℕ) → x < 16777216 → x % 256 + 256 * (x / 256 % 256) + 65536 * (x / 65536 % 256) ≡ x
-three x h = omega arith
 
 module _ (d u c : List ℕ) (i at x n : ℕ) (room : 7 * i + 7 ≤ length c) where
   abbrev new : List ℕ

@@ -13,6 +13,7 @@ use Rattle.base.specs.Choice.{pick}
 use Rattle.base.specs.Check.{ok, bind, refuse}
 use Rattle.base.specs.Keys.{same, among, leave}
 use Rattle.base.specs.Lists.{each}
+use Rattle.base.proofs.KeysLaws.{same-comm}
 use Rattle.fields.specs.Valid.{Bytes}
 use Rattle.fields.proofs.ByteLaws.{bytes-drop}
 use Rattle.fields.proofs.TupleLaws.{split}
@@ -20,7 +21,7 @@ use Rattle.items.specs.Items.{source}
 use Rattle.cells.specs.Cells.{u24, startOf, sliceOf, sizeOf, bodyAt, bodiesFrom}
 use Rattle.cells.specs.Keys.{keyIn, keySize, firstWith, Every, Long}
 use Rattle.cells.proofs.CellLaws.{bodies-more}
-use Rattle.cells.proofs.KeyLaws.{key-part, key-least, same-comm}
+use Rattle.cells.proofs.KeyLaws.{key-part, key-least}
 
 -- ---- each of some bodies
 

@@ -1,17 +1,16 @@
 -- Subfields that are numbers stand in the front of some bytes as they stand in the bytes; and the last of them with a narrower range.
 -- Assumes nothing.
-use Prim.Native.Nat.{ℕ, zero, suc, _+_, _-_, _≤_, _<_}
+use Prim.Native.Nat.{ℕ, suc, _+_, _-_, _≤_, _<_}
 use mathlib.Core.Path.{_≡_, refl, sym, ap, ap₂, _∙_}
 use mathlib.Core.Bool.{true}
 use mathlib.Core.Option.{some}
 use mathlib.Core.List.{List, [], _∷_, _++_}
-use native.Mathlib.Nat.{sub-zero, zero-sub, suc-sub-suc}
 use native.Mathlib.Omega.{arith}
 use borrow.Author.Tests.{le-leb}
 use lib.ListN.{length, take, drop, length-take, length-drop}
-use lib.Seq.{take-nil}
 use Rattle.base.specs.Walk.{Got, before}
 use Rattle.base.proofs.ChoiceLaws.{both-hold}
+use Rattle.base.proofs.ListLaws.{drop-take}
 use Rattle.fields.specs.Bytes.{le}
 use Rattle.fields.specs.Table.{link, insert}
 use Rattle.fields.specs.Sizes.{inRange, numSize, size, sizes}
@@ -27,12 +26,6 @@ use Rattle.fields.proofs.ValueLaws.{num-value, values-first}
 use Rattle.cells.proofs.KeyLaws.{le-take}
 
 -- ---- the front of some bytes
-
-pub drop-take : (k m : ℕ) (l : List ℕ) → drop k (take m l) ≡ take (m - k) (drop k l)
-drop-take zero m l = rw sub-zero
-drop-take (suc k) zero l = rw zero-sub
-drop-take (suc k) (suc m) [] = rw take-nil
-drop-take (suc k) (suc m) (x ∷ l) = rw suc-sub-suc (drop-take k m l)
 
 -- one number
 size-front : (d : Sub) (l : List ℕ) (n m : ℕ) → isNum d ≡ true → size d l ≡ some n → n ≤ m → (size d (take m l) ≡ some n) × (value d (take m l) ≡ value d l)

@@ -1,6 +1,6 @@
 -- Laws of the keys that bodies begin with. Assumes nothing.
 use Prim.Native.Nat.{ℕ, zero, suc, _+_, _*_, _≤_}
-use mathlib.Core.Path.{_≡_, refl, sym, ap, _∙_}
+use mathlib.Core.Path.{_≡_, refl, ap}
 use mathlib.Core.Bool.{Bool, true, false, not}
 use mathlib.Core.List.{List, [], _∷_}
 use native.Mathlib.Nat.{not-suc-le-zero, le-of-suc-le-suc}
@@ -11,7 +11,6 @@ use lib.Seq.{drop-drop}
 use lib.Dec.{eqb}
 use Rattle.base.specs.Choice.{both}
 use Rattle.base.specs.Keys.{same}
-use Rattle.base.proofs.KeysLaws.{same-sound, same-refl, same-sym}
 use Rattle.fields.specs.Bytes.{le}
 use Rattle.cells.specs.Keys.{keyIn, keySize}
 
@@ -107,12 +106,3 @@ pub ruleset key-ways = (
   fourth-there,
   arith,
 )
-
--- ---- two keys
-
-pub same-comm : (a b : List ℕ) → same a b ≡ same b a
-same-comm a b = go (same a b) refl
-  where
-    go : (t : Bool) → same a b ≡ t → t ≡ same b a
-    go true e = sym (ap (λ (k : List ℕ). same b k) (same-sound a b e) ∙ same-refl b)
-    go false e = sym (same-sym a b e)

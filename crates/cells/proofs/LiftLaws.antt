@@ -9,6 +9,7 @@ use Rattle.base.specs.Check.{Check, ok, no, bind, refuse}
 use Rattle.base.specs.Keys.{same, among, join, leave}
 use Rattle.base.specs.Lists.{each}
 use Rattle.base.proofs.CheckLaws.{bind-inv, ok-inj}
+use Rattle.base.proofs.ListLaws.{each-append, each-each}
 use Rattle.cells.specs.Keys.{Every}
 use Rattle.cells.specs.Acts.{actOn, Acts}
 use Rattle.cells.specs.declared.acting.Acted.{Acted}
@@ -47,24 +48,14 @@ module _ (key other : List ℕ → List ℕ) (j : ℕ) where
 
 -- ---- things made of bodies
 
-pub each-append : {A : Type 0} (f : List ℕ → A) (bs cs : List (List ℕ)) → each f (bs ++ cs) ≡ each f bs ++ each f cs
-unfolding each
-each-append f [] cs = refl
-each-append f (b ∷ bs) cs = rw (each-append f bs cs)
-
 module _ {A : Type 0} (f : List ℕ → A) (key : A → List ℕ) (j : ℕ) where
   -- what f makes of each, where there is a result
   abbrev made : Check (List (List ℕ)) → Check (List A)
   made x = bind x (λ ys. ok (each f ys))
 
-  each-each : (bs : List (List ℕ)) → each key (each f bs) ≡ each (λ (b : List ℕ). key (f b)) bs
-  unfolding each
-  each-each [] = refl
-  each-each (b ∷ bs) = ap (λ (ks : List (List ℕ)). key (f b) ∷ ks) (each-each bs)
-
   join-each : (b : List ℕ) (bs : List (List ℕ)) → join key j (f b) (each f bs) ≡ made (join (λ (x : List ℕ). key (f x)) j b bs)
   unfolding join bind each
-  join-each b bs = rw (each-each bs) (go (among (key (f b)) (each (λ (x : List ℕ). key (f x)) bs)))
+  join-each b bs = rw (each-each key f bs) (go (among (key (f b)) (each (λ (x : List ℕ). key (f x)) bs)))
     where
       go : (t : Bool) → pick t (refuse 7 j) (ok (each f bs ++ (f b ∷ []))) ≡ made (pick t (refuse 7 j) (ok (bs ++ (b ∷ []))))
       go true = refl

@@ -7,6 +7,7 @@ use native.Mathlib.Omega.{arith}
 use lib.ListN.{length}
 use lib.Seq.{take-add, drop-drop}
 use Rattle.base.specs.Lists.{each, gather}
+use Rattle.base.proofs.ListLaws.{each-append}
 use Rattle.skeleton.specs.Place.{between}
 use Rattle.fields.specs.Table.{headOf, tupleOf}
 use Rattle.fields.specs.Content.{tuples, many, fill}
@@ -20,7 +21,6 @@ use Rattle.cells.specs.Cells.{bodiesOf, spatialIn, tupleBodies}
 use Rattle.cells.specs.Keys.{Every, SpasBody}
 use Rattle.cells.specs.Acts.{SpasLoaded}
 use Rattle.cells.proofs.FindLaws.{every-append}
-use Rattle.cells.proofs.LiftLaws.{each-append}
 use Rattle.cells.proofs.TupleLaws.{step, step-fill, no-tuple}
 
 -- ---- tuples one after the other

@@ -13,6 +13,7 @@ use Rattle.base.specs.Check.{Check, ok, bind}
 use Rattle.base.specs.Keys.{join, leave}
 use Rattle.base.specs.Lists.{each}
 use Rattle.skeleton.specs.Place.{between}
+use Rattle.skeleton.proofs.BetweenLaws.{length-between}
 use Rattle.fields.specs.Bytes.{le}
 use Rattle.fields.specs.Table.{headOf, tupleOf}
 use Rattle.fields.specs.Values.{values, numAt}
@@ -38,7 +39,7 @@ use Rattle.cells.specs.declared.acting.Acted.the-variants.{Refused, Now}
 use Rattle.cells.proofs.FindLaws.{every-map}
 use Rattle.cells.proofs.LiftLaws.{joins-by, leaves-by, act-each, acted-every}
 use Rattle.cells.proofs.FrontLaws.{last-insert, one-tuple}
-use Rattle.cells.proofs.TupleLaws.{Step, length-between, step, step-fill, no-tuple}
+use Rattle.cells.proofs.TupleLaws.{Step, step, step-fill, no-tuple}
 
 -- ---- one tuple
 

@@ -5,10 +5,12 @@ use mathlib.Core.Bool.{true}
 use mathlib.Core.Option.{some}
 use mathlib.Core.List.{List, [], _∷_}
 use native.Mathlib.Omega.{arith}
-use lib.ListN.{length, take, drop, length-take, length-drop}
+use lib.ListN.{length, take, drop, length-take}
 use lib.Seq.{take-take, drop-drop}
 use Rattle.base.specs.Walk.{Got}
+use Rattle.base.proofs.ListLaws.{drop-take}
 use Rattle.skeleton.specs.Place.{between}
+use Rattle.skeleton.proofs.BetweenLaws.{length-between}
 use Rattle.fields.specs.Table.{headOf, tupleOf}
 use Rattle.fields.specs.Sizes.{sizes}
 use Rattle.fields.specs.Values.{Val, values}
@@ -18,10 +20,7 @@ use Rattle.fields.specs.declared.Sub.{Sub}
 use Rattle.fields.proofs.SizeLaws.{allNum, widths, num-widths, sizes-bound}
 use Rattle.fields.proofs.TupleLaws.{tuples-end, first-tuple}
 use Rattle.fields.proofs.EvenLaws.{fill-even}
-use Rattle.cells.proofs.FrontLaws.{drop-take, sizes-front, one-tuple}
-
-pub length-between : (s : List ℕ) (p end : ℕ) → end ≤ length s → length (between s p end) ≡ end - p
-length-between s p end h = let x = length-take (end - p) (drop p s) in let y = length-drop p s in omega arith
+use Rattle.cells.proofs.FrontLaws.{sizes-front, one-tuple}
 
 -- the first of some tuples from p to end, and the others
 pub record Step (t : List Sub) (s : List ℕ) (p end : ℕ) : Type 0 where

@@ -10,6 +10,7 @@ use lib.ListN.{length, take, drop, length-take, length-drop}
 use Rattle.base.specs.Choice.{both}
 use Rattle.base.specs.Keys.{same}
 use Rattle.base.specs.Lists.{gather}
+use Rattle.base.proofs.ChoiceLaws.{both-true}
 use Rattle.skeleton.specs.Place.{between}
 use Rattle.fields.specs.Bytes.{le}
 use Rattle.fields.specs.Table.{headOf}
@@ -40,10 +41,6 @@ unfolding foidOf
 foid-says b e = let (x, y, z) = foid-numbers b e in rw (x, y, z) refl
 
 -- ---- `equal_foids`
-
-both-true : (t : Bool) → both t true ≡ t
-both-true true = refl
-both-true false = refl
 
 module _ (a b : List ℕ) (pre : (fill (headOf Foid) [] a ≡ true) × (fill (headOf Foid) [] b ≡ true)) where
   pub equal-room-a : length a ≡ 8

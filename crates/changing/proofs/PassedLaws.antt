@@ -5,12 +5,9 @@ use mathlib.Core.Bool.{Bool, true}
 use mathlib.Core.Option.{none}
 use mathlib.Core.List.{List, [], _∷_}
 use native.Mathlib.Omega.{arith}
-use borrow.Author.Tests.{leb-true}
-use lib.Dec.{leb}
 use lib.ListN.{length}
 use Rattle.base.specs.Check.{ok, pass}
 use Rattle.base.proofs.CheckLaws.{bind-inv}
-use Rattle.base.proofs.ChoiceLaws.{both-hold}
 use Rattle.skeleton.specs.File.{Field}
 use Rattle.skeleton.specs.Place.{between, placeAt, fieldsAt}
 use Rattle.skeleton.specs.Record.{recordAt}
@@ -21,12 +18,12 @@ use Rattle.skeleton.specs.declared.place.Place.{Place}
 use Rattle.skeleton.specs.declared.place.Place.the-variants.{At, Done}
 use Rattle.skeleton.proofs.PlaceLaws.{place-runs, place-in, fields-more, fields-done}
 use Rattle.skeleton.proofs.RecordLaws.{right}
-use Rattle.fields.specs.Sizes.{inRange}
 use Rattle.fields.specs.Table.{headOf, tupleOf}
 use Rattle.fields.specs.Valid.{allows}
 use Rattle.fields.specs.Values.{values, numAt}
 use Rattle.fields.specs.declared.Format.the-variants.{Irid, Prid, Mrid, Frid}
 use Rattle.fields.proofs.ValueLaws.{head-allowed}
+use Rattle.fields.proofs.SizeLaws.{in-range}
 use Rattle.rules.specs.Tags.{FOID}
 use Rattle.rules.specs.ByTag.{front, firstTag}
 use Rattle.rules.specs.Kind.{kindOf, coded}
@@ -37,11 +34,12 @@ use Rattle.rules.specs.Written.{fieldAs}
 use Rattle.rules.specs.declared.Kind.{Kind}
 use Rattle.rules.specs.declared.Kind.the-variants.{Info, Point, Multi, Feature}
 use Rattle.rules.specs.declared.Mode.the-variants.{InUpdate}
+use Rattle.rules.proofs.FilledLaws.{stands-fill}
 use Rattle.sequence.specs.Keyed.{Each}
 use Rattle.sequence.proofs.Tests.{refused, never}
 use Rattle.updates.proofs.ReadEach.{passes-kind}
 use Rattle.sound.proofs.Lists.{each-map}
-use Rattle.sound.proofs.Stand.{Has, Formed, stands-fill, all-formed}
+use Rattle.sound.proofs.Stand.{Has, Formed, all-formed}
 use Rattle.sound.proofs.Records.{ruin-byte}
 use Rattle.sound.proofs.Changed.{tests}
 use Rattle.contents.specs.Fit.{identified}
@@ -73,7 +71,7 @@ fronted k f fs e =
     let new = asStored InUpdate (ruinByte k (f .body)) in
     let (v, all, counted) = bind-inv (allStand new 2 fs) _ tt more in
     record {
-      ident = stands-fill 1 (identFormat (insertOnly InUpdate) k) (f .body) ident;
+      ident = stands-fill 1 (identFormat (insertOnly InUpdate) k) (f .body) tt ident;
       foids = (ident-other k f fs e, each-map fs (formed-foid new) (all-formed new 2 fs all));
     }
 
@@ -93,9 +91,6 @@ passed-ident k [] e = none-passed k e
 passed-ident k (f ∷ fs) e = fronted k f fs e .ident
 
 -- ---- RUIN
-
-in-range : (lo hi v : ℕ) → inRange lo hi v ≡ true → (lo ≤ v) × (v ≤ hi)
-in-range lo hi v e = let (a, b) = both-hold (leb lo v) (leb v hi) e in (leb-true lo v a, leb-true v hi b)
 
 ruin-range : (k : Kind) (b : List ℕ) → identified k b ≡ true → (1 ≤ (identOf k b) .ruin) × ((identOf k b) .ruin ≤ 3)
 unfolding identified identOf identFormat headOf coded allows

@@ -4,8 +4,6 @@ use mathlib.Core.Path.{_≡_, refl, sym, ap, _∙_, subst}
 use mathlib.Core.Option.{Option, some as there}
 use mathlib.Core.List.{List}
 use native.Mathlib.Omega.{arith}
-use lib.Dec.{eqb}
-use Rattle.base.specs.Choice.{pick}
 use Rattle.base.specs.Check.{ok, bind, pass}
 use Rattle.base.specs.Lists.{gather}
 use Rattle.skeleton.specs.File.{Field}
@@ -14,15 +12,14 @@ use Rattle.skeleton.specs.declared.directory.Shape.{Shape}
 use Rattle.rules.specs.ByTag.{front}
 use Rattle.rules.specs.Grammar.{ruinByte}
 use Rattle.rules.specs.Coordinates.{sent}
-use Rattle.rules.specs.Record.{Rec, Parts, foidOf, keyOf, keyNamed, updateRecord}
+use Rattle.rules.specs.Record.{Rec, Parts, foidOf, keyNamed, updateRecord}
 use Rattle.rules.specs.Modify.{actFields}
 use Rattle.rules.specs.Change.{fitting, revised}
 use Rattle.rules.specs.Written.{writtenFields, number12}
-use Rattle.rules.specs.Kind.{rcnm}
 use Rattle.rules.specs.declared.Kind.{Kind}
-use Rattle.rules.specs.declared.Kind.the-variants.{Info, Point, Multi, Feature}
 use Rattle.sequence.specs.Keyed.{Under}
 use Rattle.updates.specs.Acts.{chart}
+use Rattle.sound.proofs.Changed.{key-names}
 use Rattle.emission.proofs.SmallLaws.{small-attr, small-inas, small-coord, small-spas}
 use Rattle.version.specs.Held.{All, RightFoid, foidBodies, HeldParts, Held}
 use Rattle.version.specs.Present.{HeldAs, ChangedTo}
@@ -106,24 +103,6 @@ module _ (d u w : List ℕ) (v : Version) (fs : List Field) (o : List ℕ) (a : 
     unfolding reworked bind
     revise-made c f r h = let (q, x, y) = made r h in rw x (f (revised rver q r) y)
 
--- ---- the kind of a record by its key
-
-kindBack : ℕ → Kind
-kindBack n = pick (eqb n 150) Info (pick (eqb n 110) Point (pick (eqb n 115) Multi Feature))
-
-kind-back : (k : Kind) → kindBack (rcnm k) ≡ k
-unfolding rcnm kindBack
-kind-back Info = refl
-kind-back Point = refl
-kind-back Multi = refl
-kind-back Feature = refl
-
-key-kind : (old : Rec) (k : Kind) (fs : List Field) → keyOf old ≡ keyNamed k fs → old .kind ≡ k
-unfolding keyOf keyNamed
-key-kind old k fs e =
-    let a : rcnm (old .kind) ≡ rcnm k = cc in
-    sym (kind-back (old .kind)) ∙ ap kindBack a ∙ kind-back k
-
 -- ---- what `modify` stands on
 
 module _ (d u w : List ℕ) (at len : ℕ) (h : Shape) (k : Kind) (s : Said) (p : Present) (v : Version)
@@ -144,7 +123,7 @@ module _ (d u w : List ℕ) (at len : ℕ) (h : Shape) (k : Kind) (s : Said) (p 
   kind-is : k ≡ v .kind
   kind-is =
       let named : Under chart (keyNamed k fs) (there (stands .old)) = subst (Under chart (keyNamed k fs)) (stands .is) (some .2) in
-      sym (stands .held .kind ∙ key-kind (stands .old) k fs named)
+      sym (stands .held .kind ∙ key-names (stands .old) k fs named .0)
 
   pub modify-modifies : Modifies u at len h v
   modify-modifies =

@@ -6,8 +6,7 @@ use mathlib.Core.List.{List, [], _∷_}
 use native.Mathlib.Omega.{arith}
 use borrow.Author.Tests.{eq-eqb, ne-eqb}
 use lib.Dec.{eqb}
-use lib.ListN.{length, take, drop}
-use lib.Seq.{take-take, drop-drop}
+use lib.ListN.{length}
 use Rattle.base.specs.Choice.{pick}
 use Rattle.base.specs.Check.{Passed, pass, no, fault}
 use Rattle.base.specs.Keys.{same}
@@ -22,15 +21,14 @@ use Rattle.skeleton.specs.declared.place.Place.{Place}
 use Rattle.skeleton.specs.declared.place.Place.the-variants.{At, Done}
 use Rattle.skeleton.proofs.PlaceLaws.{place-falls, place-runs, place-in, fields-more, fields-done}
 use Rattle.skeleton.proofs.RecordLaws.{right}
+use Rattle.skeleton.proofs.BetweenLaws.{length-between, between-between}
 use Rattle.rules.specs.Tags.{FOID}
 use Rattle.rules.specs.Record.{Rec, foidOf}
 use Rattle.rules.specs.Change.{sameFoid}
 use Rattle.rules.specs.Written.{fieldAs}
 use Rattle.sequence.specs.Keyed.{Each}
-use Rattle.cells.proofs.TupleLaws.{length-between}
 use Rattle.version.specs.Held.{All, RightFoid, foidBodies}
 use Rattle.version.specs.declared.Version.{Version}
-use Rattle.cells.proofs.FrontLaws.{drop-take}
 use Rattle.changing.specs.Foids.{FoidFilled, agreeing, sameFrom}
 use Rattle.changing.specs.declared.foid.Foids.{Foids}
 use Rattle.changing.specs.declared.foid.Foids.the-variants.{Same, Other}
@@ -61,16 +59,6 @@ module _ (old : List ℕ) (tag : ℕ) (b : List ℕ) where
   pub agrees-other : (tag ≡ FOID → ⊥) → true ≡ agreeing old (fieldAs tag b)
   unfolding agreeing
   agrees-other n = rw (ne-eqb tag FOID n) refl
-
--- a part of a part
-part-of : (b : List ℕ) (at len start end : ℕ) → end ≤ len → between (between b at (at + len)) start end ≡ between b (at + start) (at + end)
-part-of b at len start end l =
-    let m : ℕ = at + len - at in
-    let same : at + end - (at + start) ≡ end - start = omega arith in
-    ap (take (end - start)) (drop-take start m (drop at b))
-    ∙ take-take (end - start) (m - start) (drop start (drop at b)) (omega arith)
-    ∙ ap (take (end - start)) (drop-drop start at b)
-    ∙ ap (λ (n : ℕ). take n (drop (at + start) b)) (sym same)
 
 -- ---- the loop
 
@@ -139,7 +127,7 @@ module _ (d u : List ℕ) (at len : ℕ) (h : Shape) (v : Version) (q i : ℕ) (
       rest = fieldsAt rs h next
 
       fields-are : fieldsAt rs h q ≡ here ∷ rest
-      fields-are = fields-more rs h q e en tag start end next y ∙ ap (λ (body : List ℕ). fieldAs tag body ∷ rest) (part-of u at len start end within)
+      fields-are = fields-more rs h q e en tag start end next y ∙ ap (λ (body : List ℕ). fieldAs tag body ∷ rest) (between-between u at len start end within)
 
       foids-here : FoidFilled here × Each FoidFilled rest
       unfolding Each

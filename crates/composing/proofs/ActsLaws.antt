@@ -9,6 +9,7 @@ use lib.ListN.{length, getD}
 use lib.Dec.{eqb}
 use Rattle.base.specs.Choice.{pick, both, either}
 use Rattle.base.specs.Walk.{Got}
+use Rattle.base.proofs.ChoiceLaws.{either-false}
 use Rattle.skeleton.specs.File.{Field, recordsFrom}
 use Rattle.skeleton.specs.Place.{between, placeAt, fieldsAt}
 use Rattle.skeleton.specs.Record.{recordAt, statedAt}
@@ -26,51 +27,28 @@ use Rattle.rules.specs.ByTag.{front}
 use Rattle.rules.specs.Kind.{coded}
 use Rattle.rules.specs.Grammar.{ruinByte}
 use Rattle.rules.specs.declared.Kind.{Kind}
-use Rattle.rules.specs.declared.Kind.the-variants.{Info, Point, Multi, Feature}
-use Rattle.keys.specs.Key.{keyAt}
+use Rattle.keys.specs.Key.{keyAt, kindRanked}
 use Rattle.keys.specs.Listed.{keyOf, keysFrom, listed, hasFrom}
 use Rattle.keys.specs.Look.{Sound}
 use Rattle.keys.proofs.FirstLaws.{first-key}
 use Rattle.keys.proofs.ListLaws.{not-first, not-later}
 use Rattle.keys.proofs.LookLaws.{keys-good, look-word, look-fits}
 use Rattle.keys.proofs.SoundLaws.{sound-in, sound-small}
-use Rattle.composing.specs.Acts.{kindAt, ruinWith, fateOf, deletedOf, fateFrom, deletedFrom}
+use Rattle.composing.specs.Acts.{ruinWith, fateOf, deletedOf, fateFrom, deletedFrom}
 
 -- ---- one update record
-
--- the kind with rank r
-module _ (r : ℕ) where
-  pub kind-one : r ≡ 1 → Info ≡ kindAt r
-  unfolding kindAt
-  kind-one e = rw e
-
-  module _ (a : r ≡ 1 → ⊥) where
-    pub kind-two : r ≡ 2 → Point ≡ kindAt r
-    unfolding kindAt
-    kind-two e = rw e
-
-    module _ (b : r ≡ 2 → ⊥) where
-      pub kind-three : r ≡ 3 → Multi ≡ kindAt r
-      unfolding kindAt
-      kind-three e = rw e
-
-      pub kind-four : (r ≡ 3 → ⊥) → Feature ≡ kindAt r
-      unfolding kindAt
-      kind-four c = rw (ne-eqb r 1 a, ne-eqb r 2 b, ne-eqb r 3 c)
-
-pub ruleset kind-ways = (kind-one, kind-two, kind-three, kind-four, arith)
 
 -- RUIN
 module _ (r : List ℕ) (h : Shape) (key : ℕ) (e : Place) (en : e ≡ placeAt r h 24) where
   pub ruin-none : e ≡ Done → 0 ≡ ruinWith key (fieldsAt r h 24)
   unfolding ruinWith front ruinByte
-  ruin-none x = rw (fields-done r h 24 e en x) (go (coded (kindAt (key / 4294967296))))
+  ruin-none x = rw (fields-done r h 24 e en x) (go (coded (kindRanked (key / 4294967296))))
     where
       go : (c : Bool) → _≡_ {A = ℕ} 0 (pick c (getD [] 9 0) (getD [] 7 0))
       go true = refl
       go false = refl
 
-  pub ruin-there : (tag start end next : ℕ) → e ≡ At tag start end next → (k : Kind) → k ≡ kindAt (key / 4294967296) → (n : ℕ) → n ≡ ruinByte k (between r start end)
+  pub ruin-there : (tag start end next : ℕ) → e ≡ At tag start end next → (k : Kind) → k ≡ kindRanked (key / 4294967296) → (n : ℕ) → n ≡ ruinByte k (between r start end)
       → n ≡ ruinWith key (fieldsAt r h 24)
   unfolding ruinWith front
   ruin-there tag start end next x k ek n y = rw (fields-more r h 24 e en tag start end next x, ← ek) y
@@ -99,10 +77,6 @@ module _ (found key m : ℕ) where
 either-three : (a b c : Bool) → either (either a b) c ≡ either a (either b c)
 either-three true b c = refl
 either-three false b c = refl
-
-either-none : (a : Bool) → either a false ≡ a
-either-none true = refl
-either-none false = refl
 
 -- ---- the loops: the record at p
 
@@ -185,7 +159,7 @@ module _ (f : List ℕ) (p key : ℕ) (h : length f ≤ p) (w : Bool) where
   unfolding deletedFrom deletedOf
   deleted-over gone inv =
       let y : either gone (deletedOf key []) ≡ w = rw (records-over f p h) at inv in
-      sym (either-none gone) ∙ y
+      sym (either-false gone) ∙ y
 
 pub ruleset acts-turn =
     (turn-not, turn-bounded, turn-in, turn-runs, turn-word, turn-falls, turn-key, turn-place, turn-sound, fate-on, fate-over, deleted-on, deleted-over, sound-in, sound-small, arith)

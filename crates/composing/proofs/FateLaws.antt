@@ -9,20 +9,16 @@ use Rattle.base.specs.Check.{Check, ok, no}
 use Rattle.base.specs.Keys.{same}
 use Rattle.base.proofs.CheckLaws.{bind-inv, ok-inj}
 use Rattle.base.proofs.KeysLaws.{same-sound}
-use Rattle.sequence.specs.Keyed.{Act, insert, delete, modify, Parts, Ran, done, stop, Under, Goes, brings, takes, alters, find, run, Once, Laws}
-use Rattle.sequence.specs.History.{history, version, judged, verdict}
+use Rattle.base.proofs.ChoiceLaws.{neither}
+use Rattle.sequence.specs.Keyed.{Act, insert, delete, modify, Parts, done, Under, Goes, brings, takes, alters, find, run, Once, Laws}
+use Rattle.sequence.specs.History.{history, version, judged}
 use Rattle.sequence.specs.Order.{isDelete, named, deleted}
 use Rattle.sequence.specs.Stream.{stands, standing}
-use Rattle.sequence.proofs.Tests.{by-bool, neither, stopped}
+use Rattle.sequence.proofs.Tests.{by-bool}
 use Rattle.sequence.proofs.Lists.{find-under}
 use Rattle.sequence.proofs.Local.{run-judged, run-version}
+use Rattle.sequence.proofs.Refusal.{verdict-done}
 use Rattle.composing.specs.Fate.{fate}
-
--- a run that the verdicts do not stop
-pub verdict-done : {A : Type 0} (r : Ran A) → verdict r ≡ done tt → (a : A) × (r ≡ done a)
-unfolding verdict
-verdict-done (done a) e = (a, refl)
-verdict-done (stop j x) e = stopped e
 
 module _ (P : Parts) where
   open Parts P using (Rec, Upd, key, act, names, change)

@@ -7,29 +7,30 @@ use mathlib.Core.List.{List, [], _∷_}
 use native.Mathlib.Omega.{arith}
 use borrow.Author.Tests.{eqb-true}
 use lib.Dec.{eqb}
-use Rattle.base.specs.Choice.{pick, both}
+use Rattle.base.specs.Choice.{pick}
 use Rattle.base.specs.Check.{ok, no, bind}
 use Rattle.base.specs.Keys.{same}
 use Rattle.base.specs.Lists.{each}
 use Rattle.base.proofs.CheckLaws.{bind-inv, ok-inj}
+use Rattle.base.proofs.ChoiceLaws.{neither, both-true}
 use Rattle.skeleton.specs.File.{Field}
 use Rattle.rules.specs.ByTag.{firstTag, front}
-use Rattle.rules.specs.Kind.{kindOf, tagOf, rank}
+use Rattle.rules.specs.Kind.{kindOf, tagOf}
 use Rattle.rules.specs.Grammar.{ruinByte, number4}
 use Rattle.rules.specs.Content.{number5}
 use Rattle.rules.specs.Trees.{number6}
 use Rattle.rules.specs.Associations.{number7}
 use Rattle.rules.specs.Record.{identOf, keyNamed, updateRecord}
 use Rattle.rules.specs.declared.Kind.{Kind}
-use Rattle.rules.specs.declared.Kind.the-variants.{Info, Point, Multi, Feature}
 use Rattle.rules.specs.declared.Mode.the-variants.{InUpdate}
+use Rattle.rules.proofs.KindLaws.{kind-of-tag}
 use Rattle.contents.specs.Fit.{identified}
 use Rattle.contents.proofs.ReaderLaws.{five-identified}
 use Rattle.contents.proofs.SevenLaws.{four-first}
 use Rattle.contents.proofs.SpatialLaws.{eqb-swap}
 use Rattle.sequence.specs.Keyed.{Each, Parts}
 use Rattle.sequence.specs.Order.{isDelete, deleted}
-use Rattle.sequence.proofs.Tests.{by-bool, both-no, neither}
+use Rattle.sequence.proofs.Tests.{by-bool, both-no}
 use Rattle.updates.specs.Acts.{kindIn, namedBy, actOf, doneBy, chart}
 use Rattle.sound.proofs.Records.{ruin-byte}
 use Rattle.sound.proofs.Changed.{Sendable}
@@ -37,25 +38,12 @@ use Rattle.keys.specs.Listed.{keyOf, listed}
 use Rattle.keys.specs.Numbered.{numberOf, Ranged}
 use Rattle.keys.proofs.IdentLaws.{Keyed, keyed-by}
 use Rattle.keys.proofs.NumberLaws.{same-number}
-use Rattle.composing.specs.Acts.{kindAt, ruinWith, fateOf, deletedOf, Known}
+use Rattle.keys.proofs.KeyLaws.{kind-ranked}
+use Rattle.keys.specs.Key.{kindRanked}
+use Rattle.composing.specs.Acts.{ruinWith, fateOf, deletedOf, Known}
 use Rattle.composing.specs.Fate.{fate}
 
 -- ---- one update record
-
--- a kind by its tag, and by its rank
-kind-tag : (k : Kind) → kindOf (tagOf k) ≡ some k
-unfolding kindOf tagOf
-kind-tag Info = refl
-kind-tag Point = refl
-kind-tag Multi = refl
-kind-tag Feature = refl
-
-kind-rank : (k : Kind) → kindAt (rank k) ≡ k
-unfolding kindAt rank
-kind-rank Info = refl
-kind-rank Point = refl
-kind-rank Multi = refl
-kind-rank Feature = refl
 
 -- 4 and 5 of a record of an update
 passed-two : (fs : List Field) (k : Kind) → updateRecord fs ≡ ok k → (number4 InUpdate 0 fs ≡ ok k) × (u : Unit {0}) × (number5 InUpdate k fs ≡ ok u)
@@ -76,12 +64,12 @@ module _ (k : Kind) (f : Field) (fs : List Field) (tag : firstTag (f ∷ fs) ≡
   keyed = keyed-by InUpdate k f fs u five
 
   kind-first : kindIn (f ∷ fs) ≡ some k
-  kind-first = ap kindOf tag ∙ kind-tag k
+  kind-first = ap kindOf tag ∙ kind-of-tag k
 
   ruin-first : ruinWith (keyOf (f ∷ fs)) (f ∷ fs) ≡ (identOf k (front (f ∷ fs))) .ruin
   unfolding ruinWith front
   ruin-first =
-      ap (λ (j : Kind). ruinByte j (f .body)) (ap kindAt (keyed .kind) ∙ kind-rank k)
+      ap (λ (j : Kind). ruinByte j (f .body)) (ap kindRanked (keyed .kind) ∙ kind-ranked k)
       ∙ ruin-byte k (f .body) (unfold identified in five-identified InUpdate k f fs u five)
 
   known-first : Known (f ∷ fs)
@@ -146,10 +134,6 @@ module _ (key : ℕ) (k : List ℕ) (r : Ranged k) (e : numberOf k ≡ key) wher
       by-bool (eqb (keyOf fs) key)
       (λ h. rw (names-key fs (n .0), h, deletes-key fs (n .0) h, both-true (eqb (ruinWith key fs) 2), deleted-known us (n .1)))
       (λ h. rw (names-key fs (n .0), h, both-no (isDelete (chart .act fs)) false refl, deleted-known us (n .1)))
-    where
-      both-true : (b : Bool) → both b true ≡ b
-      both-true true = refl
-      both-true false = refl
 
 -- a key that none of them names
 pub fate-unlisted : (key : ℕ) (us : List (List Field)) (b : Bool) → listed key (each keyOf us) ≡ false → fateOf key us b ≡ b

@@ -10,6 +10,7 @@ use Rattle.base.specs.Choice.{both}
 use Rattle.base.specs.Check.{no, fault, pass}
 use Rattle.base.specs.Lists.{each, gather}
 use Rattle.base.specs.declared.Fault.{Fault}
+use Rattle.base.proofs.ListLaws.{each-each, each-gather}
 use Rattle.skeleton.specs.File.{Field}
 use Rattle.fields.specs.Table.{tupleOf}
 use Rattle.fields.specs.Content.{many}
@@ -21,11 +22,11 @@ use Rattle.rules.specs.Record.{Rec, assocOf, spatialOf, partsOf, recOf}
 use Rattle.rules.specs.Modify.{assocKey, spatialKey}
 use Rattle.rules.specs.Written.{writtenFields}
 use Rattle.rules.specs.declared.Kind.{Kind}
+use Rattle.rules.proofs.MarkLaws.{markKey}
 use Rattle.sequence.proofs.Tests.{by-bool}
 use Rattle.updates.specs.Streamed.{refersTo}
 use Rattle.sound.specs.Sound.{SoundRec}
-use Rattle.sound.proofs.Lists.{each-each}
-use Rattle.sound.proofs.Marks.{markKey, fieldKeys, marks-keys, each-gather}
+use Rattle.sound.proofs.Marks.{fieldKeys, marks-keys}
 use Rattle.sound.proofs.WrittenKeys.{written-keys}
 use Rattle.cells.specs.Cells.{bodiesOf, spatialIn}
 use Rattle.version.specs.Areas.{inasArea, spasArea}

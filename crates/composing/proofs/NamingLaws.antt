@@ -9,6 +9,7 @@ use lib.ListN.{length, take, drop}
 use Rattle.base.specs.Choice.{both}
 use Rattle.base.specs.Lists.{each, gather}
 use Rattle.base.specs.Walk.{Got}
+use Rattle.base.proofs.ChoiceLaws.{both-true}
 use Rattle.fields.specs.Values.{Val, values}
 use Rattle.fields.specs.Table.{headOf, tupleOf}
 use Rattle.fields.specs.Content.{many, fill}
@@ -37,10 +38,6 @@ use Rattle.composing.specs.Linked.{allStand}
 use Rattle.composing.specs.Keys.{spasKeys, keysIn}
 use Rattle.composing.specs.Settled.{Settled, Tells, TellsAll, Alike}
 use Rattle.composing.proofs.LinkedLaws.{stand-join}
-
-both-last : (b : Bool) → both b true ≡ b
-both-last true = refl
-both-last false = refl
 
 -- the keys of fields are those that the rules' numbers 7 and 11 take
 pub keys-same : (fs : List Field) → gather keysIn fs ≡ gather fieldKeys fs
@@ -98,7 +95,7 @@ module _ (d : List ℕ) (ds : ℕ) (u : List ℕ) (us : ℕ) (flags : List ℕ) 
   unfolding Tells TellsAll allStand
   inas-told b filled k ek fits x t recs s =
       let n = inas-names b filled fits in
-      t recs s (take 2 (inasKey b)) (n .ranged) (sym (n .number) ∙ sym ek) ∙ sym (both-last (final recs (take 2 (inasKey b))))
+      t recs s (take 2 (inasKey b)) (n .ranged) (sym (n .number) ∙ sym ek) ∙ sym (both-true (final recs (take 2 (inasKey b))))
 
   -- ---- the loop over the tuples of a SPAS: the next at offset at
 

@@ -10,20 +10,15 @@ use Rattle.base.specs.Walk.{Got}
 use Rattle.skeleton.specs.File.{Field, recordsFrom}
 use Rattle.rules.specs.ByTag.{front}
 use Rattle.rules.specs.Grammar.{ruinByte}
-use Rattle.rules.specs.declared.Kind.{Kind}
-use Rattle.rules.specs.declared.Kind.the-variants.{Info, Point, Multi, Feature}
 use Rattle.sequence.specs.Keyed.{Parts}
 use Rattle.updates.specs.Acts.{actOf, chart}
 use Rattle.keys.specs.Listed.{keyOf}
 use Rattle.keys.specs.Numbered.{numberOf, Ranged}
-
--- the kind with this rank
-unfoldable pub kindAt : ℕ → Kind
-kindAt r = pick (eqb r 1) Info (pick (eqb r 2) Point (pick (eqb r 3) Multi Feature))
+use Rattle.keys.specs.Key.{kindRanked}
 
 -- RUIN of an update record that names the key
 unfoldable pub ruinWith : ℕ → List Field → ℕ
-ruinWith key fs = ruinByte (kindAt (key / 4294967296)) (front fs)
+ruinWith key fs = ruinByte (kindRanked (key / 4294967296)) (front fs)
 
 -- whether a record stands under the key after these update records; b: whether one stood before them
 unfoldable pub fateOf : ℕ → List (List Field) → Bool → Bool

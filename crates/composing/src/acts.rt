@@ -1,7 +1,7 @@
 // What update records do with the record whose key they name.
-use contents::identifier::ruin_byte;
 use keys::look::key_at;
-use rules::Kind;
+use keys::look::kind_of;
+use records::grammar::ruin_byte;
 use skeleton::directory::Shape;
 use skeleton::file::stated_at;
 use skeleton::leader::Head;
@@ -9,30 +9,12 @@ use skeleton::place::Place;
 use skeleton::place::place_at;
 ghost use mathlib.Core.Path.{_≡_};
 ghost use mathlib.Core.Bool.{not};
-ghost use Prim.Native.Nat.{_/_};
 ghost use lib.Dec.{eqb};
 ghost use Rattle.base.specs.Choice.{pick, both, either};
 ghost use Rattle.skeleton.specs.Place.{fieldsAt};
 ghost use Rattle.skeleton.specs.Shape.{Bounded};
 ghost use Rattle.keys.specs.Look.{Sound};
-ghost use Rattle.composing.specs.Acts.{kindAt, ruinWith, fateFrom, deletedFrom};
-
-// The kind of a key.
-fn kind_of(key: u64) -> Kind
-    ensures { λ k. ⌜ k ≡ kindAt (key / 4294967296) ⌝ }
-{
-    let r = key / 4294967296;
-    if r == 1 {
-        return Kind::Info;
-    }
-    if r == 2 {
-        return Kind::Point;
-    }
-    if r == 3 {
-        return Kind::Multi;
-    }
-    Kind::Feature
-}
+ghost use Rattle.composing.specs.Acts.{ruinWith, fateFrom, deletedFrom};
 
 // RUIN of the update record r, which names the key.
 pub fn ruin(r: &[u8], h: Shape, key: u64) -> u8

@@ -20,12 +20,13 @@ use Rattle.rules.specs.Content.{insertOnly, identFormat, formatOf, stands, allS
 use Rattle.rules.specs.Trees.{treesStand, number6}
 use Rattle.rules.specs.declared.Kind.{Kind}
 use Rattle.rules.specs.declared.Mode.{Mode}
+use Rattle.rules.proofs.FilledLaws.{stands-fill}
 use Rattle.contents.specs.Fit.{fits, allFit}
 use Rattle.contents.specs.Answers.{standFrom, countedFrom, treesFrom, since, restRight}
 use Rattle.contents.proofs.VerdictLaws.{says-pass, answered-pass, says-no}
 use Rattle.contents.proofs.StepLaws.{step-bounds}
 use Rattle.contents.proofs.SinceLaws.{again-whole}
-use Rattle.contents.proofs.FitLaws.{stands-fill, all-fit, all-any}
+use Rattle.contents.proofs.FitLaws.{all-fit, all-any}
 use Rattle.contents.proofs.CountLaws.{counted-done}
 use Rattle.contents.proofs.TreeLaws.{trees-done}
 

@@ -2,66 +2,42 @@
 use mathlib.Core.Path.{_≡_, refl, sym, ap, _∙_}
 use mathlib.Core.Bool.{Bool, true, false, not}
 use mathlib.Core.List.{List, _∷_}
-use Prim.Native.Nat.{ℕ, _+_, _-_, _/_, _%_, _≤_, _<_}
+use Prim.Native.Nat.{ℕ, _+_, _-_, _/_, _≤_, _<_}
 use native.Mathlib.Nat.{zero-add}
 use native.Mathlib.Omega.{arith}
 use borrow.Author.Tests.{eq-eqb, ne-eqb, eqb-true, eqb-false}
 use lib.Dec.{eqb}
-use lib.ListN.{length, drop, length-append, length-drop}
-use lib.Seq.{length-take-le}
+use lib.ListN.{length, drop, length-append}
 use Rattle.base.specs.Choice.{pick, both, either}
 use Rattle.base.specs.Lists.{each, gather}
-use Rattle.base.specs.Walk.{Got}
 use Rattle.base.specs.Verdict.{verdictOf}
 use Rattle.base.specs.declared.Verdict.{Verdict}
 use Rattle.base.specs.declared.Verdict.the-variants.{Passed, Refused}
 use Rattle.fields.specs.Bytes.{le}
-use Rattle.fields.specs.Values.{Val}
 use Rattle.fields.specs.Table.{headOf, tupleOf}
-use Rattle.fields.specs.Content.{tuples, many, tallied, tally, fill}
-use Rattle.fields.specs.Places.{allRaw}
-use Rattle.fields.specs.declared.Format.the-variants.{Cocc, C2il}
-use Rattle.fields.specs.declared.Tally.the-variants.{Whole, Short}
-use Rattle.fields.proofs.CountLaws.{byLength, raw-tally}
+use Rattle.fields.specs.Content.{fill}
+use Rattle.fields.specs.declared.Format.the-variants.{Cocc}
 use Rattle.fields.proofs.ValueLaws.{head-number}
 use Rattle.skeleton.specs.File.{Field}
 use Rattle.skeleton.specs.Place.{between, placeAt, fieldsAt}
 use Rattle.skeleton.specs.declared.directory.Shape.{Shape}
 use Rattle.skeleton.specs.declared.place.Place.{Place}
 use Rattle.skeleton.specs.declared.place.Place.the-variants.{At, Done}
-use Rattle.skeleton.proofs.PlaceLaws.{fields-more, fields-done, place-runs, place-in}
+use Rattle.skeleton.proofs.PlaceLaws.{fields-more, fields-done, place-in}
+use Rattle.skeleton.proofs.BetweenLaws.{length-between}
 use Rattle.rules.specs.Tags.{COCC, C2IL}
 use Rattle.rules.specs.ByTag.{withTag, bodies}
-use Rattle.rules.specs.Coordinates.{coordOf, coordsIn, sent, placeIn}
+use Rattle.rules.specs.Coordinates.{coordsIn, sent, placeIn}
 use Rattle.rules.specs.Content.{formatOf, miscounts, counted}
+use Rattle.rules.proofs.CoordinateLaws.{coords-length}
 use Rattle.contents.specs.Fit.{fits}
 use Rattle.contents.specs.Answers.{sentIn, sendFrom, countedFrom, since}
-use Rattle.contents.proofs.ListLaws.{each-length}
 use Rattle.contents.proofs.StepLaws.{step-bounds}
 use Rattle.contents.proofs.SinceLaws.{since-by}
 use Rattle.contents.proofs.FitLaws.{fit-here, fit-next}
 use Rattle.contents.proofs.FormatLaws.{of-cocc}
 
 -- ---- how many tuples a field sends
-
--- the tuples of a walk, counted by the length of the bytes
-items-by : (m : ℕ) (g : Got (List Val)) → tallied 0 g ≡ byLength 8 m 0 → length (g .items) ≡ m / 8
-items-by m g e = go (eqb (g .ending) 0) (eqb (m % 8) 0) e
-  where
-    go : (t u : Bool) → pick t (Whole (0 + length (g .items))) (Short (0 + length (g .items) + 1)) ≡ pick u (Whole (0 + m / 8)) (Short (0 + m / 8 + 1)) → length (g .items) ≡ m / 8
-    go true true x = let z : 0 + length (g .items) ≡ 0 + m / 8 = cc in omega arith
-    go true false x = absurd (let z : _≡_ {A = ℕ} 0 1 = cc in omega arith)
-    go false true x = absurd (let z : _≡_ {A = ℕ} 0 1 = cc in omega arith)
-    go false false x = let z : 0 + length (g .items) + 1 ≡ 0 + m / 8 + 1 = cc in omega arith
-
--- whole or not
-c2il-many : (b : List ℕ) → length (many (tupleOf C2il) b) ≡ length b / 8
-unfolding many tupleOf allRaw tally
-c2il-many b = items-by (length b) (tuples (tupleOf C2il) b) (raw-tally (tupleOf C2il) refl (omega arith) b 0)
-
-pub coords-length : (b : List ℕ) → length (coordsIn b) ≡ length b / 8
-unfolding coordsIn
-coords-length b = each-length coordOf (many (tupleOf C2il) b) ∙ c2il-many b
 
 -- a field and those after it
 sent-more : (f : Field) (fs : List Field) → length (sent (f ∷ fs)) ≡ sentIn (f .tag) (length (f .body)) + length (sent fs)
@@ -73,9 +49,6 @@ sent-more f fs = go (eqb (f .tag) C2IL)
     go false = sym (zero-add _)
 
 -- ---- the loop that counts down: at place q with so many tuples left, where the whole comes to B
-
-pub between-length : (r : List ℕ) (start end : ℕ) → start ≤ end → end ≤ length r → length (between r start end) ≡ end - start
-between-length r start end l g = length-take-le (end - start) (drop start r) (omega (arith, length-drop start r))
 
 less-some : (a b c : ℕ) → a < b → eqb a (b + c) ≡ false
 less-some a b c h = ne-eqb a (b + c) (λ e. omega arith)
@@ -96,7 +69,7 @@ module _ (r : List ℕ) (h : Shape) (q left : ℕ) (B : Bool) (inv : sendFrom r 
     turn : eqb left (here + length (sent (fieldsAt r h next))) ≡ B
     unfolding sendFrom
     turn =
-        let l = between-length r start end (place-runs r h q e en tag start end next x) (place-in r h q e en tag start end next x) in
+        let l = length-between r start end (place-in r h q e en tag start end next x) in
         let m = sent-more (record { tag = tag; body = between r start end }) (fieldsAt r h next) in
         rw (eh, ← l, ← m) (rw (fields-more r h q e en tag start end next x) at inv)
 

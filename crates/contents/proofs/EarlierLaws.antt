@@ -11,8 +11,9 @@ use lib.Seq.{take-nil}
 use Rattle.base.specs.Choice.{pick, both, either}
 use Rattle.base.specs.Keys.{same, among}
 use Rattle.base.specs.Lists.{each, gather}
+use Rattle.base.proofs.ChoiceLaws.{both-false, either-false}
 use Rattle.fields.specs.Bytes.{le}
-use Rattle.fields.specs.Values.{Val, values, numAt}
+use Rattle.fields.specs.Values.{values, numAt}
 use Rattle.fields.specs.Table.{headOf, tupleOf}
 use Rattle.fields.specs.Content.{many, fill}
 use Rattle.fields.specs.declared.Format.the-variants.{InasNew, InasGone, Spas}
@@ -33,7 +34,7 @@ use Rattle.contents.specs.declared.earlier.Key.the-variants.{Information
 use Rattle.contents.proofs.StepLaws.{step-bounds}
 use Rattle.contents.proofs.FormatLaws.{of-inas, of-spas}
 use Rattle.contents.proofs.FitLaws.{fit-here, fit-next}
-use Rattle.contents.proofs.KeyLaws.{or-none, among-append}
+use Rattle.contents.proofs.KeyLaws.{among-append, four-new}
 use Rattle.contents.proofs.SpatialLaws.{eqb-swap, spas-all, spas-fits}
 
 -- ---- the key of an INAS
@@ -122,16 +123,6 @@ pub ruleset inas-key-ways = (inas-first, inas-second, inas-third, inas-fourth, k
 
 -- ---- one field
 
-both-false : (a : Bool) → both a false ≡ false
-both-false true = refl
-both-false false = refl
-
--- keys of the two kinds differ
-four-new : (x y z w : ℕ) (vs : List (List Val)) → among (x ∷ y ∷ z ∷ w ∷ []) (each spasKey vs) ≡ false
-unfolding among each same spasKey
-four-new x y z w [] = refl
-four-new x y z w (v ∷ vs) = rw (both-false, both-false) (four-new x y z w vs)
-
 two-new : (x y : ℕ) (b : List ℕ) → same (x ∷ y ∷ []) (inasKey b) ≡ false
 unfolding same inasKey
 two-new x y b = rw (both-false, both-false)
@@ -162,7 +153,7 @@ module _ (b : List ℕ) (tag : ℕ) (key : Key) (f : fits false (record { tag = 
 
     pub inas-has : tag ≡ 0x494e4153 → (t : Bool) → t ≡ same (x ∷ y ∷ z ∷ w ∷ []) (inasKey b) → t ≡ among (listOf key) (fieldKeys (record { tag = tag; body = b }))
     unfolding fieldKeys among
-    inas-has e t et = rw ek (simp (eq-eqb tag 0x494e4153 e, or-none) et)
+    inas-has e t et = rw ek (simp (eq-eqb tag 0x494e4153 e, either-false) et)
 
   module _ (x y : ℕ) (ek : key ≡ Spatial x y) where
     pub other-spas : (tag ≡ 0x53504153 → ⊥) → false ≡ among (listOf key) (fieldKeys (record { tag = tag; body = b }))

@@ -1,6 +1,6 @@
 -- Fields that have their formats: what number 5 says of each, and that a field of a record that is inserted has the format of any. Assumes nothing.
 use mathlib.Core.Path.{_≡_, refl}
-use mathlib.Core.Bool.{Bool, true, false, not}
+use mathlib.Core.Bool.{Bool, true, false}
 use mathlib.Core.List.{List, [], _∷_}
 use Prim.Native.Nat.{ℕ, _+_, _-_}
 use native.Mathlib.Omega.{arith}
@@ -9,17 +9,14 @@ use lib.Dec.{eqb, leb}
 use lib.ListN.{getD}
 use Rattle.base.specs.Choice.{pick}
 use Rattle.base.specs.Check.{ok}
-use Rattle.base.specs.Lists.{empty}
 use Rattle.base.proofs.CheckLaws.{bind-inv}
 use Rattle.base.proofs.ChoiceLaws.{both-hold}
 use Rattle.fields.specs.Values.{values, numAt}
 use Rattle.fields.specs.Valid.{allows}
 use Rattle.fields.specs.Table.{headOf, tupleOf}
-use Rattle.fields.specs.Content.{tallyField, isWhole, fill}
+use Rattle.fields.specs.Content.{fill}
 use Rattle.fields.specs.declared.Format.{Format}
 use Rattle.fields.specs.declared.Format.the-variants.{Foid, Attr, AttrNew, InasNew, Spas, SpasNew, Cocc, C2it, C2il}
-use Rattle.fields.specs.declared.Tally.{Tally}
-use Rattle.fields.specs.declared.Tally.the-variants.{Whole, Short}
 use Rattle.fields.proofs.ByteLaws.{le1}
 use Rattle.fields.proofs.ValueLaws.{head-number, head-allowed}
 use Rattle.fields.proofs.WiderLaws.{attr, spas, format-wider}
@@ -31,21 +28,13 @@ use Rattle.skeleton.specs.declared.place.Place.the-variants.{At}
 use Rattle.skeleton.proofs.PlaceLaws.{fields-more}
 use Rattle.rules.specs.Tags.{ATTR, INAS, SPAS, FOID, COCC, C2IT}
 use Rattle.rules.specs.Grammar.{ruinByte, asStored}
-use Rattle.rules.specs.Content.{insertOnly, identFormat, inasFormat, formatOf, filled as filledBy, stands, allStand, number5}
+use Rattle.rules.specs.Content.{insertOnly, identFormat, inasFormat, formatOf, stands, allStand, number5}
 use Rattle.rules.specs.declared.Kind.{Kind}
 use Rattle.rules.specs.declared.Mode.{Mode}
+use Rattle.rules.proofs.FilledLaws.{stands-fill}
 use Rattle.contents.specs.Fit.{fits, allFit}
 
 -- ---- what number 5 says
-
-whole-of : (i : ℕ) (t : Bool) (y : Tally) (u : Unit {0}) → filledBy i t y ≡ ok u → isWhole y ≡ true
-whole-of i t (Whole n) u e = refl
-whole-of i t (Short j) u e = absurd (let z : _≡_ {A = ℕ} 0 1 = cc in omega arith)
-
--- a field that stands is filled
-pub stands-fill : (i : ℕ) (k : Format) (b : List ℕ) (u : Unit {0}) → stands i k b ≡ ok u → fill (headOf k) (tupleOf k) b ≡ true
-unfolding stands fill
-stands-fill i k b u e = whole-of i (not (empty (tupleOf k))) (tallyField (headOf k) (tupleOf k) b) u e
 
 -- so are all
 pub all-fit : (new : Bool) (i : ℕ) (fs : List Field) (u : Unit {0}) → allStand new i fs ≡ ok u → allFit new fs ≡ true

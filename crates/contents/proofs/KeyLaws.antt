@@ -11,7 +11,7 @@ use Rattle.base.specs.Check.{ok, no, bind, fault, Passed}
 use Rattle.base.specs.Keys.{same, among}
 use Rattle.base.specs.Lists.{each}
 use Rattle.base.specs.declared.Fault.{Fault}
-use Rattle.base.proofs.ChoiceLaws.{by-test}
+use Rattle.base.proofs.ChoiceLaws.{by-test, either-false, both-false}
 use Rattle.base.proofs.KeysLaws.{same-sound}
 use Rattle.fields.specs.Values.{Val}
 use Rattle.fields.specs.Table.{tupleOf}
@@ -20,6 +20,7 @@ use Rattle.fields.specs.declared.Format.the-variants.{Spas}
 use Rattle.skeleton.specs.File.{Field}
 use Rattle.rules.specs.Tags.{INAS, SPAS}
 use Rattle.rules.specs.Associations.{Mark, inasKey, spasKey, spasMarks, fieldMarks, keysOnce}
+use Rattle.rules.proofs.MarkLaws.{spas-marked, markKey}
 use Rattle.contents.specs.Keys.{spasKeys, fieldKeys, larger, numberOf, topWith}
 
 -- ---- among which they are
@@ -33,10 +34,6 @@ either-then : (t a b c : Bool) → a ≡ either b c → either t a ≡ either (e
 either-then true a b c e = refl
 either-then false a b c e = e
 
-pub or-none : (a : Bool) → either a false ≡ a
-or-none true = refl
-or-none false = refl
-
 -- a key is among two lists where it is among one of them
 pub among-append : (k : List ℕ) (xs ys : List (List ℕ)) → among k (xs ++ ys) ≡ either (among k xs) (among k ys)
 unfolding among
@@ -45,7 +42,7 @@ among-append k (x ∷ xs) ys = either-then (same k x) (among k (xs ++ ys)) (amon
 
 pub among-none : (k : List ℕ) (xs : List (List ℕ)) → among k (xs ++ []) ≡ among k xs
 unfolding among
-among-none k xs = among-append k xs [] ∙ or-none (among k xs)
+among-none k xs = among-append k xs [] ∙ either-false (among k xs)
 
 -- wherever a key stands among others, it is among them
 among-move : (k x : List ℕ) (xs ys : List (List ℕ)) → among k ((x ∷ xs) ++ ys) ≡ among k (xs ++ (x ∷ ys))
@@ -70,10 +67,6 @@ once-same (m ∷ ms) xs ys e =
     (ap (λ (c : Passed). pick (among (m .key) ys) (no (fault 7 (m .field) (m .tuple))) c)
     (once-same ms (m .key ∷ xs) (m .key ∷ ys) (λ k. ap (either (same k (m .key))) (e k))))
 
--- the key of a mark
-abbrev pub markKey : Mark → List ℕ
-markKey m = m .key
-
 first-then : (b : Bool) (x : Fault) (c : Passed) (k : Unit {0} → Passed) → pick b (no x) (bind c k) ≡ bind (pick b (no x) c) k
 unfolding bind
 first-then true x c k = refl
@@ -92,10 +85,11 @@ once-apart (m ∷ ms) ns seen =
 
 -- ---- the marks of a field
 
-spas-marked : (i j : ℕ) (vs : List (List Val)) → each markKey (spasMarks i j vs) ≡ each spasKey vs
-unfolding each spasMarks
-spas-marked i j [] = refl
-spas-marked i j (v ∷ vs) = ap (λ (ks : List (List ℕ)). spasKey v ∷ ks) (spas-marked i (j + 1) vs)
+-- a key of four numbers is none of two
+pub four-new : (x y z w : ℕ) (vs : List (List Val)) → among (x ∷ y ∷ z ∷ w ∷ []) (each spasKey vs) ≡ false
+unfolding among each same spasKey
+four-new x y z w [] = refl
+four-new x y z w (v ∷ vs) = rw (both-false, both-false) (four-new x y z w vs)
 
 -- they have its keys
 pub field-marked : (i : ℕ) (f : Field) → each markKey (fieldMarks i f) ≡ fieldKeys f

@@ -1,23 +1,10 @@
 -- Laws of lists of anything. Assumes nothing.
-use mathlib.Core.Path.{_≡_, refl, sym, ap, _∙_}
+use mathlib.Core.Path.{_≡_, sym, ap, _∙_}
 use mathlib.Core.List.{List, [], _∷_, _++_, append-assoc, append-nil}
-use Prim.Native.Nat.{ℕ, zero, suc, _+_, _-_}
-use lib.ListN.{length, take, drop}
-use lib.Seq.{drop-drop, drop-nil, take-add}
-use Rattle.base.specs.Lists.{each, gather}
-
--- what f makes of each is as many
-pub each-length : {A B : Type 0} (f : A → B) (xs : List A) → length (each f xs) ≡ length xs
-unfolding each
-each-length f [] = refl
-each-length f (x ∷ xs) = ap suc (each-length f xs)
-
--- what f makes of those behind j things
-pub each-drop : {X Y : Type 0} (f : X → Y) (j : ℕ) (xs : List X) → drop j (each f xs) ≡ each f (drop j xs)
-unfolding each
-each-drop f zero xs = refl
-each-drop f (suc j) [] = drop-nil (suc j)
-each-drop f (suc j) (x ∷ xs) = each-drop f j xs
+use Prim.Native.Nat.{ℕ, _+_, _-_}
+use lib.ListN.{take, drop}
+use lib.Seq.{drop-drop, take-add}
+use Rattle.base.specs.Lists.{gather}
 
 -- the first of the things behind j things
 pub one-taken : {X : Type 0} (xs ys : List X) (x : X) (j : ℕ) → drop j xs ≡ x ∷ ys → (take (j + 1) xs ≡ take j xs ++ (x ∷ [])) × (drop (j + 1) xs ≡ ys)

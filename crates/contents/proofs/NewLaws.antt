@@ -7,10 +7,10 @@ use native.Mathlib.Omega.{arith}
 use borrow.Author.Tests.{le-ltb, not-true}
 use lib.Dec.{eqb}
 use lib.ListN.{take}
-use Rattle.base.specs.Choice.{pick, both, either}
-use Rattle.base.specs.Keys.{same, among}
+use Rattle.base.specs.Choice.{pick, either}
+use Rattle.base.specs.Keys.{among}
 use Rattle.base.specs.Lists.{empty, each, gather}
-use Rattle.fields.specs.Values.{Val, numAt}
+use Rattle.base.proofs.ChoiceLaws.{either-false}
 use Rattle.fields.specs.Table.{headOf, tupleOf}
 use Rattle.fields.specs.Content.{fill, many}
 use Rattle.fields.specs.declared.Format.the-variants.{Spas}
@@ -24,7 +24,7 @@ use Rattle.rules.specs.Associations.{inasKey, spasKey, keysOnce}
 use Rattle.contents.specs.Keys.{listOf, inasKeyAt, spasKeys, fieldKeys, keysIn, hasFrom, seenFrom, seenBefore, topWith, told, inasOnce}
 use Rattle.contents.specs.declared.earlier.Key.{Key}
 use Rattle.contents.specs.declared.keys.Keys.the-variants.{Once, Twice}
-use Rattle.contents.proofs.KeyLaws.{or-none, among-append, above-new}
+use Rattle.contents.proofs.KeyLaws.{among-append, above-new, four-new}
 use Rattle.contents.proofs.EarlierLaws.{inas-listed}
 
 -- ---- a key that is new
@@ -61,22 +61,11 @@ module _ (r : List ℕ) (h : Shape) (p n : ℕ) (b : List ℕ) (j x y : ℕ) whe
     unfolding hasFrom
     new-field z s es =
         let w : among (x ∷ y ∷ []) (take j (spasKeys b)) ≡ false = sym et ∙ z in
-        rw (before-among r h p n b j (x ∷ y ∷ []), w, or-none, ← es)
+        rw (before-among r h p n b j (x ∷ y ∷ []), w, either-false, ← es)
 
 pub ruleset new-ways = (new-above, new-tuple, new-field)
 
 -- ---- an INAS
-
--- a key of four numbers is none of two
-never-two : (x y z w : ℕ) (vs : List (List Val)) → among (x ∷ y ∷ z ∷ w ∷ []) (each spasKey vs) ≡ false
-unfolding among same each spasKey
-never-two x y z w [] = refl
-never-two x y z w (v ∷ vs) = go (eqb x (numAt v 0)) (eqb y (numAt v 1)) (never-two x y z w vs)
-  where
-    go : (a b : Bool) → among (x ∷ y ∷ z ∷ w ∷ []) (each spasKey vs) ≡ false → either (both a (both b false)) (among (x ∷ y ∷ z ∷ w ∷ []) (each spasKey vs)) ≡ false
-    go true true e = e
-    go true false e = e
-    go false b e = e
 
 -- so it is among the keys of no field but an INAS
 never-other : (x y z w : ℕ) (f : Field) → eqb (f .tag) INAS ≡ false → among (x ∷ y ∷ z ∷ w ∷ []) (fieldKeys f) ≡ false
@@ -84,7 +73,7 @@ unfolding fieldKeys spasKeys among
 never-other x y z w f e = rw e (go (eqb (f .tag) SPAS))
   where
     go : (s : Bool) → among (x ∷ y ∷ z ∷ w ∷ []) (pick s (each spasKey (many (tupleOf Spas) (f .body))) []) ≡ false
-    go true = never-two x y z w (many (tupleOf Spas) (f .body))
+    go true = four-new x y z w (many (tupleOf Spas) (f .body))
     go false = refl
 
 -- nor of fields without one

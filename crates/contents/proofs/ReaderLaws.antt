@@ -25,8 +25,9 @@ use Rattle.rules.specs.Record.{identOf}
 use Rattle.rules.specs.declared.Kind.{Kind}
 use Rattle.rules.specs.declared.Kind.the-variants.{Info, Point, Multi, Feature}
 use Rattle.rules.specs.declared.Mode.{Mode}
+use Rattle.rules.proofs.FilledLaws.{stands-fill}
+use Rattle.records.specs.Graded.{ruinPlace}
 use Rattle.contents.specs.Fit.{identified}
-use Rattle.contents.proofs.FitLaws.{stands-fill}
 
 -- ---- a number of w bytes at o
 
@@ -98,8 +99,9 @@ module _ (k : Kind) (b : List ℕ) (f : identified k b ≡ true) where
     pub rver-is : (v : ℕ) → v ≡ le 2 (drop at b) → v ≡ (identOf k b) .rver
     rver-is v e = e ∙ sym (rver-at .1)
 
-  module _ (at : ℕ) (ea : at ≡ pick (coded k) 9 7) where
+  module _ (at : ℕ) (ea : at ≡ ruinPlace k) where
     ruin-at : Reads b at 1 ((identOf k b) .ruin)
+    unfolding ruinPlace
     ruin-at = rw ea (ruin-there k b f)
 
     pub ruin-in : at + 1 ≤ length b

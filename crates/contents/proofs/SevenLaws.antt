@@ -5,8 +5,7 @@ use mathlib.Core.Option.{Option, some, none}
 use mathlib.Core.List.{List, [], _∷_}
 use Prim.Native.Nat.{ℕ, _+_}
 use native.Mathlib.Omega.{arith}
-use borrow.Author.Tests.{eqb-true}
-use lib.Dec.{eqb, ltb}
+use lib.Dec.{ltb}
 use Rattle.base.specs.Choice.{pick}
 use Rattle.base.specs.Check.{Check, ok, no, bind, fault, Passed, pass}
 use Rattle.base.specs.Lists.{gather}
@@ -17,7 +16,6 @@ use Rattle.skeleton.specs.File.{Field}
 use Rattle.skeleton.specs.Place.{fieldsAt}
 use Rattle.skeleton.specs.RightFrom.{RightFrom}
 use Rattle.skeleton.specs.declared.directory.Shape.{Shape}
-use Rattle.rules.specs.Tags.{IRID, PRID, MRID, FRID}
 use Rattle.rules.specs.ByTag.{firstTag}
 use Rattle.rules.specs.Kind.{tagOf, kindOf, rank}
 use Rattle.rules.specs.Grammar.{ruinByte, asStored, fieldsStand, onKind, number4}
@@ -26,6 +24,7 @@ use Rattle.rules.specs.Associations.{fieldMarks, marks, keysOnce, number7}
 use Rattle.rules.specs.declared.Kind.{Kind}
 use Rattle.rules.specs.declared.Kind.the-variants.{Info, Point, Multi, Feature}
 use Rattle.rules.specs.declared.Mode.{Mode}
+use Rattle.rules.proofs.KindLaws.{tag-of-kind}
 use Rattle.contents.specs.Fit.{allFit}
 use Rattle.contents.specs.Keys.{keysIn, onceFrom}
 use Rattle.contents.proofs.StepLaws.{second-entry, second-right}
@@ -74,19 +73,6 @@ pub ruleset seven-ways = (seven-right, seven-fit, seven-rest)
 
 -- ---- for callers
 
--- the identifier of each kind
-kind-tag : (t : ℕ) (k : Kind) → kindOf t ≡ some k → t ≡ tagOf k
-unfolding kindOf tagOf
-kind-tag t k e = go (eqb t IRID) (eqb t PRID) (eqb t MRID) (eqb t FRID) refl refl refl refl e
-  where
-    go : (a b c d : Bool) → eqb t IRID ≡ a → eqb t PRID ≡ b → eqb t MRID ≡ c → eqb t FRID ≡ d
-        → pick a (some Info) (pick b (some Point) (pick c (some Multi) (pick d (some Feature) none))) ≡ some k → t ≡ tagOf k
-    go true b c d ea eb ec ed z = let y : Info ≡ k = cc in rw (← y) (eqb-true t IRID ea)
-    go false true c d ea eb ec ed z = let y : Point ≡ k = cc in rw (← y) (eqb-true t PRID eb)
-    go false false true d ea eb ec ed z = let y : Multi ≡ k = cc in rw (← y) (eqb-true t MRID ec)
-    go false false false true ea eb ec ed z = let y : Feature ≡ k = cc in rw (← y) (eqb-true t FRID ed)
-    go false false false false ea eb ec ed z = absurd (let y : _≡_ {A = ℕ} 0 1 = cc in omega arith)
-
 on-kind : {X : Type 0} (o : Option Kind) (go : Kind → Check X) (a : X) → onKind o go ≡ ok a → (k : Kind) × (o ≡ some k) × (go k ≡ ok a)
 on-kind none go a e = absurd (let y : _≡_ {A = ℕ} 0 1 = cc in omega arith)
 on-kind (some k) go a e = (k, refl, e)
@@ -94,7 +80,7 @@ on-kind (some k) go a e = (k, refl, e)
 pub four-first : (m : Mode) (least : ℕ) (fs : List Field) (k : Kind) → number4 m least fs ≡ ok k → firstTag fs ≡ tagOf k
 unfolding number4 firstTag
 four-first m least [] k e = absurd (let y : _≡_ {A = ℕ} 0 1 = cc in omega arith)
-four-first m least (f ∷ fs) k e = let w = on-kind (kindOf (f .tag)) _ k e in kind-tag (f .tag) k (w .1 ∙ ap some (same-kind (ltb (rank (w .0)) least) (fieldsStand m (w .0) (f .body) fs) (w .0) (w .2)))
+four-first m least (f ∷ fs) k e = let w = on-kind (kindOf (f .tag)) _ k e in tag-of-kind (f .tag) k (w .1 ∙ ap some (same-kind (ltb (rank (w .0)) least) (fieldsStand m (w .0) (f .body) fs) (w .0) (w .2)))
   where
     same-kind : (b : Bool) (c : Passed) (j : Kind) → pick b (no (fault 4 1 0)) (bind c (λ _. ok j)) ≡ ok k → j ≡ k
     same-kind true c j z = absurd (let y : _≡_ {A = ℕ} 0 1 = cc in omega arith)

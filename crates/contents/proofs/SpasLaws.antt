@@ -10,6 +10,7 @@ use Rattle.base.specs.Check.{ok, no, fault, Passed}
 use Rattle.base.specs.Keys.{among}
 use Rattle.base.specs.Lists.{each}
 use Rattle.base.specs.Walk.{Got}
+use Rattle.base.proofs.ListLaws.{each-drop}
 use Rattle.fields.specs.Bytes.{le}
 use Rattle.fields.specs.Values.{Val, values}
 use Rattle.fields.specs.Table.{headOf, tupleOf}
@@ -24,7 +25,7 @@ use Rattle.contents.specs.declared.keys.Keys.{Keys}
 use Rattle.contents.specs.declared.keys.Keys.the-variants.{Once, Twice}
 use Rattle.contents.proofs.KeyLaws.{among-last, once-same, top-append}
 use Rattle.contents.proofs.SpatialLaws.{spas-at, spas-next, spas-key}
-use Rattle.contents.proofs.ListLaws.{each-drop, one-taken}
+use Rattle.contents.proofs.ListLaws.{one-taken}
 use Rattle.contents.proofs.NewLaws.{not-not}
 
 -- ---- the loop over the tuples of a SPAS: behind j tuples, at offset at, where the whole comes to A

@@ -12,6 +12,7 @@ use lib.Seq.{drop-drop, take-all}
 use Rattle.base.specs.Choice.{both, either}
 use Rattle.base.specs.Keys.{same, among}
 use Rattle.base.specs.Lists.{each}
+use Rattle.base.proofs.ListLaws.{each-length}
 use Rattle.fields.specs.Bytes.{le}
 use Rattle.fields.specs.Values.{values, numAt}
 use Rattle.fields.specs.Table.{headOf, tupleOf}
@@ -24,7 +25,6 @@ use Rattle.fields.proofs.EvenLaws.{even-next, fill-even}
 use Rattle.fields.proofs.ValueLaws.{tuple-number}
 use Rattle.rules.specs.Associations.{spasKey}
 use Rattle.contents.specs.Keys.{spasKeys, tupleIs, hasFrom, larger}
-use Rattle.contents.proofs.ListLaws.{each-length}
 
 -- ---- numbers
 

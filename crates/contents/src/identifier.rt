@@ -2,6 +2,9 @@
 use fields::le8;
 use fields::le16;
 use fields::le32;
+use records::grammar::as_stored;
+use records::grammar::ruin_byte;
+use records::grammar::ruin_place;
 use rules::Kind;
 use rules::Mode;
 ghost use mathlib.Core.Path.{_≡_};
@@ -37,38 +40,12 @@ fn rver_place(k: Kind) -> usize
     5
 }
 
-// Where RUIN stands: behind RVER.
-fn ruin_place(k: Kind) -> usize
-    ensures { λ n. ⌜ n ≡ pick (coded k) 9 7 ⌝ }
-{
-    if is_coded(k) {
-        return 9;
-    }
-    7
-}
-
-// The byte in RUIN's place in the identifier r[start..end]; 0 where it ends before it.
-pub fn ruin_byte(r: &[u8], start: usize, end: usize, k: Kind) -> u8
-    requires { ⌜ (start ≤ end) × (end ≤ length (now r)) ⌝ }
-    ensures { λ b. ⌜ b ≡ ruinByte k (between (now (r .entry)) start end) ⌝ }
-{
-    let at = ruin_place(k);
-    let b = &r[start..end];
-    if b.len() <= at {
-        return 0;
-    }
-    b[at]
-}
-
 // Whether the record is as in a dataset: it stands in one, or its identifier says that it is inserted.
 pub fn is_stored(r: &[u8], start: usize, end: usize, mode: Mode, k: Kind) -> bool
     requires { ⌜ (start ≤ end) × (end ≤ length (now r)) ⌝ }
     ensures { λ b. ⌜ b ≡ asStored mode (ruinByte k (between (now (r .entry)) start end)) ⌝ }
 {
-    match mode {
-        Mode::InDataset => true,
-        Mode::InUpdate => ruin_byte(r, start, end, k) == 1,
-    }
+    as_stored(mode, ruin_byte(r, start, end, k))
 }
 
 // RCID of the identifier r[start..end].

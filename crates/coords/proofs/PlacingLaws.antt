@@ -22,10 +22,10 @@ use Rattle.rules.specs.Tags.{C2IL}
 use Rattle.rules.specs.ByTag.{withTag, bodies}
 use Rattle.rules.specs.Place.{placed, Place as Edit}
 use Rattle.rules.specs.Coordinates.{Coord, coordsIn, sent}
+use Rattle.rules.proofs.CoordinateLaws.{coords-count}
 use Rattle.coords.specs.Tuples.{tuplesOf}
 use Rattle.coords.specs.Placing.{EvenLists, Putting, PlacedAs}
 use Rattle.coords.specs.declared.placing.Placed.the-variants.{Refused, Now}
-use Rattle.coords.proofs.TupleLaws.{coords-count}
 
 -- the tuples sent, field by field
 sent-here : (f : Field) (fs : List Field) → f .tag ≡ C2IL → sent (f ∷ fs) ≡ coordsIn (f .body) ++ sent fs
@@ -215,7 +215,3 @@ module _ (instruction index count : ℕ) (new : List Coord) (l₀ : List ℕ) (n
     cocc-modify i j l₁ m₁ m r ey e = modify instruction index count new old l i j p (rw many-old x) m r (tuplesOf l₁ m₁) ey e
 
 pub ruleset cocc-ways = (cocc-far, cocc-insert, cocc-beyond, cocc-delete, cocc-modify, arith)
-
--- how many tuples there are
-pub count-is : (l : List ℕ) (n : ℕ) → 8 * n ≤ length l → length (tuplesOf l n) ≡ n
-count-is l n h = count-of l n h

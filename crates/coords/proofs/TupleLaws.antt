@@ -1,13 +1,14 @@
 -- Coordinate tuples in bytes. Assumes nothing.
-use Prim.Native.Nat.{ℕ, zero, suc, _+_, _-_, _*_, _/_, _%_, _≤_}
+use Prim.Native.Nat.{ℕ, _+_, _-_, _*_, _/_, _%_, _≤_}
 use mathlib.Core.Path.{_≡_, refl, sym, ap, ap₂, _∙_}
 use mathlib.Core.Bool.{true}
-use mathlib.Core.List.{List, [], _∷_, _++_, append-assoc}
+use mathlib.Core.List.{List, [], _++_, append-assoc}
 use native.Mathlib.Nat.{add-zero}
 use native.Mathlib.Omega.{arith}
 use lib.ListN.{length, take, drop, length-take, length-drop, take-append-drop}
 use Rattle.base.specs.Lists.{each, empty}
 use Rattle.base.specs.Walk.{walk, steps}
+use Rattle.base.proofs.ListLaws.{each-append, each-take, each-drop}
 use Rattle.fields.specs.Table.{headOf, tupleOf}
 use Rattle.fields.specs.Content.{many, fill, tuples, tupleStep}
 use Rattle.fields.specs.Places.{endingAt, allRaw}
@@ -32,37 +33,11 @@ even-count : (b : List ℕ) (n : ℕ) → length b ≡ 8 * n → length (many (t
 unfolding tupleOf
 even-count b n e = let a = even-length (tupleOf C2il) refl b (even-whole b n e) in omega arith
 
-length-each : {A B : Type 0} (f : A → B) (l : List A) → length (each f l) ≡ length l
-unfolding each
-length-each f [] = refl
-length-each f (x ∷ l) = ap suc (length-each f l)
-
-each-take : {A B : Type 0} (f : A → B) (n : ℕ) (l : List A) → each f (take n l) ≡ take n (each f l)
-unfolding each
-each-take f zero l = refl
-each-take f (suc n) [] = refl
-each-take f (suc n) (x ∷ l) = ap (λ (r : List _). f x ∷ r) (each-take f n l)
-
-each-drop : {A B : Type 0} (f : A → B) (n : ℕ) (l : List A) → each f (drop n l) ≡ drop n (each f l)
-unfolding each
-each-drop f zero l = refl
-each-drop f (suc n) [] = refl
-each-drop f (suc n) (x ∷ l) = each-drop f n l
-
-each-join : {A B : Type 0} (f : A → B) (l m : List A) → each f (l ++ m) ≡ each f l ++ each f m
-unfolding each
-each-join f [] m = refl
-each-join f (x ∷ l) m = ap (λ (r : List _). f x ∷ r) (each-join f l m)
-
 -- ---- tuples in bytes
-
-pub coords-count : (b : List ℕ) (n : ℕ) → length b ≡ 8 * n → length (coordsIn b) ≡ n
-unfolding coordsIn
-coords-count b n e = length-each coordOf (many (tupleOf C2il) b) ∙ even-count b n e
 
 pub coords-join : (a b : List ℕ) (n : ℕ) → length a ≡ 8 * n → coordsIn (a ++ b) ≡ coordsIn a ++ coordsIn b
 unfolding coordsIn
-coords-join a b n e = ap (each coordOf) (many-join (tupleOf C2il) b a (even-whole a n e)) ∙ each-join coordOf (many (tupleOf C2il) a) (many (tupleOf C2il) b)
+coords-join a b n e = ap (each coordOf) (many-join (tupleOf C2il) b a (even-whole a n e)) ∙ each-append coordOf (many (tupleOf C2il) a) (many (tupleOf C2il) b)
 
 module _ (b : List ℕ) (n : ℕ) (e : length b ≡ 8 * n) (i : ℕ) (h : i ≤ n) where
   few : i ≤ length (many (tupleOf C2il) b)
@@ -74,7 +49,7 @@ module _ (b : List ℕ) (n : ℕ) (e : length b ≡ 8 * n) (i : ℕ) (h : i ≤ 
 
   pub coords-drop : coordsIn (drop (8 * i) b) ≡ drop i (coordsIn b)
   unfolding coordsIn tupleOf allRaw
-  coords-drop = ap (each coordOf) (raw-drop (tupleOf C2il) refl (omega arith) b (even-whole b n e) i few) ∙ each-drop coordOf i (many (tupleOf C2il) b)
+  coords-drop = ap (each coordOf) (raw-drop (tupleOf C2il) refl (omega arith) b (even-whole b n e) i few) ∙ sym (each-drop coordOf i (many (tupleOf C2il) b))
 
 -- no bytes
 coords-none : coordsIn [] ≡ []
@@ -118,5 +93,3 @@ module _ (l : List ℕ) (n i : ℕ) where
       let s : 8 * r ≡ 8 * n - 8 * m = omega arith in
       let t : take (8 * r) v ≡ spliced (8 * i) (8 * m) [] (take (8 * n) l) = take-closed (8 * n) (8 * i) (8 * m) l (omega arith) f s ev in
       (er, ap coordsIn t ∙ rw coords-none at (coords-spliced (take (8 * n) l) [] n i m 0 u refl h))
-
-pub ruleset tuple-ways = (tuples-put, tuples-cut, arith)

@@ -1,20 +1,15 @@
 -- What a verdict says of the test. Assumes nothing.
-use mathlib.Core.Path.{_≡_, refl}
+use mathlib.Core.Path.{_≡_}
 use Prim.Native.Nat.{ℕ}
 use native.Mathlib.Omega.{arith}
-use Rattle.base.specs.Check.{Check, ok, no, fault, Passed, pass}
+use Rattle.base.specs.Check.{Check, ok, no, fault}
 use Rattle.base.specs.Verdict.{verdictOf}
 use Rattle.base.specs.declared.Verdict.{Verdict}
-use Rattle.base.specs.declared.Verdict.the-variants.{Passed as Through, Refused}
+use Rattle.base.specs.declared.Verdict.the-variants.{Refused}
 use Rattle.rules.specs.declared.Kind.{Kind}
 use Rattle.records.specs.Graded.{graded}
 use Rattle.records.specs.declared.grammar.Tags.{Tags}
 use Rattle.records.specs.declared.grammar.Tags.the-variants.{Right, Wrong}
-
-pub passed-is : (c : Passed) → Through ≡ verdictOf c → c ≡ pass
-unfolding verdictOf
-passed-is (ok tt) e = refl
-passed-is (no x) e = absurd (let y : _≡_ {A = ℕ} 0 1 = cc in omega arith)
 
 pub refused-is : {A : Type 0} (c : Check A) (k i j : ℕ) → Refused k i j ≡ verdictOf c → c ≡ no (fault k i j)
 unfolding verdictOf

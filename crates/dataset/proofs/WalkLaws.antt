@@ -11,6 +11,7 @@ use Rattle.base.specs.Lists.{each}
 use Rattle.base.specs.Verdict.{verdictOf}
 use Rattle.base.specs.declared.Verdict.{Verdict}
 use Rattle.base.specs.declared.Verdict.the-variants.{Passed as Through, Refused as Failed}
+use Rattle.base.proofs.CheckLaws.{passed-is}
 use Rattle.skeleton.specs.File.{Field, recordsFrom}
 use Rattle.skeleton.specs.Place.{between, fieldsAt}
 use Rattle.skeleton.specs.Record.{recordAt}
@@ -48,7 +49,7 @@ use Rattle.dataset.specs.declared.walk.Admitted.{Admitted}
 use Rattle.dataset.specs.declared.walk.Admitted.the-variants.{Key, Stop}
 use Rattle.dataset.specs.declared.walk.Walked.{Walked}
 use Rattle.dataset.specs.declared.walk.Walked.the-variants.{Over, Stopped}
-use Rattle.dataset.proofs.VerdictLaws.{passed-is, refused-is, right-is, wrong-is}
+use Rattle.dataset.proofs.VerdictLaws.{refused-is, right-is, wrong-is}
 
 -- ---- the record at p
 

@@ -11,6 +11,7 @@ use borrow.Author.Tests.{eq-eqb, ne-eqb}
 use Rattle.base.specs.Choice.{pick}
 use Rattle.base.specs.Check.{Check, ok, no, bind, refuse, pass, passed}
 use Rattle.base.specs.Lists.{each}
+use Rattle.base.proofs.CheckLaws.{bind-inv}
 use Rattle.skeleton.specs.Place.{between}
 use Rattle.fields.specs.Table.{headOf, tupleOf}
 use Rattle.fields.specs.Values.{Val}
@@ -23,7 +24,7 @@ use Rattle.forest.specs.Acts.{Acts, done, act, UTup, ActRun, actOf, actsUpTo, a
 use Rattle.forest.specs.Edit.{edit}
 use Rattle.forest.specs.Flat.{Item, flat, editFlat}
 use Rattle.forest.proofs.Numbers.{lt-or-le, eq-or-ne}
-use Rattle.forest.proofs.CheckLaws.{never, ok-same, bind-inv, no-same}
+use Rattle.forest.proofs.CheckLaws.{never, ok-same, no-same}
 use Rattle.forest.proofs.FlatLaws.{s-end}
 use Rattle.forest.proofs.Splice.{edit-splice}
 use Rattle.rules.specs.Trees.{instructionOf, utupOf, attrActs}

@@ -9,6 +9,7 @@ use lib.ListN.{length, length-append}
 use Rattle.base.specs.Lists.{each}
 use Rattle.skeleton.specs.File.{Field}
 use Rattle.skeleton.specs.Emit.{sizes}
+use Rattle.skeleton.proofs.EmitFieldsLaws.{sizes-append}
 use Rattle.rules.specs.Tags.{FOID, ATTR, SPAS}
 use Rattle.rules.specs.Kind.{tagOf, coded}
 use Rattle.rules.specs.Written.{fieldAs, listField, coordTag}
@@ -22,7 +23,7 @@ use Rattle.writing.specs.declared.measuring.Sum.{Sum}
 use Rattle.emission.specs.Bodies.{joined, inasFields}
 use Rattle.emission.specs.Fields.{identPart, foidPart, lastFields, versionFields, listSize, listCount, identSize, foidSize, lastSize, lastCount, total, Rooms, Few, Measured, Indexed}
 use Rattle.emission.specs.declared.measuring.Sizes.{Sizes}
-use Rattle.emission.proofs.ListLaws.{sizes-append, size-most, count-most, length-list, sizes-list}
+use Rattle.emission.proofs.ListLaws.{size-most, count-most, length-list, sizes-list}
 use Rattle.emission.proofs.IdentLaws.{length-ident}
 
 -- ---- numbers

@@ -10,6 +10,7 @@ use lib.ListN.{length, getD, take, drop, length-append, length-take, length-drop
 use Rattle.base.specs.Choice.{pick}
 use Rattle.base.specs.Check.{passed, pass}
 use Rattle.base.specs.Lists.{each, gather}
+use Rattle.base.proofs.CheckLaws.{passed-inv}
 use Rattle.memory.specs.Digits.{digits, littleEndian}
 use Rattle.memory.specs.Put.{part}
 use Rattle.skeleton.specs.File.{Field}
@@ -41,7 +42,6 @@ use Rattle.cells.specs.Cells.{bodiesOf, spatialIn}
 use Rattle.version.specs.Areas.{listArea, inasArea, spasArea}
 use Rattle.version.specs.Held.{All, RightInas, RightSpas, RightFoid, foidBodies, HeldParts, Held}
 use Rattle.version.specs.declared.Version.{Version}
-use Rattle.writing.proofs.RecordPartLaws.{passed-inv}
 use Rattle.writing.proofs.SameBytesLaws.{foid-again, inas-again, Lists, none, one, coords-again, spatial-again}
 use Rattle.emission.specs.Bodies.{joined, inasFields}
 use Rattle.emission.specs.Fields.{codePart, identPart, foidPart, lastFields, versionFields, foidSize, Rooms}

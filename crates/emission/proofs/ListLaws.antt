@@ -1,8 +1,7 @@
 -- Laws of fields that are lists, and of fields one after the other. Assumes nothing.
 use Prim.Native.Nat.{ℕ, zero, suc, _+_, _*_, _^_, _≤_, _<_}
 use mathlib.Core.Path.{_≡_, refl, sym, ap, ap₂, _∙_}
-use mathlib.Core.List.{List, [], _∷_, _++_, append-assoc, append-nil}
-use native.Mathlib.Nat.{add-zero, add-assoc}
+use mathlib.Core.List.{List, [], _∷_, _++_, append-nil}
 use native.Mathlib.Omega.{arith}
 use borrow.Author.Tests.{eq-eqb, ne-eqb}
 use lib.Dec.{eqb}
@@ -13,7 +12,8 @@ use Rattle.memory.specs.Wrote.{Wrote}
 use Rattle.memory.proofs.PutLaws.{length-part}
 use Rattle.memory.proofs.WroteLaws.{then, wrote-none, wrote-length}
 use Rattle.skeleton.specs.File.{Field}
-use Rattle.skeleton.specs.Emit.{size, sizes, entry, entries, contents}
+use Rattle.skeleton.specs.Emit.{size, sizes, entries, contents}
+use Rattle.skeleton.proofs.EmitFieldsLaws.{contents-append, entries-append}
 use Rattle.forest.specs.Forest.{Forest}
 use Rattle.forest.specs.Flat.{flat}
 use Rattle.rules.specs.Tags.{ATTR, SPAS}
@@ -28,27 +28,6 @@ use Rattle.emission.specs.Bodies.{joined}
 use Rattle.emission.specs.Fields.{listSize, listCount, ListEntry}
 
 -- ---- fields one after the other
-
-pub sizes-append : (fs gs : List Field) → sizes (fs ++ gs) ≡ sizes fs + sizes gs
-unfolding sizes
-sizes-append [] gs = omega arith
-sizes-append (f ∷ fs) gs = let h = sizes-append fs gs in omega arith
-
-pub contents-append : (fs gs : List Field) → contents (fs ++ gs) ≡ contents fs ++ contents gs
-unfolding contents
-contents-append [] gs = refl
-contents-append (f ∷ fs) gs =
-    ap (λ (l : List ℕ). f .body ++ (30 ∷ l)) (contents-append fs gs) ∙ sym (append-assoc (f .body) (30 ∷ contents fs) (contents gs))
-
-pub entries-append : (a b pos : ℕ) (fs gs : List Field) → entries a b pos (fs ++ gs) ≡ entries a b pos fs ++ entries a b (pos + sizes fs) gs
-unfolding entries sizes
-entries-append a b pos [] gs = rw add-zero
-entries-append a b pos (f ∷ fs) gs =
-    let w = entry a b f pos in
-    let n : pos + size f + sizes fs ≡ pos + (size f + sizes fs) = add-assoc pos (size f) (sizes fs) in
-    ap (λ (l : List ℕ). w ++ l) (entries-append a b (pos + size f) fs gs)
-    ∙ ap (λ (k : ℕ). w ++ (entries a b (pos + size f) fs ++ entries a b k gs)) n
-    ∙ sym (append-assoc w (entries a b (pos + size f) fs) (entries a b (pos + (size f + sizes fs)) gs))
 
 -- one run of fields written after another
 pub contents-then : {at p q : ℕ} {d e o : List ℕ} (fs gs : List Field) → Wrote p (contents gs) e q o → Wrote at (contents fs) d p e

@@ -1,5 +1,5 @@
 -- A record that the workspace holds and that fits in 99,999 bytes has few items, cells and coordinates. Assumes nothing.
-use Prim.Native.Nat.{ℕ, zero, suc, _+_, _*_, _%_, _≤_}
+use Prim.Native.Nat.{ℕ, zero, suc, _+_, _*_, _≤_}
 use mathlib.Core.Path.{_≡_, refl, sym, ap, _∙_}
 use mathlib.Core.Bool.{Bool, true, false}
 use mathlib.Core.List.{List, [], _∷_, _++_}
@@ -12,20 +12,19 @@ use Rattle.base.specs.Check.{no, fault, pass}
 use Rattle.base.specs.Lists.{each, gather}
 use Rattle.skeleton.specs.File.{Field}
 use Rattle.skeleton.specs.Emit.{sizes}
+use Rattle.skeleton.proofs.EmitFieldsLaws.{sizes-append}
 use Rattle.fields.specs.Bytes.{bytes}
 use Rattle.fields.specs.Table.{headOf, tupleOf}
 use Rattle.fields.specs.Values.{put, puts, putAll}
-use Rattle.fields.specs.Content.{many}
-use Rattle.fields.specs.Places.{allRaw}
 use Rattle.fields.specs.declared.Format.the-variants.{Foid, InasNew, SpasNew, C2il}
 use Rattle.fields.proofs.FieldLaws.{head-even}
-use Rattle.fields.proofs.EvenLaws.{raw-fill, c2il-count}
 use Rattle.forest.specs.Forest.{Forest, Tup, tuplesOf}
 use Rattle.forest.specs.Flat.{flat}
 use Rattle.rules.specs.Tags.{FOID, ATTR, SPAS}
-use Rattle.rules.specs.Coordinates.{Coord, coordOf, coordsIn}
+use Rattle.rules.specs.Coordinates.{Coord}
 use Rattle.rules.specs.Record.{Rec, Spatial}
 use Rattle.rules.specs.Written.{listField, nums, treeBytes, assocField, coordVals, spatialVals, coordTag, partFields, writtenFields, writtenLength, number12}
+use Rattle.rules.proofs.CoordinateLaws.{coords-count}
 use Rattle.items.specs.Items.{its}
 use Rattle.cells.specs.Cells.{bodiesOf}
 use Rattle.numbering.specs.Tuples.{tupleBytes, tuplesBytes}
@@ -35,7 +34,7 @@ use Rattle.version.specs.Areas.{listArea, inasArea, spasArea}
 use Rattle.version.specs.Held.{All, RightInas, Held}
 use Rattle.version.specs.declared.Version.{Version}
 use Rattle.emission.specs.Bodies.{joined, inasFields}
-use Rattle.emission.proofs.ListLaws.{sizes-append, size-least, sizes-list}
+use Rattle.emission.proofs.ListLaws.{size-least, sizes-list}
 use Rattle.emission.proofs.FieldsLaws.{length-bodies, length-inas}
 use Rattle.emission.proofs.HeldLaws.{inas-as, spas-as, spas-total}
 
@@ -70,18 +69,6 @@ coords-long : (cs : List Coord) → length (putAll (tupleOf C2il) (each coordVal
 unfolding putAll gather each coordVals puts put tupleOf bytes
 coords-long [] = refl
 coords-long (c ∷ cs) = omega (arith, coords-long cs)
-
-each-length : {A B : Type 0} (f : A → B) (xs : List A) → length (each f xs) ≡ length xs
-unfolding each
-each-length f [] = refl
-each-length f (x ∷ xs) = ap suc (each-length f xs)
-
-coords-count : (b : List ℕ) (n : ℕ) → length b ≡ 8 * n → length (coordsIn b) ≡ n
-unfolding coordsIn tupleOf allRaw headOf
-coords-count b n e =
-    let m : length b % 8 ≡ 0 = omega arith in
-    let c = c2il-count b (raw-fill (tupleOf C2il) refl (omega arith) b m) in
-    each-length coordOf (many (tupleOf C2il) b) ∙ c ∙ omega arith
 
 -- ---- a record that fits
 

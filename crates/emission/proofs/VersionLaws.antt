@@ -11,7 +11,7 @@ use Rattle.memory.specs.Wrote.{Wrote}
 use Rattle.memory.proofs.WroteLaws.{wrote-length}
 use Rattle.skeleton.specs.File.{Field}
 use Rattle.skeleton.specs.Emit.{sizes, entries, contents}
-use Rattle.skeleton.proofs.EmitFieldsLaws.{length-contents}
+use Rattle.skeleton.proofs.EmitFieldsLaws.{length-contents, sizes-append}
 use Rattle.forest.specs.Forest.{Forest}
 use Rattle.forest.specs.Flat.{flat}
 use Rattle.rules.specs.Tags.{FOID, ATTR, SPAS}
@@ -27,7 +27,7 @@ use Rattle.writing.proofs.PartsLaws.{wrote-as}
 use Rattle.emission.specs.Bodies.{joined, inasFields}
 use Rattle.emission.specs.Fields.{identPart, foidPart, lastFields, versionFields, listSize, listCount, identSize, foidSize, lastSize, lastCount, total, ListEntry, Few, Indexed, Placed, Listed}
 use Rattle.emission.specs.declared.measuring.Sizes.{Sizes}
-use Rattle.emission.proofs.ListLaws.{sizes-append, sizes-list, field-none, contents-then, entries-then}
+use Rattle.emission.proofs.ListLaws.{sizes-list, field-none, contents-then, entries-then}
 use Rattle.emission.proofs.IdentLaws.{length-ident}
 
 -- ---- `put_foid`

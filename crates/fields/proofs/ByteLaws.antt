@@ -110,6 +110,10 @@ le-bound zero l h = lit< tt
 le-bound (suc w) [] h = rw pow-suc (let q : le w [] < 256 ^ w = le-bound w [] h in omega arith)
 le-bound (suc w) (x ∷ l) h = rw pow-suc (let q : le w l < 256 ^ w = le-bound w l (λ k. h (suc k)) in let b : x < 256 = h 0 in omega arith)
 
+-- a number put together again from its three bytes
+pub three-bytes : (x : ℕ) → x < 16777216 → x % 256 + 256 * (x / 256 % 256) + 65536 * (x / 65536 % 256) ≡ x
+three-bytes x h = omega arith
+
 -- ---- texts without separators
 
 clean-both : (u v : Bool) → pick u false v ≡ true → (u ≡ false) × (v ≡ true)

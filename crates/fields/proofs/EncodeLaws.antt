@@ -8,9 +8,10 @@ use native.Mathlib.Omega.{arith}
 use lib.ListN.{length, getD, take, drop, take-append-drop}
 use lib.Seq.{take-suc, take-add, length-take-le}
 use borrow.Author.Tests.{eq-eqb, lt-ltb, eqb-true}
-use Rattle.base.specs.Choice.{pick, both}
+use Rattle.base.specs.Choice.{pick}
 use Rattle.base.specs.Lists.{gather}
 use Rattle.base.specs.Walk.{Got}
+use Rattle.base.proofs.ChoiceLaws.{both-too}
 use Rattle.fields.specs.Bytes.{le, run}
 use Rattle.fields.specs.Sizes.{textSize, size, sizes, amount}
 use Rattle.fields.specs.Values.{Val, value, values, width, mark, put, puts, putAll}
@@ -96,9 +97,6 @@ pub encode-decode : (h t : List Sub) (b : List ℕ) (c : Content) → Bytes b �
 encode-decode h t b c g e = let r = decoded h t b c e in ap (encode h t) (r .1) ∙ encode-content h t b g (r .0)
 
 -- ---- it can be written
-
-both-too : {a b : Bool} → a ≡ true → b ≡ true → both a b ≡ true
-both-too p q = rw p q
 
 pass-num : (d : Sub) (l : List ℕ) (n : ℕ) → isNum d ≡ true → Bytes l → size d l ≡ some n → passes d (value d l) ≡ true
 unfolding passes

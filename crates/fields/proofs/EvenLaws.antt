@@ -10,12 +10,10 @@ use lib.ListN.{length, take, drop, length-drop, take-append-drop}
 use lib.Seq.{take-at, drop-at, length-take-le}
 use borrow.Author.Tests.{eq-eqb}
 use Rattle.base.specs.Walk.{Got}
-use Rattle.fields.specs.Table.{headOf, tupleOf}
 use Rattle.fields.specs.Sizes.{sizes}
 use Rattle.fields.specs.Values.{Val, values}
 use Rattle.fields.specs.Content.{tuples, many, fill}
 use Rattle.fields.specs.Places.{endingAt, allRaw}
-use Rattle.fields.specs.declared.Format.the-variants.{C2il}
 use Rattle.fields.specs.declared.Sub.{Sub}
 use Rattle.fields.specs.declared.Sub.the-variants.{B11, B12, B14, Among, Raw, Text, Fixed}
 use Rattle.fields.proofs.SizeLaws.{allNum, widths, num-widths, sizes-bound}
@@ -64,11 +62,6 @@ module _ (t : List Sub) (even : allNum t ≡ true) where
   pub fill-even : (b : List ℕ) → fill [] t b ≡ true → length b ≡ widths t * length (many t b)
   unfolding endingAt
   fill-even b e = even-length b (fill-list t b e)
-
--- the tuples of a list of coordinates
-pub c2il-count : (b : List ℕ) → fill (headOf C2il) (tupleOf C2il) b ≡ true → length (many (tupleOf C2il) b) ≡ length b / 8
-unfolding headOf tupleOf
-c2il-count b e = omega (arith, fill-even (tupleOf C2il) refl b e)
 
 -- ---- lists of which the length alone is tested: any part of whole tuples is one
 

@@ -35,7 +35,7 @@ run-behind-by true m n k ih h = refl
 run-behind-by false m n k ih h = ap suc (ih (le-of-suc-le-suc h))
 
 -- a run that ends before the bytes do
-run-behind : (l r : List ℕ) → run l < length l → run (l ++ r) ≡ run l
+pub run-behind : (l r : List ℕ) → run l < length l → run (l ++ r) ≡ run l
 unfolding run
 run-behind [] r h = absurd (not-suc-le-zero h)
 run-behind (x ∷ l) r h = run-behind-by (sep x) (run l) (run (l ++ r)) (length l) (run-behind l r) h

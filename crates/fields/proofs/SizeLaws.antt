@@ -261,3 +261,7 @@ end-by ds b at (some n) = rw drop-drop (after-plus at n (sizes ds (drop (at + n)
 pub end-cons : (d : Sub) (ds : List Sub) (b : List ℕ) (at : ℕ) → subfieldsEnd (d ∷ ds) b at ≡ next (subfieldEnd d b at) (subfieldsEnd ds b)
 unfolding subfieldsEnd sizes subfieldEnd
 end-cons d ds b at = end-by ds b at (size d (drop at b))
+
+-- a number in a range
+pub in-range : (lo hi n : ℕ) → inRange lo hi n ≡ true → (lo ≤ n) × (n ≤ hi)
+in-range lo hi n e = let r = both-hold (leb lo n) (leb n hi) e in (leb-true lo n (r .0), leb-true n hi (r .1))

@@ -20,6 +20,7 @@ use Rattle.skeleton.specs.declared.leader.Head.{Head}
 use Rattle.skeleton.specs.declared.leader.Head.the-variants.{Good, Refused}
 use Rattle.skeleton.proofs.RecordLaws.{record-falls}
 use Rattle.skeleton.proofs.FileLaws.{records-over, records-refused, records-more, records-none, records-all}
+use Rattle.skeleton.proofs.PlaceLaws.{body-size}
 use Rattle.fieldwise.specs.Reader.{passedFrom}
 use Rattle.fieldwise.specs.Numbered.{numbered, foundOf, fieldNumbered}
 use Rattle.fieldwise.specs.InFile.{Lot, lotsFrom, movedBy, fieldWithin, withinLot, fieldFrom, fieldInFile, asField, amongFields}
@@ -30,9 +31,6 @@ use Rattle.fieldwise.proofs.InFileLaws.{lots-over, lots-refused, lots-m
 use Rattle.fieldwise.proofs.CutLaws.{window-cut, record-passed}
 
 -- ---- in a record
-
-body-size : (start len : ℕ) → start + len - 1 - start ≡ len - 1
-body-size start len = omega arith
 
 -- the n-th of the fields that lie there is the n-th of them by tag and bytes
 shown-numbered : (r : List ℕ) (bs : List Body) (n : ℕ) → asField r (foundOf (numbered n bs)) ≡ numbered n (each (cutOut r) bs)

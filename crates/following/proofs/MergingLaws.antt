@@ -1,7 +1,7 @@
 -- Laws of the result's general record as it is written. Assumes nothing.
 use mathlib.Core.Path.{_≡_, refl, sym, _∙_, ap}
 use mathlib.Core.Bool.{Bool, true, false}
-use mathlib.Core.List.{List, [], _∷_, _++_, append-assoc}
+use mathlib.Core.List.{List, [], _∷_, _++_}
 use Prim.Native.Nat.{ℕ, _+_, _-_, _*_, _^_, _≤_, _<_}
 use native.Mathlib.Nat.{zero-add}
 use native.Mathlib.Numerals.{add-one}
@@ -21,7 +21,7 @@ use Rattle.skeleton.specs.Emit.{size, sizes, entries, contents}
 use Rattle.skeleton.specs.Place.{fieldsAt}
 use Rattle.skeleton.specs.Shape.{Bounded}
 use Rattle.skeleton.specs.declared.directory.Shape.{Shape}
-use Rattle.skeleton.proofs.EmitFieldsLaws.{length-entries, length-contents}
+use Rattle.skeleton.proofs.EmitFieldsLaws.{length-entries, length-contents, sizes-append, contents-append}
 use Rattle.rules.specs.General.{generalRecord}
 use Rattle.rules.specs.Written.{fieldWidth}
 use Rattle.rules.specs.declared.Mode.the-variants.{InDataset, InUpdate}
@@ -59,17 +59,6 @@ module _ (t n pos : ℕ) where
 pub ruleset entry-ways = (entry-none, entry-room, entry-some)
 
 -- ---- a field, and those behind it
-
-sizes-on : (fs gs : List Field) → sizes (fs ++ gs) ≡ sizes fs + sizes gs
-unfolding sizes
-sizes-on [] gs = sym (zero-add (sizes gs))
-sizes-on (f ∷ fs) gs = let ih = sizes-on fs gs in omega arith
-
-contents-on : (fs gs : List Field) → contents (fs ++ gs) ≡ contents fs ++ contents gs
-unfolding contents
-contents-on [] gs = refl
-contents-on (f ∷ fs) gs =
-    ap (λ (l : List ℕ). f .body ++ (30 ∷ l)) (contents-on fs gs) ∙ sym (append-assoc (f .body) (30 ∷ contents fs) (contents gs))
 
 alone-count : (t : ℕ) (fs : List Field) (n : ℕ) → Measured t fs n → length fs ≡ oneIf n
 unfolding sizes
@@ -132,7 +121,7 @@ module _ (old : List ℕ) (ho : Shape) (new : List ℕ) (hn : Shape) where
 
     size-there : sizes (partsFrom old ho new hn j) ≡ n + sizes (partsFrom old ho new hn (j + 1))
     size-there =
-        ap sizes there ∙ sizes-on (newerAt old ho new hn t) (partsFrom old ho new hn (j + 1))
+        ap sizes there ∙ sizes-append (newerAt old ho new hn t) (partsFrom old ho new hn (j + 1))
         ∙ ap (λ (k : ℕ). k + sizes (partsFrom old ho new hn (j + 1))) (sym (m .size-is))
 
   module _ (g : Passing old ho new hn) (j t : ℕ) (et : t ≡ getD generalParts j 0) where
@@ -306,7 +295,7 @@ module _ (old : List ℕ) (ho : Shape) (new : List ℕ) (hn : Shape) where
 
     module _ (h : j < 8) (t : ℕ) (et : t ≡ getD generalParts j 0) where
       sizes-there : sizes (partsFrom old ho new hn j) ≡ sizes (newerAt old ho new hn t) + sizes (partsFrom old ho new hn (j + 1))
-      sizes-there = ap sizes (parts-next old ho new hn j h t et) ∙ sizes-on (newerAt old ho new hn t) (partsFrom old ho new hn (j + 1))
+      sizes-there = ap sizes (parts-next old ho new hn j h t et) ∙ sizes-append (newerAt old ho new hn t) (partsFrom old ho new hn (j + 1))
 
       pub fields-room : at + sizes (partsFrom old ho new hn 0) ≤ length out₀ → p + sizes (newerAt old ho new hn t) ≤ length out
       fields-room g = omega (arith, s .count, s .long, sizes-there)
@@ -318,7 +307,7 @@ module _ (old : List ℕ) (ho : Shape) (new : List ℕ) (hn : Shape) where
             long = wrote-length w ∙ s .long;
             last = omega arith;
             left = put-on (contents (partsFrom old ho new hn (j + 1))) w
-                ∙ ap (λ (l : List ℕ). put p l out) (sym (ap contents (parts-next old ho new hn j h t et) ∙ contents-on (newerAt old ho new hn t) _))
+                ∙ ap (λ (l : List ℕ). put p l out) (sym (ap contents (parts-next old ho new hn j h t et) ∙ contents-append (newerAt old ho new hn t) _))
                 ∙ s .left;
           }
 

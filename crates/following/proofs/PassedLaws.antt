@@ -24,7 +24,7 @@ use Rattle.rules.specs.Content.{stands}
 use Rattle.rules.specs.General.{generalRecord, generalFormat}
 use Rattle.rules.specs.declared.Mode.{Mode}
 use Rattle.rules.specs.declared.Mode.the-variants.{InDataset, InUpdate}
-use Rattle.contents.proofs.FitLaws.{stands-fill}
+use Rattle.rules.proofs.FilledLaws.{stands-fill}
 use Rattle.following.specs.Naming.{Identified}
 
 -- its first field is DSID, those behind it are in order, and DSID has its format

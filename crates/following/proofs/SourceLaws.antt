@@ -1,28 +1,26 @@
 -- Laws of the sources of the result's general fields. Assumes nothing.
 use mathlib.Core.Path.{_≡_, refl, sym, _∙_, ap}
-use mathlib.Core.Bool.{Bool, true, false}
 use mathlib.Core.List.{List, [], _∷_}
 use Prim.Native.Nat.{ℕ, suc, _+_, _-_, _^_, _≤_, _<_}
 use native.Mathlib.Omega.{arith}
 use borrow.Author.Tests.{eq-eqb}
-use lib.Dec.{eqb}
 use lib.ListN.{length}
-use Rattle.base.specs.Choice.{pick}
 use Rattle.base.specs.Lists.{empty}
 use Rattle.memory.specs.Put.{part}
 use Rattle.memory.specs.Wrote.{Wrote}
 use Rattle.memory.proofs.WroteLaws.{then, wrote-none, wrote-length}
 use Rattle.skeleton.specs.File.{Field}
 use Rattle.skeleton.specs.Emit.{sizes, contents}
-use Rattle.skeleton.specs.Place.{between, fieldsAt, findFrom, fromTag}
+use Rattle.skeleton.specs.Place.{between, fieldsAt, findFrom}
 use Rattle.skeleton.specs.declared.directory.Shape.{Shape}
 use Rattle.skeleton.specs.declared.place.Place.{Place}
 use Rattle.skeleton.specs.declared.place.Place.the-variants.{At, Done}
 use Rattle.skeleton.proofs.FindLaws.{found-none, found-first, found-tag, found-runs, found-in}
+use Rattle.skeleton.proofs.BetweenLaws.{length-between}
 use Rattle.rules.specs.ByTag.{withTag}
 use Rattle.rules.specs.General.{newer}
 use Rattle.rules.specs.Written.{fieldAs}
-use Rattle.writing.proofs.JoiningLaws.{body-length}
+use Rattle.rules.proofs.ByTagLaws.{with-from}
 use Rattle.writing.proofs.PartsLaws.{wrote-as}
 use Rattle.following.specs.Merging.{AtMostOne, newerAt, OneIn, Sourced, Measured}
 use Rattle.following.specs.declared.sources.Source.{Source}
@@ -30,15 +28,6 @@ use Rattle.following.specs.declared.sources.Source.the-variants.{Sent, K
 use Rattle.following.proofs.OnceLaws.{no-fields}
 
 -- ---- the only field with a tag
-
-with-from : (t : ℕ) (fs : List Field) → withTag t fs ≡ withTag t (fromTag t fs)
-unfolding withTag fromTag
-with-from t [] = refl
-with-from t (f ∷ fs) = go (with-from t fs) (eqb (f .tag) t) refl
-  where
-    go : withTag t fs ≡ withTag t (fromTag t fs) → (b : Bool) → eqb (f .tag) t ≡ b → pick b (f ∷ withTag t fs) (withTag t fs) ≡ withTag t (pick b (f ∷ fs) (fromTag t fs))
-    go ih true e = simp e
-    go ih false e = ih
 
 module _ (r : List ℕ) (h : Shape) (t : ℕ) (e : Place) (en : e ≡ findFrom r h t 24) where
   absent : e ≡ Done → withTag t (fieldsAt r h 24) ≡ []
@@ -93,7 +82,7 @@ module _ {fs : List Field} {t : ℕ} {r : List ℕ} {i j : ℕ} (one : OneIn fs 
 
   one-size : sizes fs ≡ j - i + 1
   unfolding sizes
-  one-size = rw (one .is) (ap (λ (n : ℕ). n + 1 + 0) (body-length r i j (one .runs) (one .inside)) ∙ omega arith)
+  one-size = rw (one .is) (ap (λ (n : ℕ). n + 1 + 0) (length-between r i j (one .inside)) ∙ omega arith)
 
   one-measured : length r ≤ 16777216 → Measured t fs (j - i + 1)
   one-measured s = let g = one .inside in record { size-is = sym one-size; alone = rw (one .is) refl; small = omega arith }
@@ -108,7 +97,7 @@ module _ {fs : List Field} {t : ℕ} {r : List ℕ} {i j : ℕ} (one : OneIn fs 
     module _ (p : ℕ) (o' : List ℕ) (w : Wrote at (part i (j - i) r) o p o') where
       one-long : length (part i (j - i) r) ≡ j - i
       unfolding part
-      one-long = body-length r i j (one .runs) (one .inside)
+      one-long = length-between r i j (one .inside)
 
       one-mark : p + 1 ≤ length o'
       one-mark = omega (arith, one-size, one-long, w .next, wrote-length w)

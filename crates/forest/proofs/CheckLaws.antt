@@ -14,12 +14,6 @@ never e = absurd (let z : _≡_ {A = ℕ} 0 1 = cc in omega arith)
 pub ok-same : {A : Type 0} {a b : A} → ok a ≡ ok b → a ≡ b
 ok-same e = cc
 
--- what came before a value that two tests gave
-pub bind-inv : {A B : Type 0} (c : Check A) (k : A → Check B) (b : B) → bind c k ≡ ok b → (a : A) × (c ≡ ok a) × (k a ≡ ok b)
-unfolding bind
-bind-inv (ok a) k b e = (a, refl, e)
-bind-inv (no f) k b e = absurd (let z : _≡_ {A = ℕ} 0 1 = cc in omega arith)
-
 -- what comes after a test need only agree on the value that it gives
 pub bind-same : {A B : Type 0} (c : Check A) (k l : A → Check B) → ((a : A) → c ≡ ok a → k a ≡ l a) → bind c k ≡ bind c l
 unfolding bind

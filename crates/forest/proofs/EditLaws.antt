@@ -7,10 +7,11 @@ use lib.Dec.{eqb, ltb}
 use Rattle.base.specs.Choice.{pick}
 use Rattle.base.specs.Check.{Check, ok, bind, refuse}
 use Rattle.base.proofs.ChoiceLaws.{by-test}
+use Rattle.base.proofs.CheckLaws.{bind-inv}
 use Rattle.forest.specs.Forest.{Forest, nil, tree, valued, beside, Plain, p-nil, p-tree}
 use Rattle.forest.specs.Acts.{Acts, done, act, insert, delete, modify}
 use Rattle.forest.specs.Edit.{count, put, behind, cut, alter, edit}
-use Rattle.forest.proofs.CheckLaws.{never, ok-same, bind-inv}
+use Rattle.forest.proofs.CheckLaws.{never, ok-same}
 
 -- ---- an entry that joins, leaves or changes
 

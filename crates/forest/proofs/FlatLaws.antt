@@ -5,10 +5,11 @@ use mathlib.Core.Bool.{Bool, true, false}
 use Prim.Native.Nat.{ℕ, suc, _≤_, _<_}
 use native.Mathlib.Omega.{arith}
 use lib.Dec.{eqb}
+use lib.ListN.{length, length-append}
 use borrow.Author.Tests.{lt-ltb, le-ltb, eq-eqb, ne-eqb, eqb-true, eqb-false}
 use Rattle.base.specs.Choice.{pick}
 use Rattle.base.specs.Check.{Check, ok, no, refuse}
-use Rattle.forest.specs.Forest.{Forest, nil, tree}
+use Rattle.forest.specs.Forest.{Forest, nil, tree, size}
 use Rattle.forest.specs.Edit.{count}
 use Rattle.forest.specs.Flat.{Item, item, flat, Split, split, push, named, over, countFlat, spot, pushed, locate}
 
@@ -131,3 +132,9 @@ locate-deep n d c k e nil ts h = sym (leads-nil (locate n d c k ts))
 locate-deep n d c k e (tree b v ks rest) ts h =
     rw (le-ltb e d (omega arith), at-deep d c e b v h, append-assoc (flat (suc e) ks) (flat e rest) ts, locate-deep n d c k (suc e) ks (flat e rest ++ ts) (omega arith), locate-deep n d c k e rest ts h)
     (leads-push (item e b v) (flat (suc e) ks) (flat e rest) (locate n d c k ts))
+
+-- a forest has as many items as entries
+pub flat-length : (d : ℕ) (f : Forest) → length (flat d f) ≡ size f
+unfolding flat size
+flat-length d nil = refl
+flat-length d (tree c v kids rest) = omega (arith, length-append (flat (suc d) kids) (flat d rest), flat-length (suc d) kids, flat-length d rest)

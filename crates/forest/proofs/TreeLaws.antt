@@ -8,10 +8,11 @@ use lib.ListN.{length}
 use borrow.Author.Tests.{eq-eqb, ne-eqb, eqb-true}
 use Rattle.base.specs.Choice.{either}
 use Rattle.base.specs.Check.{Check, ok, bind}
+use Rattle.base.proofs.CheckLaws.{bind-inv}
 use Rattle.forest.specs.Forest.{Forest, nil, tree, Tup, occurs, size, tuplesFrom, tuplesOf, valued, beside, Plain, p-nil, p-tree}
 use Rattle.forest.specs.Rule.{codesOf, indexed, Run, allTaken, runUpTo, treeOf, entryOf}
 use Rattle.forest.specs.Reader.{Reader, Read, readUpTo}
-use Rattle.forest.proofs.CheckLaws.{never, ok-same, bind-inv, bind-then}
+use Rattle.forest.proofs.CheckLaws.{never, ok-same, bind-then}
 use Rattle.forest.proofs.ReaderLaws.{Turn, stopped, went, read-turn}
 use Rattle.forest.proofs.TupleReader.{Passing, passing, source, rule-reads}
 use Rattle.forest.proofs.RunLaws.{wholeRule}

@@ -9,8 +9,9 @@ use lib.Dec.{eqb}
 use borrow.Author.Tests.{eq-eqb, ne-eqb}
 use Rattle.base.specs.Choice.{pick, either}
 use Rattle.base.specs.Check.{Check, ok, no, bind, refuse}
+use Rattle.base.proofs.CheckLaws.{bind-inv}
 use Rattle.forest.specs.Reader.{Reader, Read, entryThen, readUpTo, Falls}
-use Rattle.forest.proofs.CheckLaws.{ok-same, bind-inv, bind-same}
+use Rattle.forest.proofs.CheckLaws.{ok-same, bind-same}
 use Rattle.forest.proofs.ReaderLaws.{read-falls, read-bound}
 
 -- what is kept of the tuples passed, and those left

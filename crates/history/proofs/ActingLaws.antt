@@ -18,11 +18,11 @@ use Rattle.sequence.specs.Keyed.{Parts, Under}
 use Rattle.updates.specs.Acts.{namedBy, changedBy, chart}
 use Rattle.incoming.specs.Fitting.{Single, Rest}
 use Rattle.incoming.proofs.FittingLaws.{rest-good, rest-here}
-use Rattle.keys.specs.Key.{keyAt}
+use Rattle.keys.specs.Key.{keyAt, kindRanked}
 use Rattle.version.specs.Present.{HeldAs, ChangedTo, FlagsKept}
 use Rattle.version.specs.declared.Present.{Present}
 use Rattle.version.specs.declared.Changed.{Changed}
-use Rattle.history.specs.Here.{recordHere, namedIn, kindRanked}
+use Rattle.history.specs.Here.{recordHere, namedIn}
 use Rattle.history.specs.Ready.{Short}
 use Rattle.history.specs.Played.{Acting, Acted}
 use Rattle.history.proofs.HereLaws.{here-is, here-word, here-fits, here-kind, Known, known-sent}

@@ -5,7 +5,7 @@ use mathlib.Core.Option.{Option, some, none}
 use mathlib.Core.List.{List, [], _∷_}
 use Prim.Native.Nat.{ℕ, zero, suc, _+_, _/_, _<_}
 use native.Mathlib.Omega.{arith}
-use borrow.Author.Tests.{eq-eqb, ne-eqb}
+use borrow.Author.Tests.{ne-eqb}
 use lib.ListN.{length, drop}
 use Rattle.base.specs.Choice.{pick}
 use Rattle.base.specs.Lists.{each}
@@ -19,51 +19,28 @@ use Rattle.skeleton.specs.declared.leader.Head.{Head}
 use Rattle.skeleton.specs.declared.leader.Head.the-variants.{Good, Refused}
 use Rattle.rules.specs.Record.{keyOf as keyInRules, keyNamed, recOf}
 use Rattle.rules.specs.declared.Kind.{Kind}
-use Rattle.rules.specs.declared.Kind.the-variants.{Info, Point, Multi, Feature}
 use Rattle.sequence.specs.Keyed.{find, Once}
 use Rattle.updates.specs.Acts.{chart}
 use Rattle.stock.specs.Stored.{Stored}
 use Rattle.stock.specs.Stock.{recBy, recIn, AllStored, stockFrom, Stock}
 use Rattle.stock.proofs.StockLaws.{stock-good, stock-here}
-use Rattle.keys.specs.Key.{keyAt}
+use Rattle.keys.specs.Key.{keyAt, kindRanked}
 use Rattle.keys.specs.Listed.{keyOf, keysFrom, listed, hasFrom}
 use Rattle.keys.specs.Numbered.{numberOf, Ranged}
 use Rattle.keys.specs.Table.{Tail, Sits, Sited}
 use Rattle.keys.proofs.ListLaws.{not-first, not-later}
 use Rattle.keys.proofs.IdentLaws.{Keyed}
 use Rattle.keys.proofs.NumberLaws.{same-number}
+use Rattle.keys.proofs.PassedLaws.{key-named}
 use Rattle.items.specs.Items.{source}
 use Rattle.version.specs.Held.{Held}
 use Rattle.version.specs.Present.{HeldAs, FlagsKept}
 use Rattle.version.specs.declared.Version.{Version}
 use Rattle.version.specs.declared.Present.the-variants.{Here}
-use Rattle.history.specs.Here.{recordHere, kindRanked}
+use Rattle.history.specs.Here.{recordHere}
 use Rattle.history.specs.Located.{Stands, Located}
 use Rattle.history.specs.Ready.{Writable}
 use Rattle.history.proofs.HereLaws.{here-is, here-word, here-fits, here-keyed, here-kind, Known, known-stored}
-
--- ---- `kind_of`
-
-module _ (r : ℕ) where
-  pub kind-1 : r ≡ 1 → Info ≡ kindRanked r
-  unfolding kindRanked
-  kind-1 e = simp (eq-eqb r 1 e)
-
-  module _ (n : r ≡ 1 → ⊥) where
-    pub kind-2 : r ≡ 2 → Point ≡ kindRanked r
-    unfolding kindRanked
-    kind-2 e = simp (ne-eqb r 1 n, eq-eqb r 2 e)
-
-    module _ (o : r ≡ 2 → ⊥) where
-      pub kind-3 : r ≡ 3 → Multi ≡ kindRanked r
-      unfolding kindRanked
-      kind-3 e = simp (ne-eqb r 1 n, ne-eqb r 2 o, eq-eqb r 3 e)
-
-      pub kind-4 : (r ≡ 3 → ⊥) → Feature ≡ kindRanked r
-      unfolding kindRanked
-      kind-4 p = simp (ne-eqb r 1 n, ne-eqb r 2 o, ne-eqb r 3 p)
-
-pub ruleset kind-ways = (kind-1, kind-2, kind-3, kind-4, arith)
 
 -- ---- the record with a key, among those of the dataset
 
@@ -76,14 +53,10 @@ said-as : (k : Kind) (fs : List Field) → Stored k fs → recIn fs ≡ recOf k 
 unfolding recBy
 said-as k fs s = ap (λ (o : Option Kind). recBy o fs) (known-stored k fs s .kind)
 
-key-said : (k : Kind) (fs : List Field) → keyInRules (recOf k fs) ≡ keyNamed k fs
-unfolding keyInRules recOf keyNamed
-key-said k fs = refl
-
 pub said : (k : Kind) (fs : List Field) → Stored k fs → Said fs
 said k fs s =
     let n = known-stored k fs s .keyed in
-    let e : keyInRules (recIn fs) ≡ keyNamed k fs = ap keyInRules (said-as k fs s) ∙ key-said k fs in
+    let e : keyInRules (recIn fs) ≡ keyNamed k fs = ap keyInRules (said-as k fs s) ∙ key-named k fs in
     record { ranged = rw e (n .ranged); number = rw e (n .number) }
 
 -- a key that is not listed is not found

@@ -27,16 +27,16 @@ use Rattle.rules.specs.Trees.{number6}
 use Rattle.rules.specs.Associations.{number7}
 use Rattle.rules.specs.Record.{updateRecord}
 use Rattle.rules.specs.declared.Kind.{Kind}
-use Rattle.rules.specs.declared.Kind.the-variants.{Info, Point, Multi, Feature}
 use Rattle.rules.specs.declared.Mode.{Mode}
 use Rattle.rules.specs.declared.Mode.the-variants.{InDataset, InUpdate}
 use Rattle.updates.specs.Acts.{kindIn}
 use Rattle.stock.specs.Stored.{Stored}
-use Rattle.keys.specs.Key.{keyAt}
+use Rattle.keys.specs.Key.{keyAt, kindRanked}
 use Rattle.keys.specs.Listed.{keyOf, keysFrom}
 use Rattle.keys.proofs.FirstLaws.{first-key}
 use Rattle.keys.proofs.IdentLaws.{Keyed, keyed-by}
-use Rattle.history.specs.Here.{recordHere, kindRanked}
+use Rattle.keys.proofs.KeyLaws.{kind-ranked}
+use Rattle.history.specs.Here.{recordHere}
 
 -- ---- by what its leader says
 
@@ -111,14 +111,6 @@ known-sent k fs e =
     go true c j y = ok-inj j k (bind-inv c (λ _. ok j) k y .2)
     go false c j y = ok-inj j k y
 
--- the kind by its rank
-kind-back : (k : Kind) → kindRanked (rank k) ≡ k
-unfolding kindRanked rank
-kind-back Info = refl
-kind-back Point = refl
-kind-back Multi = refl
-kind-back Feature = refl
-
 -- the kind by the key that stands at the base address
 pub here-kind : (f : List ℕ) (p : ℕ) (q : Head) → q ≡ recordAt f p → (len base a b : ℕ) → q ≡ Good len base a b
     → (k : Kind) → Known k (fieldsAt (between f p (p + len)) (record { base = base; a = a; b = b }) 24)
@@ -126,4 +118,4 @@ pub here-kind : (f : List ℕ) (p : ℕ) (q : Head) → q ≡ recordAt f p → (
 here-kind f p q e len base a b x k n key ek j ej =
     let r = right f p q e len base a b x in
     let i : key ≡ keyOf (fieldsAt (between f p (p + len)) (record { base = base; a = a; b = b }) 24) = ek ∙ first-key f p len base a b (r .walked) (n .keyed .some) in
-    ej ∙ ap (λ (z : ℕ). kindRanked (z / 4294967296)) i ∙ ap kindRanked (n .keyed .kind) ∙ kind-back k
+    ej ∙ ap (λ (z : ℕ). kindRanked (z / 4294967296)) i ∙ ap kindRanked (n .keyed .kind) ∙ kind-ranked k

@@ -2,12 +2,8 @@
 use Prim.Native.Nat.{ℕ}
 use mathlib.Core.List.{List, []}
 use lib.ListN.{getD}
-use lib.Dec.{eqb}
-use Rattle.base.specs.Choice.{pick}
 use Rattle.base.specs.Walk.{Got}
 use Rattle.skeleton.specs.File.{Field, recordsFrom}
-use Rattle.rules.specs.declared.Kind.{Kind}
-use Rattle.rules.specs.declared.Kind.the-variants.{Info, Point, Multi, Feature}
 use Rattle.updates.specs.Acts.{kindIn, namedBy}
 
 -- its fields
@@ -17,7 +13,3 @@ recordHere f p = getD ((recordsFrom f p) .items) 0 []
 -- the key that an update record names
 abbrev pub namedIn : List Field → List ℕ
 namedIn fs = namedBy (kindIn fs) fs
-
--- the kind with this rank
-unfoldable pub kindRanked : ℕ → Kind
-kindRanked r = pick (eqb r 1) Info (pick (eqb r 2) Point (pick (eqb r 3) Multi Feature))

@@ -1,8 +1,8 @@
 // A record of the dataset, found by its key and brought into the workspace.
 use keys::look::key_at;
+use keys::look::kind_of;
 use keys::sites::site;
 use loading::record::load_record;
-use rules::Kind;
 use skeleton::directory::Shape;
 use skeleton::file::record_at;
 use skeleton::leader::Head;
@@ -10,14 +10,14 @@ use version::Present;
 ghost use mathlib.Core.Path.{_≡_};
 ghost use mathlib.Core.List.{List};
 ghost use mathlib.Core.Option.{some};
-ghost use Prim.Native.Nat.{ℕ, _/_, _≤_, _<_};
+ghost use Prim.Native.Nat.{ℕ, _≤_, _<_};
 ghost use lib.ListN.{length};
 ghost use Rattle.sequence.specs.Keyed.{Once};
 ghost use Rattle.updates.specs.Acts.{chart};
 ghost use Rattle.stock.specs.Stock.{recIn, stockFrom, Stock};
 ghost use Rattle.keys.specs.Table.{Laid};
 ghost use Rattle.version.specs.Present.{HeldAs, FlagsKept};
-ghost use Rattle.history.specs.Here.{recordHere, kindRanked};
+ghost use Rattle.history.specs.Here.{recordHere};
 ghost use Rattle.history.specs.Located.{Located};
 ghost use Rattle.history.specs.Ready.{Writable};
 
@@ -27,23 +27,6 @@ pub fn locate(d: &[u8], ds: usize, t: &[u32], n: usize, map: &[u8], key: u64) ->
     ensures { λ r. ⌜ Located (now (d .entry)) ds key r ⌝ }
 {
     site(d, ds, t, n, map, key)
-}
-
-// The kind of a key.
-pub fn kind_of(key: u64) -> Kind
-    ensures { λ k. ⌜ k ≡ kindRanked (key / 4294967296) ⌝ }
-{
-    let r = key / 4294967296;
-    if r == 1 {
-        return Kind::Info;
-    }
-    if r == 2 {
-        return Kind::Point;
-    }
-    if r == 3 {
-        return Kind::Multi;
-    }
-    Kind::Feature
 }
 
 // The dataset's record at `at`.

@@ -1,7 +1,7 @@
 // One update record on what stands under the key that it names.
-use crate::finding::kind_of;
 use changing::change;
 use keys::look::key_at;
+use keys::look::kind_of;
 use skeleton::directory::Shape;
 use skeleton::file::record_at;
 use skeleton::leader::Head;

@@ -10,7 +10,7 @@ use lib.Dec.{eqb}
 use borrow.Author.Tests.{eq-eqb, ne-eqb}
 use Rattle.base.specs.Choice.{pick, both}
 use Rattle.fields.specs.Bytes.{le}
-use Rattle.fields.proofs.ByteLaws.{le2}
+use Rattle.fields.proofs.ByteLaws.{le2, three-bytes}
 use Rattle.memory.specs.Put.{put}
 use Rattle.memory.proofs.PutLaws.{getD-put-below, getD-put-above, getD-put-in}
 use Rattle.forest.specs.Flat.{Item, item, named}
@@ -114,10 +114,6 @@ same-its s u w v i n m h l p = its-same s u w v i n i n (n - i) (omega arith) (o
 two : (x : ℕ) → x < 65536 → x % 256 + 256 * (x / 256 % 256) ≡ x
 two x h = omega arith
 
--- and one of three
-three : (x : ℕ) → x < 16777216 → x % 256 + 256 * (x / 256 % 256) + 65536 * (x / 65536 % 256) ≡ x
-three x h = omega arith
-
 -- an item that was stored
 module _ (w : List ℕ) (i d c o x : ℕ) (room : 8 * i + 8 ≤ length w) (hd : d < 65536) (hc : c < 65536) (ho : o < 16777216) where
   -- the bytes afterwards
@@ -141,7 +137,7 @@ module _ (w : List ℕ) (i d c o x : ℕ) (room : 8 * i + 8 ≤ length w) (hd : 
       let e5 : getD new (8 * i + 5) 0 ≡ o / 256 % 256 = at-byte 5 (omega arith) in
       let e6 : getD new (8 * i + 6) 0 ≡ o / 65536 % 256 = at-byte 6 (omega arith) in
       let e7 : getD new (8 * i + 7) 0 ≡ x = at-byte 7 (omega arith) in
-      rw (e0, e1, e2, e3, e4, e5, e6, e7, two d hd, two c hc, three o ho)
+      rw (e0, e1, e2, e3, e4, e5, e6, e7, two d hd, two c hc, three-bytes o ho)
 
   -- and its depth
   pub depth-put : depthOf new i ≡ d
@@ -176,7 +172,7 @@ module _ (w : List ℕ) (i o x : ℕ) (room : 8 * i + 8 ≤ length w) (ho : o < 
       let e5 : getD new-ref (8 * i + 5) 0 ≡ o / 256 % 256 = let p : 8 * i + 5 ≡ 8 * i + 4 + 1 = omega arith in rw p (at-ref 1 (omega arith)) in
       let e6 : getD new-ref (8 * i + 6) 0 ≡ o / 65536 % 256 = let p : 8 * i + 6 ≡ 8 * i + 4 + 2 = omega arith in rw p (at-ref 2 (omega arith)) in
       let e7 : getD new-ref (8 * i + 7) 0 ≡ x = let p : 8 * i + 7 ≡ 8 * i + 4 + 3 = omega arith in rw p (at-ref 3 (omega arith)) in
-      rw (e0, e1, e2, e3, e4, e5, e6, e7, three o ho)
+      rw (e0, e1, e2, e3, e4, e5, e6, e7, three-bytes o ho)
 
   -- what stands before it stays
   pub ref-below : Same w new-ref (8 * i)

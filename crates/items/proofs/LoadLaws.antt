@@ -9,6 +9,7 @@ use native.Mathlib.Numerals.{add-one}
 use lib.ListN.{length, length-append}
 use Rattle.base.specs.Check.{ok, pass, passed}
 use Rattle.base.specs.Lists.{each}
+use Rattle.base.proofs.CheckLaws.{bind-inv}
 use Rattle.memory.specs.Put.{put}
 use Rattle.memory.proofs.PutLaws.{length-put}
 use Rattle.skeleton.specs.Place.{between}
@@ -21,8 +22,8 @@ use Rattle.forest.specs.Forest.{Forest, nil, tree, Tup, occurs, size, tuplesFro
 use Rattle.forest.specs.Rule.{treeOf}
 use Rattle.forest.specs.Flat.{Item, item, flat}
 use Rattle.forest.proofs.Numbers.{lt-or-le}
-use Rattle.forest.proofs.CheckLaws.{bind-inv}
 use Rattle.forest.proofs.TreeLaws.{tree-sound}
+use Rattle.forest.proofs.FlatLaws.{flat-length}
 use Rattle.rules.specs.Trees.{tupOf, attrTree}
 use Rattle.tree.specs.Source.{past}
 use Rattle.tree.proofs.CountLaws.{past-above}
@@ -87,12 +88,6 @@ under-append : (acc xs : List Item) (p : ℕ) → p ≤ length acc → underIn (
 unfolding underIn
 under-append acc xs zero h = refl
 under-append acc xs (suc p) h = ap suc (depth-append acc xs p (omega arith))
-
--- a forest has as many items as entries
-flat-length : (d : ℕ) (f : Forest) → length (flat d f) ≡ size f
-unfolding flat size
-flat-length d nil = refl
-flat-length d (tree c v kids rest) = omega (arith, length-append (flat (suc d) kids) (flat d rest), flat-length (suc d) kids, flat-length d rest)
 
 -- the tuples of a run become its items
 load-from : (acc : List Item) (d : ℕ) (seen : List ℕ) (p k : ℕ) (f : Forest) (ts : List Tup) → k ≡ suc (length acc) → p < k → underIn acc p ≡ d

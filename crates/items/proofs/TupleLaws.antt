@@ -2,17 +2,16 @@
 use mathlib.Core.Path.{_≡_, refl, sym, ap, _∙_}
 use mathlib.Core.List.{List, [], _∷_, _++_}
 use mathlib.Core.Logic.{⊎-elim}
-use mathlib.Core.Bool.{Bool, true, false}
 use Prim.Native.Nat.{ℕ, zero, suc, _+_, _-_, _≤_, _<_}
 use native.Mathlib.Omega.{arith}
 use lib.ListN.{length, getD, take, drop, length-drop, take-append-drop}
 use lib.Seq.{length-take-le, take-append-le, drop-append-le, drop-drop, getD-take, getD-drop}
 use borrow.Author.Tests.{lt-ltb, le-ltb}
-use Rattle.base.specs.Choice.{pick}
-use Rattle.fields.specs.Bytes.{run, sep}
+use Rattle.fields.specs.Bytes.{run}
 use Rattle.fields.specs.Content.{many}
 use Rattle.fields.specs.Places.{endingAt}
 use Rattle.fields.proofs.ByteLaws.{le1, le2}
+use Rattle.fields.proofs.JoinLaws.{run-behind}
 use Rattle.skeleton.specs.Place.{between}
 use Rattle.forest.proofs.Numbers.{lt-or-le}
 use Rattle.tree.specs.Source.{two, past}
@@ -60,16 +59,6 @@ to-more b at e h = up-to-bound e (suc e) b at e (omega arith) (omega arith) ∙ 
 
 -- ---- a field in a slice
 
--- a run that ends inside a list ends there whatever follows
-run-append : (xs ys : List ℕ) → run xs < length xs → run (xs ++ ys) ≡ run xs
-unfolding run
-run-append [] ys h = absurd (omega arith)
-run-append (x ∷ xs) ys h = go (sep x) h (λ l. run-append xs ys l)
-  where
-    go : (t : Bool) → pick t 0 (suc (run xs)) < suc (length xs) → (run xs < length xs → run (xs ++ ys) ≡ run xs) → pick t 0 (suc (run (xs ++ ys))) ≡ pick t 0 (suc (run xs))
-    go true l on = refl
-    go false l on = ap suc (on (omega arith))
-
 module _ (b : List ℕ) (at e : ℕ) (h : at ≤ e) (l : e ≤ length b) where
   -- the field's bytes
   abbrev body : List ℕ
@@ -98,7 +87,7 @@ module _ (b : List ℕ) (at e : ℕ) (h : at ≤ e) (l : e ≤ length b) where
   body-past : (i j : ℕ) → j ≡ at + i → past body i ≤ length body → past b j ≡ at + past body i
   unfolding past
   body-past i j x k =
-      let r = run-append (drop (i + 7) body) (drop (e - at) (drop at b)) (omega (arith, length-drop (i + 7) body)) in
+      let r = run-behind (drop (i + 7) body) (drop (e - at) (drop at b)) (omega (arith, length-drop (i + 7) body)) in
       let s = ap run (body-rest (i + 7) (j + 7) (omega arith) (omega (arith, body-length))) in
       omega arith
 
@@ -106,7 +95,7 @@ module _ (b : List ℕ) (at e : ℕ) (h : at ≤ e) (l : e ≤ length b) where
   body-text : (i j : ℕ) → j ≡ at + i → past body i ≤ length body → take (run (drop (i + 7) body)) (drop (i + 7) body) ≡ textFrom b (j + 7)
   unfolding past textFrom
   body-text i j x k =
-      let r = run-append (drop (i + 7) body) (drop (e - at) (drop at b)) (omega (arith, length-drop (i + 7) body)) in
+      let r = run-behind (drop (i + 7) body) (drop (e - at) (drop at b)) (omega (arith, length-drop (i + 7) body)) in
       rw (body-rest (i + 7) (j + 7) (omega arith) (omega (arith, body-length)), r)
       (sym (take-append-le (run (drop (i + 7) body)) (drop (i + 7) body) (drop (e - at) (drop at b)) (omega (arith, length-drop (i + 7) body))))
 

@@ -7,7 +7,7 @@ use native.Mathlib.Omega.{arith}
 use native.Mathlib.Numerals.{sub-one}
 use borrow.Author.Tests.{eq-eqb, ne-eqb, ltb-true, ltb-false, eqb-true, eqb-false}
 use lib.ListN.{length, getD, set, length-set}
-use lib.Seq.{getD-set-same, getD-set-other}
+use lib.Seq.{getD-set-same, getD-set-other, set-out}
 use lib.Dec.{ltb, eqb}
 use Rattle.base.specs.Choice.{pick}
 use Rattle.base.proofs.ChoiceLaws.{by-test}
@@ -104,18 +104,13 @@ pub ruleset with-bit-ways = (with-bit-fits, with-bit-is, arith)
 not-one : (i b : ℕ) → (bitOf i b ≡ 1 → ⊥) → bitOf i b ≡ 0
 not-one i b n = let s = bit-two i b in omega arith
 
-pub set-past : (t : List ℕ) (i v : ℕ) → length t ≤ i → set t i v ≡ t
-set-past [] i v h = refl
-set-past (x ∷ t) zero v h = absurd (omega arith)
-set-past (x ∷ t) (suc i) v h = ap (λ (u : List ℕ). x ∷ u) (set-past t i v (omega arith))
-
 either-way : (c : Bool) (t u : List ℕ) → u ≡ t → t ≡ pick c t u
 either-way true t u e = refl
 either-way false t u e = sym e
 
 pub raise-past : (t : List ℕ) (j : ℕ) → length t ≤ j / 8 → t ≡ raised t j
 unfolding raised
-raise-past t j h = either-way (flagOf t j) t _ (set-past t (j / 8) _ h)
+raise-past t j h = either-way (flagOf t j) t _ (set-out t (j / 8) _ h)
 
 module _ (t : List ℕ) (j r : ℕ) (e : r ≡ bitOf (j % 8) (getD t (j / 8) 0)) where
   pub raise-again : r ≡ 1 → t ≡ raised t j

@@ -1,40 +1,34 @@
 -- What the key of a record, or of a reference, is, where its field has its format. Assumes nothing.
 use mathlib.Core.Path.{_≡_, refl, sym, ap, _∙_}
 use mathlib.Core.List.{List, _∷_}
-use mathlib.Core.Bool.{Bool, true, false, not}
+use mathlib.Core.Bool.{Bool, true, false}
 use mathlib.Core.Option.{some}
 use Prim.Native.Nat.{ℕ, _+_, _*_, _≤_, _<_}
 use native.Mathlib.Omega.{arith}
-use borrow.Author.Tests.{leb-true}
 use lib.ListN.{length, getD, drop, length-drop}
-use lib.Dec.{leb}
 use Rattle.base.specs.Check.{ok}
-use Rattle.base.specs.Lists.{empty}
-use Rattle.base.proofs.ChoiceLaws.{both-hold}
 use Rattle.base.proofs.CheckLaws.{bind-inv}
 use Rattle.skeleton.specs.File.{Field}
 use Rattle.fields.specs.Bytes.{le}
 use Rattle.fields.specs.Sizes.{size, sizes, inRange}
 use Rattle.fields.specs.Table.{headOf, tupleOf}
 use Rattle.fields.specs.Values.{values}
-use Rattle.fields.specs.Content.{fill, tallyField}
-use Rattle.fields.specs.declared.Format.{Format}
+use Rattle.fields.specs.Content.{fill}
 use Rattle.fields.specs.declared.Sub.{Sub}
 use Rattle.fields.specs.declared.Sub.the-variants.{B11, B14}
-use Rattle.fields.specs.declared.Tally.{Tally}
-use Rattle.fields.specs.declared.Tally.the-variants.{Whole, Short}
 use Rattle.fields.proofs.ByteLaws.{le1}
-use Rattle.fields.proofs.SizeLaws.{num-some, sizes-cons}
-use Rattle.fields.proofs.FieldLaws.{filled, count-fill}
+use Rattle.fields.proofs.SizeLaws.{num-some, sizes-cons, in-range}
+use Rattle.fields.proofs.FieldLaws.{filled}
 use Rattle.fields.proofs.ValueLaws.{head-number}
 use Rattle.rules.specs.ByTag.{front}
 use Rattle.rules.specs.Kind.{rcnm, rank, coded}
-use Rattle.rules.specs.Content.{identFormat, insertOnly, stands, filled as filledField, number5}
+use Rattle.rules.specs.Content.{identFormat, insertOnly, stands, number5}
 use Rattle.rules.specs.Record.{identOf, keyNamed}
 use Rattle.rules.specs.declared.Kind.{Kind}
 use Rattle.rules.specs.declared.Kind.the-variants.{Info, Point, Multi, Feature}
 use Rattle.rules.specs.declared.Mode.{Mode}
 use Rattle.rules.specs.declared.Mode.the-variants.{InDataset}
+use Rattle.rules.proofs.FilledLaws.{stands-fill}
 use Rattle.keys.specs.Key.{rankOf, keyAt}
 use Rattle.keys.specs.Listed.{keyOf}
 use Rattle.keys.specs.Map.{kindIn}
@@ -48,9 +42,6 @@ pub record Opens (c : ℕ) (b : List ℕ) : Type 0 where
   pub room : 5 ≤ length b
   pub kind : getD b 0 0 ≡ c
   pub small : le 4 (drop 1 b) < 4294967296
-
-in-range : (lo hi v : ℕ) → inRange lo hi v ≡ true → (lo ≤ v) × (v ≤ hi)
-in-range lo hi v e = let r = both-hold (leb lo v) (leb v hi) e in (leb-true lo v (r .0), leb-true v hi (r .1))
 
 -- the number c, and the bytes behind it
 pub first-is : (c : ℕ) (ds : List Sub) (b : List ℕ) (n : ℕ) → sizes (B11 c c ∷ ds) b ≡ some n → (getD b 0 0 ≡ c) × (k : ℕ) × (sizes ds (drop 1 b) ≡ some k)
@@ -72,15 +63,6 @@ opens-of c ds b n e =
     record { room = omega (arith, length-drop 1 b, q .1); kind = r .0; small = omega (arith, w .1) }
 
 -- ---- identifiers
-
--- a field that stands is filled
-stands-fill : (i : ℕ) (k : Format) (b : List ℕ) (u : Unit {0}) → stands i k b ≡ ok u → fill (headOf k) (tupleOf k) b ≡ true
-unfolding stands
-stands-fill i k b u e = go (not (empty (tupleOf k))) (tallyField (headOf k) (tupleOf k) b) refl e
-  where
-    go : (t : Bool) (y : Tally) → tallyField (headOf k) (tupleOf k) b ≡ y → filledField i t y ≡ ok u → fill (headOf k) (tupleOf k) b ≡ true
-    go t (Whole n) x h = count-fill (headOf k) (tupleOf k) b n x
-    go t (Short j) x h = absurd (let z : _≡_ {A = ℕ} 0 1 = cc in omega arith)
 
 -- the identifier of each kind, in a dataset and in an update
 ident-opens : (new : Bool) (k : Kind) (b : List ℕ) → fill (headOf (identFormat new k)) (tupleOf (identFormat new k)) b ≡ true → Opens (rcnm k) b

@@ -10,7 +10,10 @@ use lib.Seq.{getD-take, getD-drop}
 use lib.Dec.{ltb}
 use Rattle.fields.specs.Bytes.{le}
 use Rattle.fields.proofs.ByteLaws.{le2, le4}
-use Rattle.keys.specs.Key.{rankOf, keyAt, KeyFits}
+use Rattle.rules.specs.Kind.{rank}
+use Rattle.rules.specs.declared.Kind.{Kind}
+use Rattle.rules.specs.declared.Kind.the-variants.{Info, Point, Multi, Feature}
+use Rattle.keys.specs.Key.{rankOf, keyAt, KeyFits, kindRanked}
 
 -- ---- what `rank` and `key_at` return
 
@@ -105,3 +108,34 @@ module _ (b : List ℕ) (n s q : ℕ) (h : q + 5 ≤ length (take n (drop s b)))
   pub fits-part : KeyFits b (s + q) → KeyFits (take n (drop s b)) q
   unfolding KeyFits
   fits-part k g = let r = inside in rw word-part (k (omega arith))
+
+-- ---- `kind_of`
+
+module _ (r : ℕ) where
+  pub kind-1 : r ≡ 1 → Info ≡ kindRanked r
+  unfolding kindRanked
+  kind-1 e = simp (eq-eqb r 1 e)
+
+  module _ (n : r ≡ 1 → ⊥) where
+    pub kind-2 : r ≡ 2 → Point ≡ kindRanked r
+    unfolding kindRanked
+    kind-2 e = simp (ne-eqb r 1 n, eq-eqb r 2 e)
+
+    module _ (o : r ≡ 2 → ⊥) where
+      pub kind-3 : r ≡ 3 → Multi ≡ kindRanked r
+      unfolding kindRanked
+      kind-3 e = simp (ne-eqb r 1 n, ne-eqb r 2 o, eq-eqb r 3 e)
+
+      pub kind-4 : (r ≡ 3 → ⊥) → Feature ≡ kindRanked r
+      unfolding kindRanked
+      kind-4 p = simp (ne-eqb r 1 n, ne-eqb r 2 o, ne-eqb r 3 p)
+
+pub ruleset kind-ways = (kind-1, kind-2, kind-3, kind-4, arith)
+
+-- the kind with the rank of a kind
+pub kind-ranked : (k : Kind) → kindRanked (rank k) ≡ k
+unfolding kindRanked rank
+kind-ranked Info = refl
+kind-ranked Point = refl
+kind-ranked Multi = refl
+kind-ranked Feature = refl

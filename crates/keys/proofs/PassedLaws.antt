@@ -1,21 +1,19 @@
 -- A record of a dataset that has passed its numbers: its kind and its key. Assumes nothing.
 use mathlib.Core.Path.{_≡_, refl, sym, ap, _∙_}
-use mathlib.Core.List.{List, [], _∷_, _++_}
+use mathlib.Core.List.{List, [], _∷_}
 use mathlib.Core.Bool.{Bool, true, false}
 use mathlib.Core.Option.{Option, some, none}
 use Prim.Native.Nat.{ℕ, suc, _+_, _≤_}
 use native.Mathlib.Omega.{arith}
-use borrow.Author.Tests.{ne-eqb, ltb-false, eqb-true}
+use borrow.Author.Tests.{ltb-false}
 use lib.ListN.{length}
-use lib.Dec.{eqb, ltb}
+use lib.Dec.{ltb}
 use Rattle.base.specs.Choice.{pick}
 use Rattle.base.specs.Check.{Check, ok, no, bind, fault, Passed, pass}
 use Rattle.base.specs.Lists.{each}
 use Rattle.base.specs.Keys.{among}
-use Rattle.base.proofs.ChoiceLaws.{by-test}
 use Rattle.base.proofs.CheckLaws.{bind-inv, ok-inj}
 use Rattle.skeleton.specs.File.{Field}
-use Rattle.rules.specs.Tags.{IRID, PRID, MRID, FRID}
 use Rattle.rules.specs.ByTag.{firstTag}
 use Rattle.rules.specs.Kind.{kindOf, tagOf, rank}
 use Rattle.rules.specs.Grammar.{number4, onKind, fieldsStand}
@@ -23,12 +21,13 @@ use Rattle.rules.specs.Content.{number5}
 use Rattle.rules.specs.Trees.{number6}
 use Rattle.rules.specs.Associations.{number7}
 use Rattle.rules.specs.Record.{Rec, keyNamed, recOf, datasetRecord, keyOf as keyInRules}
-use Rattle.rules.specs.Outcome.{done, at}
+use Rattle.rules.specs.Outcome.{done}
 use Rattle.rules.specs.File.{lastRank, datasetTest, through}
-use Rattle.rules.proofs.OutcomeLaws.{andThen-inv, at-inv, done-inj}
+use Rattle.rules.proofs.OutcomeLaws.{done-inj}
 use Rattle.rules.specs.declared.Kind.{Kind}
-use Rattle.rules.specs.declared.Kind.the-variants.{Info, Point, Multi, Feature}
 use Rattle.rules.specs.declared.Mode.the-variants.{InDataset}
+use Rattle.rules.proofs.KindLaws.{tag-of-kind}
+use Rattle.rules.proofs.FileLaws.{through-later}
 use Rattle.keys.specs.Listed.{keyOf, listed}
 use Rattle.keys.specs.Numbered.{numberOf, Ranged, Numbered}
 use Rattle.keys.specs.Standing.{fourToSix, Fine, AllFine}
@@ -40,12 +39,6 @@ use Rattle.keys.proofs.IdentLaws.{Keyed, keyed-passed}
 
 not-ok : {A B : Type 0} {x : _} {a : A} → no x ≡ ok a → B
 not-ok e = absurd (let z : _≡_ {A = ℕ} 0 1 = cc in omega arith)
-
-some-kind : (k j : Kind) → some k ≡ some j → k ≡ j
-some-kind k j e = cc
-
-no-kind : {B : Type 0} {j : Kind} → none ≡ some j → B
-no-kind e = absurd (let z : _≡_ {A = ℕ} 0 1 = cc in omega arith)
 
 picked-kind : (k j : Kind) (t : Bool) (c : Passed) → pick t (no (fault 4 1 0)) (bind c (λ _. ok k)) ≡ ok j → k ≡ j
 picked-kind k j true c h = not-ok h
@@ -63,22 +56,12 @@ kind-rank : (o : Option Kind) (least : ℕ) (c : Kind → Passed) (j : Kind)
 kind-rank none least c j h = not-ok h
 kind-rank (some k) least c j h = picked k j least (ltb (rank k) least) (c k) refl h
 
--- and it is that of the first tag
-kind-tag : (t : ℕ) (j : Kind) → kindOf t ≡ some j → t ≡ tagOf j
-unfolding kindOf tagOf
-kind-tag t j =
-    let P : Option Kind → Type 0 = λ o. o ≡ some j → t ≡ tagOf j in
-    by-test P (eqb t IRID) _ _ (λ e h. eqb-true t IRID e ∙ ap tagOf (some-kind Info j h)) (λ _.
-    by-test P (eqb t PRID) _ _ (λ e h. eqb-true t PRID e ∙ ap tagOf (some-kind Point j h)) (λ _.
-    by-test P (eqb t MRID) _ _ (λ e h. eqb-true t MRID e ∙ ap tagOf (some-kind Multi j h)) (λ _.
-    by-test P (eqb t FRID) _ _ (λ e h. eqb-true t FRID e ∙ ap tagOf (some-kind Feature j h)) (λ _ h. no-kind h))))
-
 given-tag : (t : ℕ) (o : Option Kind) (least : ℕ) (c : Kind → Passed) (j : Kind) → kindOf t ≡ o
     → onKind o (λ k. pick (ltb (rank k) least) (no (fault 4 1 0)) (bind (c k) (λ _. ok k))) ≡ ok j → t ≡ tagOf j
 given-tag t none least c j e h = not-ok h
 given-tag t (some k) least c j e h =
     let z : k ≡ j = picked-kind k j (ltb (rank k) least) (c k) h in
-    kind-tag t j (e ∙ ap some z)
+    tag-of-kind t j (e ∙ ap some z)
 
 -- a record that has passed them
 pub record Placed (least : ℕ) (k : Kind) (fs : List Field) : Type 0 where
@@ -133,7 +116,7 @@ regroup (ok k) b c g = behind k (b k) (c k) g
 regroup (no y) b c g = refl
 
 -- the key of a record, by its kind and its fields
-key-named : (k : Kind) (fs : List Field) → keyInRules (recOf k fs) ≡ keyNamed k fs
+pub key-named : (k : Kind) (fs : List Field) → keyInRules (recOf k fs) ≡ keyNamed k fs
 unfolding keyInRules recOf keyNamed
 key-named k fs = refl
 
@@ -173,13 +156,6 @@ record-read least earlier fs r e =
 
 -- ---- all records
 
--- from the fourth record on, each is tested for all of them
-pub test-later : (n : ℕ) (seen : List Rec) (fs : List Field) → 4 ≤ n
-    → datasetTest n seen fs ≡ bind (datasetRecord (lastRank seen) (each keyInRules seen) fs) (λ r. ok (r ∷ []))
-unfolding datasetTest
-test-later n seen fs h =
-    simp (ne-eqb n 1 (λ e. omega arith), ne-eqb n 2 (λ e. omega arith), ne-eqb n 3 (λ e. omega arith))
-
 -- the keys of records that have passed, as the rules have them and as numbers; none is 0
 pub record ReadAll (items : List (List Field)) (recs : List Rec) : Type 0 where
   pub numbered : Numbered recs (each keyOf items)
@@ -209,11 +185,6 @@ pub through-read : (items : List (List Field)) (n : ℕ) (seen recs : List Rec) 
 unfolding through
 through-read [] n seen recs h e = read-none recs e
 through-read (fs ∷ items) n seen recs h e =
-    let p = andThen-inv (at 1 n (datasetTest n seen fs)) _ recs e in
-    let q = at-inv 1 n (datasetTest n seen fs) (p .0) (p .1) in
-    let r = bind-inv (datasetRecord (lastRank seen) (each keyInRules seen) fs) (λ r. ok (r ∷ [])) (p .0) (sym (test-later n seen fs h) ∙ q) in
-    let new : r .0 ∷ [] ≡ p .0 = ok-inj (r .0 ∷ []) (p .0) (r .2) in
-    let s = andThen-inv (through datasetTest 1 (n + 1) (p .0 ++ seen) items) (λ later. done (p .0 ++ later)) recs (p .2) in
-    let all : r .0 ∷ s .0 ≡ recs = ap (λ (l : List Rec). l ++ s .0) new ∙ done-inj (p .0 ++ s .0) recs (s .2) in
-    read-more fs items (r .0) (s .0) recs (record-read (lastRank seen) (each keyInRules seen) fs (r .0) (r .1))
-    (through-read items (n + 1) (p .0 ++ seen) (s .0) (omega arith) (s .1)) all
+    let l = through-later fs items n seen recs h e in
+    read-more fs items (l .made) (l .others) recs (record-read (lastRank seen) (each keyInRules seen) fs (l .made) (l .passes))
+    (through-read items (n + 1) (l .made ∷ seen) (l .others) (omega arith) (l .onward)) (l .all)

@@ -26,7 +26,7 @@ use Rattle.rules.specs.Associations.{number7}
 use Rattle.rules.specs.Record.{Rec, keyNamed, recOf, keyOf as keyInRules}
 use Rattle.rules.specs.Outcome.{Outcome, done, refused, andThen, at}
 use Rattle.rules.specs.File.{lastRank, datasetTest, ending, taken}
-use Rattle.rules.proofs.FileLaws.{taken-over, taken-more}
+use Rattle.rules.proofs.FileLaws.{taken-over, taken-more, test-later}
 use Rattle.rules.specs.declared.Kind.{Kind}
 use Rattle.keys.specs.Key.{keyAt}
 use Rattle.keys.specs.Listed.{keyOf, keysFrom, listed, seenFrom}
@@ -41,7 +41,7 @@ use Rattle.keys.proofs.LookLaws.{keys-past, keys-good}
 use Rattle.keys.proofs.OnceLaws.{marks-none, larger-least}
 use Rattle.keys.proofs.NumberLaws.{numbered-none, numbered-last}
 use Rattle.keys.proofs.IdentLaws.{Keyed}
-use Rattle.keys.proofs.PassedLaws.{Placed, placed, Read, read-of, seventh, record-parts, test-later}
+use Rattle.keys.proofs.PassedLaws.{Placed, placed, Read, read-of, seventh, record-parts}
 
 -- ---- before the fourth record
 

@@ -6,7 +6,7 @@ use Prim.Native.Nat.{ℕ, _+_, _^_, _≤_, _<_}
 use native.Mathlib.Omega.{arith}
 use borrow.Author.Tests.{eqb-true, eqb-false}
 use lib.ListN.{length, getD, take, drop, set, length-set, length-drop, replicate, length-replicate, getD-replicate}
-use lib.Seq.{take-all, drop-drop, getD-set-same, getD-set-other}
+use lib.Seq.{take-all, drop-drop, getD-set-same, getD-set-other, set-out}
 use lib.Dec.{eqb, ltb}
 use Rattle.memory.specs.Hold.{zeros}
 use Rattle.memory.proofs.HoldLaws.{length-zeros}
@@ -20,7 +20,6 @@ use Rattle.keys.specs.Slots.{Slots, noted}
 use Rattle.keys.specs.Table.{Tail, Tails, Laid}
 use Rattle.keys.specs.declared.look.Look.{Look}
 use Rattle.keys.specs.declared.look.Look.the-variants.{At, Nothing}
-use Rattle.keys.proofs.BitLaws.{set-past}
 use Rattle.keys.proofs.ListLaws.{split-take, split-drop}
 use Rattle.keys.proofs.LookLaws.{Found, keys-past}
 use Rattle.keys.proofs.SoundLaws.{Next, sound-next, sound-nothing, sound-bounds}
@@ -60,7 +59,7 @@ set-long t u j p n e h = ap length e ∙ length-set t j p ∙ h
 -- ---- `put`
 
 pub put-past : (t : List ℕ) (i v : ℕ) → length t ≤ i → t ≡ set t i v
-put-past t i v h = sym (set-past t i v h)
+put-past t i v h = sym (set-out t i v h)
 
 -- one more is left out
 pub drop-one : {A : Type 0} {m : List A} (i : ℕ) (l : List A) → drop i l ≡ m → drop (i + 1) l ≡ drop 1 m

@@ -5,6 +5,8 @@ use lib.ListN.{length, getD, drop}
 use lib.Dec.{eqb, ltb}
 use Rattle.base.specs.Choice.{pick}
 use Rattle.fields.specs.Bytes.{le}
+use Rattle.rules.specs.declared.Kind.{Kind}
+use Rattle.rules.specs.declared.Kind.the-variants.{Info, Point, Multi, Feature}
 
 -- the rank of a kind by its RCNM; 0 for no kind
 unfoldable pub rankOf : ℕ → ℕ
@@ -21,3 +23,7 @@ keyAt b q = pick (ltb (length b) (q + 5)) 0 (keyNumber (getD b q 0) (le 4 (drop 
 -- the RCID of a key is of four bytes
 unfoldable pub KeyFits : List ℕ → ℕ → Type 0
 KeyFits b q = q + 5 ≤ length b → le 4 (drop (q + 1) b) < 4294967296
+
+-- the kind with this rank
+unfoldable pub kindRanked : ℕ → Kind
+kindRanked r = pick (eqb r 1) Info (pick (eqb r 2) Point (pick (eqb r 3) Multi Feature))

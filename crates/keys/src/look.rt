@@ -1,11 +1,12 @@
 // The key of a record, and a quick look at a record that was found right before.
 use fields::le32;
+use rules::Kind;
 use skeleton::file::stated_at;
 use skeleton::leader::Head;
 ghost use mathlib.Core.Path.{_≡_};
-ghost use Prim.Native.Nat.{_^_, _≤_, _<_};
+ghost use Prim.Native.Nat.{_/_, _^_, _≤_, _<_};
 ghost use lib.ListN.{length};
-ghost use Rattle.keys.specs.Key.{rankOf, keyAt, KeyFits};
+ghost use Rattle.keys.specs.Key.{rankOf, keyAt, KeyFits, kindRanked};
 ghost use Rattle.keys.specs.Listed.{seenFrom};
 ghost use Rattle.keys.specs.Look.{lookAt, Known};
 
@@ -44,6 +45,23 @@ pub fn key_at(f: &[u8], q: usize) -> u64
 pub enum Look {
     At { len: usize, key: u64 },
     Nothing,
+}
+
+// The kind of a key.
+pub fn kind_of(key: u64) -> Kind
+    ensures { λ k. ⌜ k ≡ kindRanked (key / 4294967296) ⌝ }
+{
+    let r = key / 4294967296;
+    if r == 1 {
+        return Kind::Info;
+    }
+    if r == 2 {
+        return Kind::Point;
+    }
+    if r == 3 {
+        return Kind::Multi;
+    }
+    Kind::Feature
 }
 
 // A quick look at the record that begins at p.

@@ -1,5 +1,5 @@
 -- The records of a file, one after the other. Assumes nothing.
-use Prim.Native.Nat.{ℕ, _+_, _-_, _≤_, _<_}
+use Prim.Native.Nat.{ℕ, _+_, _-_, _<_}
 use mathlib.Core.Path.{_≡_, refl, sym, ap, subst}
 use mathlib.Core.List.{List, [], _∷_}
 use native.Mathlib.Omega.{arith}
@@ -16,12 +16,8 @@ use Rattle.skeleton.specs.declared.leader.Head.{Head}
 use Rattle.skeleton.specs.declared.leader.Head.the-variants.{Good, Refused}
 use Rattle.skeleton.proofs.RecordLaws.{right}
 use Rattle.skeleton.proofs.FileLaws.{records-over, records-refused, records-more}
-use Rattle.skeleton.proofs.ReadLaws.{bytes-between}
-use Rattle.fields.specs.Valid.{Bytes}
-use Rattle.sequence.specs.Keyed.{Each}
+use Rattle.skeleton.proofs.ReadLaws.{few-records}
 use Rattle.sequence.proofs.Tests.{by-bool}
-use Rattle.sound.proofs.FileBytes.{Bodies, fields-bytes}
-use Rattle.sound.proofs.Lists.{each-nil}
 
 -- what is so of no records, and of a record and those behind it where it is so of those, is so of the records from p on
 module _ (f : List ℕ) (Q : ℕ → List (List Field) → Type 0) (none : (p : ℕ) → Q p [])
@@ -40,18 +36,5 @@ module _ (f : List ℕ) (Q : ℕ → List (List Field) → Type 0) (none : (p : 
       (λ h. at-record q (ltb-true q (length f) h) (recordAt f q) refl later)
       (λ h. subst (Q q) (sym (ap (λ (g : Got (List Field)). g .items) (records-over f q (ltb-false q (length f) h)))) (none q))) p
 
--- there are no more records than bytes
-few : (f : List ℕ) (p : ℕ) → length ((recordsFrom f p) .items) ≤ length f - p
-few f p =
-    walk f (λ q l. length l ≤ length f - q) (λ q. omega arith)
-    (λ q len base a b e h. let k = right f q _ refl len base a b e in omega arith) p
-
 pub take-records : (f : List ℕ) (p : ℕ) → take (length f) ((recordsFrom f p) .items) ≡ (recordsFrom f p) .items
-take-records f p = take-all (length f) ((recordsFrom f p) .items) (omega (arith, few f p))
-
--- their fields are made of bytes where the file is
-pub records-bytes : (f : List ℕ) → Bytes f → (p : ℕ) → Each Bodies ((recordsFrom f p) .items)
-unfolding Each
-records-bytes f bytes p =
-    walk f (λ q l. Each Bodies l) (λ q. each-nil Bodies)
-    (λ q len base a b e h. (fields-bytes (between f q (q + len)) (record { base = base; a = a; b = b }) (bytes-between f q (q + len) bytes) 24, h)) p
+take-records f p = take-all (length f) ((recordsFrom f p) .items) (omega (arith, few-records f p))

@@ -13,7 +13,7 @@ use Rattle.sequence.specs.Keyed.{Ran, done as ran, stop, Each}
 use Rattle.sequence.specs.History.{judged}
 use Rattle.updates.specs.Acts.{chart, inUpdate}
 use Rattle.updates.specs.Streamed.{verdicts}
-use Rattle.sound.proofs.FileBytes.{Bodies}
+use Rattle.sound.proofs.FileBytes.{Bodies, records-bytes}
 use Rattle.sound.proofs.Changed.{Sendable}
 use Rattle.stock.specs.Stock.{recIn, AllStored, stockFrom}
 use Rattle.incoming.specs.Fitting.{Single, AllSingle, Rest}
@@ -31,7 +31,6 @@ use Rattle.history.proofs.FlagLaws.{flags-kept, area-long}
 use Rattle.history.proofs.FindingLaws.{Said, said}
 use Rattle.history.proofs.PlayingLaws.{rest-sound}
 use Rattle.lasting.specs.Whole.{Whole}
-use Rattle.lasting.proofs.WalkLaws.{records-bytes}
 
 -- ---- the records of each
 

@@ -23,9 +23,9 @@ use Rattle.skeleton.specs.declared.place.Place.{Place}
 use Rattle.skeleton.specs.declared.place.Place.the-variants.{At, Done}
 use Rattle.skeleton.proofs.PlaceLaws.{fields-more, fields-done, place-runs, place-in, place-falls, held}
 use Rattle.skeleton.proofs.FindLaws.{found-none, found-first, found-runs, found-in}
+use Rattle.skeleton.proofs.BetweenLaws.{length-between}
 use Rattle.rules.specs.Tags.{ATTR, C2IT, C2IL}
 use Rattle.rules.specs.ByTag.{withTag, bodies}
-use Rattle.contents.proofs.CountLaws.{between-length}
 use Rattle.listing.specs.Said.{whole, entriesOf, entriesIn, isCoordinates, tuplesOf, tuplesIn}
 
 -- ---- entries of an ATTR
@@ -124,7 +124,7 @@ module _ (r : List ℕ) (h : Shape) (q n : ℕ) (inv : CountedTo r h q n) (e : P
     pub counted-next : CountedTo r h next (n + m)
     unfolding tuplesIn
     counted-next =
-        let l = between-length r start end runs ends in
+        let l = length-between r start end ends in
         let s : tuplesIn (fieldsAt r h q) ≡ m + tuplesIn (fieldsAt r h next) =
         ap tuplesIn (fields-more r h q e en tag start end next x) ∙ ap (λ (k : ℕ). tuplesOf tag k + tuplesIn (fieldsAt r h next)) l ∙ ap (λ (k : ℕ). k + tuplesIn (fieldsAt r h next)) (sym em) in
         let k = held r h q e en tag start end next x in

@@ -1,18 +1,18 @@
 -- Laws of the fewest digits that hold a number. Assumes nothing.
-use mathlib.Core.Path.{_≡_, refl, sym, ap, _∙_}
+use mathlib.Core.Path.{_≡_, sym, ap, _∙_}
 use mathlib.Core.List.{List}
-use mathlib.Core.Bool.{Bool, true, false}
-use mathlib.Core.Logic.{_⊎_, inl, inr, ⊎-elim}
+use mathlib.Core.Logic.{⊎-elim}
 use Prim.Native.Nat.{ℕ, zero, suc, _+_, _-_, _*_, _/_, _%_, _^_, _≤_, _<_}
 use native.Mathlib.Nat.{pow-suc, div-lt-iff-lt-mul}
 use native.Mathlib.Omega.{arith}
-use borrow.Author.Tests.{lt-ltb, le-ltb, ltb-true, ltb-false}
+use borrow.Author.Tests.{lt-ltb, le-ltb, ltb-false}
 use lib.Dec.{ltb}
 use lib.ListN.{length}
 use Rattle.base.specs.Walk.{Got, follow, walk, Lower}
 use Rattle.base.proofs.ChoiceLaws.{by-test}
 use Rattle.base.proofs.WalkLaws.{walk-step}
 use Rattle.skeleton.specs.Digits.{tenth, fewestDigits}
+use Rattle.forest.proofs.Numbers.{lt-or-le}
 
 -- ---- digit by digit
 
@@ -34,13 +34,6 @@ unfolding tenth fewestDigits
 fewest-more n h = step n ∙ simp (le-ltb n 10 h)
 
 -- ---- no number below a power of ten has more
-
-lt-or-le : (a b : ℕ) → (a < b) ⊎ (b ≤ a)
-lt-or-le a b = go (ltb a b) refl
-  where
-    go : (t : Bool) → ltb a b ≡ t → (a < b) ⊎ (b ≤ a)
-    go true e = inl (ltb-true a b e)
-    go false e = inr (ltb-false a b e)
 
 pub fewest-within : (w n : ℕ) → n < 10 ^ (suc w) → fewestDigits n ≤ suc w
 fewest-within zero n h = let e = fewest-one n (omega arith) in omega arith

@@ -1,7 +1,7 @@
 -- The records of a dataset that is read have passed their numbers. Assumes nothing.
 use mathlib.Core.Path.{_≡_, refl, sym, ap, ap₂, _∙_}
 use mathlib.Core.Bool.{Bool, true, false}
-use mathlib.Core.List.{List, [], _∷_, _++_}
+use mathlib.Core.List.{List, [], _∷_}
 use Prim.Native.Nat.{ℕ, _+_, _≤_, _<_}
 use native.Mathlib.Omega.{arith}
 use borrow.Author.Tests.{eq-eqb, lt-leb}
@@ -19,15 +19,15 @@ use Rattle.rules.specs.Trees.{number6}
 use Rattle.rules.specs.Associations.{number7}
 use Rattle.rules.specs.Record.{Rec, keyOf, recOf, datasetRecord}
 use Rattle.rules.specs.Written.{Dataset}
-use Rattle.rules.specs.Outcome.{Outcome, done, refused, andThen, at}
+use Rattle.rules.specs.Outcome.{Outcome, done, refused, andThen}
 use Rattle.rules.specs.File.{lastRank, datasetTest, through, ending, taken, Stored, storedAs, datasetOf, references, readDataset}
 use Rattle.rules.specs.declared.Kind.{Kind}
 use Rattle.rules.specs.declared.Mode.the-variants.{InDataset}
-use Rattle.rules.proofs.OutcomeLaws.{andThen-inv, at-inv, done-inj}
+use Rattle.rules.proofs.OutcomeLaws.{andThen-inv, done-inj}
+use Rattle.rules.proofs.FileLaws.{through-later}
 use Rattle.contents.proofs.SevenLaws.{four-first}
 use Rattle.opening.specs.Carried.{firstThree}
 use Rattle.opening.proofs.OpeningLaws.{fromFourth, opened}
-use Rattle.keys.proofs.PassedLaws.{test-later}
 use Rattle.keys.proofs.ReferenceLaws.{Reads, taken-reads}
 use Rattle.listing.specs.Said.{Passed, AllPassed, PassedFrom, recordIn}
 use Rattle.listing.proofs.SaidLaws.{record-is}
@@ -56,15 +56,10 @@ through-passed : (items : List (List Field)) (n : ℕ) (seen recs : List Rec) �
 unfolding through each
 through-passed [] n seen recs h e = (tt, sym (done-inj [] recs e))
 through-passed (fs ∷ items) n seen recs h e =
-    let p = andThen-inv (at 1 n (datasetTest n seen fs)) _ recs e in
-    let q = at-inv 1 n (datasetTest n seen fs) (p .0) (p .1) in
-    let r = bind-inv (datasetRecord (lastRank seen) (each keyOf seen) fs) (λ x. ok (x ∷ [])) (p .0) (sym (test-later n seen fs h) ∙ q) in
-    let new : r .0 ∷ [] ≡ p .0 = ok-inj (r .0 ∷ []) (p .0) (r .2) in
-    let s = andThen-inv (through datasetTest 1 (n + 1) (p .0 ++ seen) items) (λ later. done (p .0 ++ later)) recs (p .2) in
-    let all : r .0 ∷ s .0 ≡ recs = ap (λ (l : List Rec). l ++ s .0) new ∙ done-inj (p .0 ++ s .0) recs (s .2) in
-    let x = record-passed (lastRank seen) (each keyOf seen) fs (r .0) (r .1) in
-    let y = through-passed items (n + 1) (p .0 ++ seen) (s .0) (omega arith) (s .1) in
-    ((x .0, y .0), sym all ∙ ap₂ (λ (a : Rec) (l : List Rec). a ∷ l) (x .1) (y .1))
+    let l = through-later fs items n seen recs h e in
+    let x = record-passed (lastRank seen) (each keyOf seen) fs (l .made) (l .passes) in
+    let y = through-passed items (n + 1) (l .made ∷ seen) (l .others) (omega arith) (l .onward) in
+    ((x .0, y .0), sym (l .all) ∙ ap₂ (λ (a : Rec) (rs : List Rec). a ∷ rs) (x .1) (y .1))
 
 -- ---- the records after the third
 

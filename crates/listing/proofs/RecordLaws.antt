@@ -28,15 +28,16 @@ use Rattle.rules.specs.Record.{identOf, recOf}
 use Rattle.rules.specs.declared.Kind.{Kind}
 use Rattle.rules.specs.declared.Kind.the-variants.{Info, Point, Multi, Feature}
 use Rattle.rules.specs.declared.Mode.the-variants.{InDataset}
+use Rattle.rules.proofs.KindLaws.{kind-of-tag}
+use Rattle.rules.proofs.FilledLaws.{stands-fill}
 use Rattle.records.specs.Graded.{foundKind}
 use Rattle.records.specs.declared.grammar.Found.{Found}
 use Rattle.records.specs.declared.grammar.Found.the-variants.{Is, Nothing}
 use Rattle.contents.specs.Fit.{identified}
-use Rattle.contents.proofs.FitLaws.{stands-fill}
 use Rattle.writing.proofs.PartsLaws.{wrote-as}
 use Rattle.listing.specs.Said.{entriesIn, tuplesIn, Passed, recordIn}
 use Rattle.listing.specs.Lines.{lineOf}
-use Rattle.listing.proofs.SaidLaws.{kind-of, record-is, coordinates-said, attributes-said}
+use Rattle.listing.proofs.SaidLaws.{record-is, coordinates-said, attributes-said}
 
 -- ---- the identifier
 
@@ -94,7 +95,7 @@ module _ (r : List ℕ) (h : Shape) (p : Passed (fieldsAt r h 24)) (e : Place) (
     module _ (o : Found) (eo : o ≡ foundKind (kindOf tag)) where
       known : o ≡ Is (passed .kind)
       unfolding firstTag
-      known = eo ∙ ap (λ (t : ℕ). foundKind (kindOf t)) (passed .tag) ∙ ap foundKind (kind-of (passed .kind))
+      known = eo ∙ ap (λ (t : ℕ). foundKind (kindOf t)) (passed .tag) ∙ ap foundKind (kind-of-tag (passed .kind))
 
       pub record-unknown : o ≡ Nothing → ⊥
       record-unknown y = let z : Nothing ≡ Is (passed .kind) = sym y ∙ known in let w : _≡_ {A = ℕ} 0 1 = cc in omega arith

@@ -1,7 +1,6 @@
 -- What the fields of a record that has passed its numbers say is what the rules have of it. Assumes nothing.
 use mathlib.Core.Path.{_≡_, refl, sym, ap, ap₂, _∙_}
 use mathlib.Core.Bool.{Bool, true, false}
-use mathlib.Core.Option.{some}
 use mathlib.Core.List.{List, [], _∷_, _++_}
 use Prim.Native.Nat.{ℕ, _+_, _/_}
 use native.Mathlib.Nat.{zero-add}
@@ -15,6 +14,7 @@ use Rattle.base.specs.Lists.{empty, each, gather}
 use Rattle.base.specs.Walk.{Got, steps, walk}
 use Rattle.base.proofs.CheckLaws.{bind-inv}
 use Rattle.base.proofs.ChoiceLaws.{both-hold}
+use Rattle.base.proofs.ListLaws.{each-length}
 use Rattle.skeleton.specs.File.{Field}
 use Rattle.fields.specs.Sizes.{sizes}
 use Rattle.fields.specs.Table.{headOf, tupleOf}
@@ -36,26 +36,19 @@ use Rattle.rules.specs.Record.{standing, partsOf, recOf}
 use Rattle.rules.specs.declared.Kind.{Kind}
 use Rattle.rules.specs.declared.Kind.the-variants.{Info, Point, Multi, Feature}
 use Rattle.rules.specs.declared.Mode.the-variants.{InDataset}
+use Rattle.rules.proofs.KindLaws.{kind-of-tag}
+use Rattle.rules.proofs.CoordinateLaws.{coords-length}
 use Rattle.contents.specs.Fit.{fits, allFit}
-use Rattle.contents.proofs.CountLaws.{coords-length}
 use Rattle.contents.proofs.FitLaws.{five-fit}
-use Rattle.contents.proofs.ListLaws.{each-length}
 use Rattle.contents.proofs.TreeLaws.{tree-new-fits}
 use Rattle.listing.specs.Said.{whole, entriesOf, entriesIn, isCoordinates, tuplesOf, tuplesIn, Passed, kindFor, recordIn}
 use Rattle.listing.proofs.CountLaws.{entries-none}
 
 -- ---- the kind
 
-pub kind-of : (k : Kind) → kindOf (tagOf k) ≡ some k
-unfolding kindOf tagOf
-kind-of Info = refl
-kind-of Point = refl
-kind-of Multi = refl
-kind-of Feature = refl
-
 pub record-is : (fs : List Field) (k : Kind) → firstTag fs ≡ tagOf k → recordIn fs ≡ recOf k fs
 unfolding recordIn kindFor
-record-is fs k e = ap (λ (t : ℕ). recOf (kindFor (kindOf t)) fs) e ∙ ap (λ o. recOf (kindFor o) fs) (kind-of k)
+record-is fs k e = ap (λ (t : ℕ). recOf (kindFor (kindOf t)) fs) e ∙ ap (λ o. recOf (kindFor o) fs) (kind-of-tag k)
 
 -- ---- coordinate tuples
 

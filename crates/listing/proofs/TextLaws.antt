@@ -4,7 +4,6 @@ use mathlib.Core.List.{List, [], _∷_, _++_}
 use Prim.Native.Nat.{ℕ, _+_, _-_, _^_, _≤_, _<_}
 use native.Mathlib.Omega.{arith}
 use lib.ListN.{length, take, getD, set, replicate, length-replicate}
-use lib.Seq.{set-out}
 use Rattle.memory.specs.Put.{part, put}
 use Rattle.memory.specs.Digits.{decimal}
 use Rattle.memory.specs.Wrote.{Wrote}
@@ -14,11 +13,6 @@ use Rattle.memory.proofs.WroteLaws.{then, wrote-take}
 use Rattle.skeleton.specs.Digits.{inDigits, fewestDigits, inFewestDigits}
 use Rattle.writing.proofs.PartsLaws.{same-digits, wrote-as}
 use Rattle.listing.specs.Lines.{spaced}
-
--- ---- `store`
-
-pub store-out : (d : List ℕ) (at x : ℕ) → length d ≤ at → d ≡ set d at x
-store-out d at x h = sym (set-out d at x h)
 
 -- ---- the loop of `put_text`: k bytes of the text are stored, where there was room for them
 

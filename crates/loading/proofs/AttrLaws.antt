@@ -6,42 +6,32 @@ use mathlib.Core.List.{List, []}
 use native.Mathlib.Omega.{arith}
 use lib.ListN.{length, take}
 use Rattle.base.specs.Check.{passed, pass}
+use Rattle.base.proofs.CheckLaws.{passed-inv}
 use Rattle.skeleton.specs.Emit.{size}
 use Rattle.skeleton.specs.Place.{between}
+use Rattle.skeleton.proofs.BetweenLaws.{length-between}
 use Rattle.fields.specs.Table.{headOf, tupleOf}
 use Rattle.fields.specs.Content.{fill}
 use Rattle.fields.specs.declared.Format.the-variants.{AttrNew}
 use Rattle.fields.proofs.WiderLaws.{spas}
 use Rattle.forest.specs.Flat.{flat}
 use Rattle.rules.specs.Tags.{ATTR}
-use Rattle.rules.specs.Kind.{rowsOf}
 use Rattle.rules.specs.Content.{formatOf}
 use Rattle.rules.specs.Coordinates.{coordsIn}
 use Rattle.rules.specs.Trees.{attrTree, treeStands}
 use Rattle.rules.specs.Record.{Rec}
 use Rattle.rules.specs.Written.{fieldAs}
-use Rattle.rules.specs.declared.Kind.{Kind}
-use Rattle.rules.specs.declared.Kind.the-variants.{Info, Point, Multi, Feature}
-use Rattle.sound.specs.Sound.{rowed}
-use Rattle.sound.proofs.Stand.{passed-inv}
 use Rattle.sound.proofs.Parts.{standing-ok}
 use Rattle.items.specs.Items.{its, source}
 use Rattle.items.specs.Loaded.{Loaded}
-use Rattle.cells.proofs.TupleLaws.{length-between}
 use Rattle.version.specs.Areas.{listArea, inasArea, spasArea}
 use Rattle.version.specs.Held.{takesTree, Held}
 use Rattle.version.specs.declared.Version.{Version}
 use Rattle.version.proofs.AreaLaws.{lent}
+use Rattle.version.proofs.RowLaws.{tree-row}
 use Rattle.loading.specs.Taken.{isCoord, takeParts, takeField}
 use Rattle.loading.specs.Loads.{Loads, Took}
 use Rattle.loading.proofs.KeptLaws.{assocs-kept, inas-kept, spatials-kept, spas-kept, attrNow, held-with, list-area, list-now, list-inas, list-spas, list-others}
-
-tree-row : (k : Kind) → rowed ATTR (rowsOf k) ≡ true → takesTree k ≡ true
-unfolding rowsOf rowed takesTree
-tree-row Info e = refl
-tree-row Point e = absurd (true≢false (sym e))
-tree-row Multi e = absurd (true≢false (sym e))
-tree-row Feature e = refl
 
 module _ (b : List ℕ) (from to : ℕ) (v : Version) (w : List ℕ) (l : Loads b ATTR from to v w) where
   abbrev attrBody : List ℕ

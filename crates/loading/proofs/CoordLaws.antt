@@ -1,7 +1,7 @@
 -- A C2IT or a C2IL loaded: what the workspace and the version hold then. Assumes nothing.
 use Prim.Native.Nat.{ℕ, _+_, _-_, _*_, _≤_}
 use mathlib.Core.Path.{_≡_, refl, sym, ap, _∙_, subst}
-use mathlib.Core.Bool.{true, false, true≢false}
+use mathlib.Core.Bool.{true, true≢false}
 use mathlib.Core.List.{List, [], _++_, append-nil}
 use native.Mathlib.Omega.{arith}
 use borrow.Author.Tests.{eqb-true}
@@ -9,6 +9,7 @@ use lib.ListN.{length, take, drop, length-take}
 use lib.Seq.{take-all, drop-at}
 use lib.Dec.{eqb}
 use Rattle.skeleton.specs.Place.{between}
+use Rattle.skeleton.proofs.BetweenLaws.{length-between}
 use Rattle.fields.specs.Table.{headOf, tupleOf}
 use Rattle.fields.specs.Content.{many}
 use Rattle.fields.specs.declared.Format.the-variants.{C2it, C2il}
@@ -16,35 +17,23 @@ use Rattle.fields.proofs.FieldLaws.{head-length}
 use Rattle.fields.proofs.EvenLaws.{fill-even}
 use Rattle.fields.proofs.WiderLaws.{spas}
 use Rattle.rules.specs.Tags.{C2IT, C2IL}
-use Rattle.rules.specs.Kind.{rowsOf}
 use Rattle.rules.specs.Content.{formatOf}
 use Rattle.rules.specs.Coordinates.{Coord, coordsIn}
 use Rattle.rules.specs.Record.{Rec}
 use Rattle.rules.specs.Written.{fieldAs}
-use Rattle.rules.specs.declared.Kind.{Kind}
-use Rattle.rules.specs.declared.Kind.the-variants.{Info, Point, Multi, Feature}
+use Rattle.rules.proofs.CoordinateLaws.{coords-count}
 use Rattle.sequence.proofs.Tests.{by-bool}
-use Rattle.sound.specs.Sound.{rowed}
 use Rattle.items.specs.Items.{its}
 use Rattle.items.proofs.ItemLaws.{its-end}
-use Rattle.cells.proofs.TupleLaws.{length-between}
 use Rattle.coords.specs.Tuples.{tuplesOf}
-use Rattle.coords.proofs.TupleLaws.{coords-count}
 use Rattle.version.specs.Areas.{listArea, inasArea, spasArea}
-use Rattle.version.specs.Held.{takesTree, Held}
+use Rattle.version.specs.Held.{Held}
 use Rattle.version.specs.declared.Version.{Version}
 use Rattle.version.proofs.AreaLaws.{lent}
+use Rattle.version.proofs.RowLaws.{point-row, list-row}
 use Rattle.loading.specs.Taken.{isCoord, takeParts, takeField}
 use Rattle.loading.specs.Loads.{Loads, LoadsCoords, Took}
 use Rattle.loading.proofs.KeptLaws.{assocs-kept, inas-kept, spatials-kept, spas-kept, coordNow, parted, held-with, list-area, list-now, list-inas, list-spas, list-others}
-
--- a kind with coordinates has no attributes
-coord-row : (t : ℕ) → rowed t (rowsOf Info) ≡ false → rowed t (rowsOf Feature) ≡ false → (k : Kind) → rowed t (rowsOf k) ≡ true → takesTree k ≡ false
-unfolding takesTree
-coord-row t i f Info e = absurd (true≢false (sym e ∙ i))
-coord-row t i f Point e = refl
-coord-row t i f Multi e = refl
-coord-row t i f Feature e = absurd (true≢false (sym e ∙ f))
 
 -- either tag takes them
 coords-taken : (t : ℕ) → isCoord t ≡ true → (body : List ℕ) (r : Rec) → parted r (takeParts (fieldAs C2IL body) (r .parts)) ≡ takeField (fieldAs t body) r
@@ -120,15 +109,15 @@ module _ (b : List ℕ) (from to : ℕ) (v : Version) (w : List ℕ) where
   coords-room t l = let a = l .room .coord in let c = length-between b from to (l .inside) in omega arith
 
   pub point-ready : Loads b C2IT from to v w → LoadsCoords b from to v w
-  unfolding formatOf headOf tupleOf rowsOf rowed
+  unfolding formatOf headOf tupleOf
   point-ready l =
       let n : length (between b from to) ≡ 8 = head-length (headOf C2it) (between b from to) refl (l .fits .formed) in
       let c = length-between b from to (l .inside) in
-      record { runs = l .runs; inside = l .inside; even = omega arith; room = coords-room C2IT l; wide = l .wide; plain = coord-row C2IT refl refl (v .kind) (l .fits .row) }
+      record { runs = l .runs; inside = l .inside; even = omega arith; room = coords-room C2IT l; wide = l .wide; plain = point-row (v .kind) (l .fits .row) }
 
   pub list-ready : Loads b C2IL from to v w → LoadsCoords b from to v w
-  unfolding formatOf headOf tupleOf rowsOf rowed
+  unfolding formatOf headOf tupleOf
   list-ready l =
       let n : length (between b from to) ≡ 8 * length (many (tupleOf C2il) (between b from to)) = fill-even (tupleOf C2il) refl (between b from to) (l .fits .formed) in
       let c = length-between b from to (l .inside) in
-      record { runs = l .runs; inside = l .inside; even = omega arith; room = coords-room C2IL l; wide = l .wide; plain = coord-row C2IL refl refl (v .kind) (l .fits .row) }
+      record { runs = l .runs; inside = l .inside; even = omega arith; room = coords-room C2IL l; wide = l .wide; plain = list-row (v .kind) (l .fits .row) }

@@ -3,8 +3,7 @@ use Prim.Native.Nat.{ℕ, _+_, _-_, _^_, _≤_, _<_}
 use mathlib.Core.Path.{_≡_, refl, sym, ap, _∙_, subst}
 use mathlib.Core.List.{List, _∷_}
 use native.Mathlib.Omega.{arith}
-use lib.ListN.{length, take, drop}
-use lib.Seq.{take-take, drop-drop}
+use lib.ListN.{length, drop}
 use Rattle.skeleton.specs.Emit.{size, sizes}
 use Rattle.skeleton.specs.File.{Field}
 use Rattle.skeleton.specs.Place.{between, placeAt, fieldsAt}
@@ -12,27 +11,16 @@ use Rattle.skeleton.specs.declared.directory.Shape.{Shape}
 use Rattle.skeleton.specs.declared.place.Place.{Place}
 use Rattle.skeleton.specs.declared.place.Place.the-variants.{At, Done}
 use Rattle.skeleton.proofs.PlaceLaws.{place-falls, place-runs, place-in, fields-more, fields-done}
+use Rattle.skeleton.proofs.BetweenLaws.{length-between, between-between}
 use Rattle.rules.specs.Record.{Rec}
 use Rattle.rules.specs.Written.{fieldAs}
 use Rattle.rules.specs.declared.Kind.{Kind}
 use Rattle.sequence.specs.Keyed.{Each}
 use Rattle.items.specs.Items.{source}
-use Rattle.cells.proofs.FrontLaws.{drop-take}
-use Rattle.cells.proofs.TupleLaws.{length-between}
 use Rattle.version.specs.Held.{Held}
 use Rattle.version.specs.declared.Version.{Version}
 use Rattle.loading.specs.Taken.{takeField, takeFields}
 use Rattle.loading.specs.Loads.{Fits, Room, Loads, LoadsAll, Took, TookAll}
-
--- a part of a part
-part-of : (b : List ℕ) (at len start end : ℕ) → end ≤ len → between (between b at (at + len)) start end ≡ between b (at + start) (at + end)
-part-of b at len start end l =
-    let m : ℕ = at + len - at in
-    let same : at + end - (at + start) ≡ end - start = omega arith in
-    ap (take (end - start)) (drop-take start m (drop at b))
-    ∙ take-take (end - start) (m - start) (drop start (drop at b)) (omega arith)
-    ∙ ap (take (end - start)) (drop-drop start at b)
-    ∙ ap (λ (n : ℕ). take n (drop (at + start) b)) (sym same)
 
 -- ---- the loop
 
@@ -88,7 +76,7 @@ module _ (b : List ℕ) (at len : ℕ) (h : Shape) (x p : ℕ) (w₀ : List ℕ)
       rest = fieldsAt rs h next
 
       fields-are : fieldsAt rs h q ≡ here ∷ rest
-      fields-are = fields-more rs h q e en tag start end next y ∙ ap (λ (body : List ℕ). fieldAs tag body ∷ rest) (part-of b at len start end within)
+      fields-are = fields-more rs h q e en tag start end next y ∙ ap (λ (body : List ℕ). fieldAs tag body ∷ rest) (between-between b at len start end within)
 
       fits-here : Fits (v .kind) here × Each (Fits (v .kind)) rest
       unfolding Each

@@ -9,6 +9,7 @@ use lib.ListN.{length}
 use Rattle.base.specs.Lists.{gather}
 use Rattle.skeleton.specs.Place.{between}
 use Rattle.skeleton.proofs.ReadLaws.{bytes-between}
+use Rattle.skeleton.proofs.BetweenLaws.{length-between}
 use Rattle.fields.specs.Table.{headOf, tupleOf}
 use Rattle.fields.specs.Content.{fill}
 use Rattle.fields.specs.declared.Format.the-variants.{Foid}
@@ -19,7 +20,6 @@ use Rattle.rules.specs.Content.{formatOf}
 use Rattle.rules.specs.Record.{Rec, foidOf}
 use Rattle.rules.specs.Written.{fieldAs}
 use Rattle.items.specs.Items.{its, source}
-use Rattle.cells.proofs.TupleLaws.{length-between}
 use Rattle.version.specs.Held.{All, RightFoid, foidBodies, Held}
 use Rattle.version.specs.declared.Version.{Version}
 use Rattle.loading.specs.Taken.{isCoord, takeParts, takeField}

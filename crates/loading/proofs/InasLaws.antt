@@ -7,8 +7,10 @@ use native.Mathlib.Omega.{arith}
 use lib.ListN.{length, take, drop, length-take, length-drop}
 use Rattle.base.specs.Check.{passed, pass}
 use Rattle.base.specs.Lists.{each}
+use Rattle.base.proofs.ListLaws.{each-append}
 use Rattle.skeleton.specs.Place.{between}
 use Rattle.skeleton.proofs.ReadLaws.{bytes-between}
+use Rattle.skeleton.proofs.BetweenLaws.{length-between}
 use Rattle.fields.specs.Table.{headOf, tupleOf}
 use Rattle.fields.specs.Content.{fill}
 use Rattle.fields.specs.declared.Format.the-variants.{InasNew}
@@ -21,14 +23,12 @@ use Rattle.rules.specs.Written.{fieldAs}
 use Rattle.items.specs.Items.{source}
 use Rattle.cells.specs.Cells.{bodiesOf}
 use Rattle.cells.proofs.InasLaws.{inas-bytes}
-use Rattle.cells.proofs.TupleLaws.{length-between}
 use Rattle.version.specs.Areas.{listArea, inasArea, spasArea}
 use Rattle.version.specs.Held.{All, RightInas, Held}
 use Rattle.version.specs.declared.Version.{Version}
 use Rattle.version.proofs.AreaLaws.{lent, lent-same, lent-behind, lent-before, lent-after}
 use Rattle.loading.specs.Taken.{isCoord, takeParts, takeField}
 use Rattle.loading.specs.Loads.{Loads, Took}
-use Rattle.sound.proofs.Lists.{each-append}
 use Rattle.loading.proofs.KeptLaws.{all-append, attributes-kept, coords-kept, spatials-kept, spas-kept, inasNow, held-with}
 
 module _ (b : List ℕ) (from to : ℕ) (v : Version) (w : List ℕ) (l : Loads b INAS from to v w) where

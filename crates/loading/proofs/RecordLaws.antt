@@ -20,6 +20,7 @@ use Rattle.skeleton.specs.declared.place.Place.the-variants.{At, Done}
 use Rattle.skeleton.proofs.PlaceLaws.{place-runs, place-in, fields-more, fields-done}
 use Rattle.skeleton.proofs.ReadLaws.{bytes-between}
 use Rattle.skeleton.proofs.RecordLaws.{right}
+use Rattle.skeleton.proofs.BetweenLaws.{length-between}
 use Rattle.fields.specs.Valid.{Bytes}
 use Rattle.fields.specs.Content.{many}
 use Rattle.fields.specs.Table.{tupleOf}
@@ -49,7 +50,6 @@ use Rattle.contents.specs.Fit.{identified}
 use Rattle.items.specs.Items.{source}
 use Rattle.items.proofs.ItemLaws.{its-end}
 use Rattle.cells.specs.Cells.{bodiesFrom}
-use Rattle.cells.proofs.TupleLaws.{length-between}
 use Rattle.stock.specs.Stored.{Loadable, stored, inserted}
 use Rattle.stock.proofs.FilledLaws.{record-short, record-filled}
 use Rattle.version.specs.Held.{All, foidBodies, Held}

@@ -8,6 +8,7 @@ use lib.ListN.{length, take, drop, length-take, length-drop}
 use Rattle.base.specs.Lists.{each}
 use Rattle.skeleton.specs.Place.{between}
 use Rattle.skeleton.proofs.ReadLaws.{bytes-between}
+use Rattle.skeleton.proofs.BetweenLaws.{length-between}
 use Rattle.fields.specs.Table.{headOf, tupleOf}
 use Rattle.fields.specs.Content.{fill, many}
 use Rattle.fields.specs.Valid.{Bytes}
@@ -19,32 +20,21 @@ use Rattle.rules.specs.Record.{Rec, Spatial, spatialOf}
 use Rattle.rules.specs.Written.{fieldAs}
 use Rattle.items.specs.Items.{source}
 use Rattle.cells.specs.Cells.{bodiesOf, spatialIn, tupleBodies}
-use Rattle.cells.specs.Keys.{Every, SpasBody}
 use Rattle.cells.specs.Acts.{SpasLoaded}
-use Rattle.cells.proofs.TupleLaws.{length-between, stored-even}
+use Rattle.cells.proofs.TupleLaws.{stored-even}
 use Rattle.version.specs.Areas.{listArea, inasArea, spasArea}
 use Rattle.version.specs.Held.{All, RightSpas, Held}
 use Rattle.version.specs.declared.Version.{Version}
 use Rattle.version.proofs.AreaLaws.{lent, lent-same, lent-behind, lent-before}
+use Rattle.version.proofs.BodyLaws.{spas-every, spas-all}
 use Rattle.loading.specs.Taken.{isCoord, takeParts, takeField}
 use Rattle.loading.specs.Loads.{Loads, Took}
 use Rattle.loading.proofs.KeptLaws.{all-append, attributes-kept, coords-kept, assocs-kept, inas-kept, spasNow, held-with}
-
--- tuples of SPAS that are made of bytes
-spas-every : (bs : List (List ℕ)) → All RightSpas bs → Every SpasBody bs
-unfolding All
-spas-every [] a = tt
-spas-every (b ∷ bs) a = ((a .0 .long, a .0 .filled), spas-every bs (a .1))
 
 spas-bytes : (bs : List (List ℕ)) → All RightSpas bs → All Bytes bs
 unfolding All
 spas-bytes [] a = tt
 spas-bytes (b ∷ bs) a = (a .0 .bytes, spas-bytes bs (a .1))
-
-spas-all : (bs : List (List ℕ)) → Every SpasBody bs → All Bytes bs → All RightSpas bs
-unfolding All
-spas-all [] e a = tt
-spas-all (b ∷ bs) e a = (record { bytes = a .0; long = e .0 .0; filled = e .0 .1 }, spas-all bs (e .1) (a .1))
 
 tuple-bytes : (s : List ℕ) → Bytes s → (k at : ℕ) → All Bytes (tupleBodies s at k)
 unfolding All tupleBodies

@@ -10,6 +10,8 @@ use lib.ListN.{length, getD}
 use lib.Dec.{eqb}
 use Rattle.base.specs.Choice.{pick, either}
 use Rattle.base.specs.Lists.{each, gather}
+use Rattle.base.proofs.ChoiceLaws.{either-false}
+use Rattle.base.proofs.ListLaws.{each-gather}
 use Rattle.skeleton.specs.File.{Field}
 use Rattle.fields.specs.Table.{tupleOf}
 use Rattle.fields.specs.Content.{many}
@@ -27,7 +29,6 @@ use Rattle.sequence.specs.Keyed.{Each}
 use Rattle.sequence.proofs.Tests.{by-bool, never}
 use Rattle.sound.specs.Sound.{rowed}
 use Rattle.sound.proofs.Lists.{each-map}
-use Rattle.sound.proofs.Marks.{each-gather}
 use Rattle.sound.proofs.Order.{most, tag-none}
 use Rattle.sound.proofs.Bodies.{bodies-none, bodies-length}
 use Rattle.sound.proofs.Records.{Whole}
@@ -157,14 +158,10 @@ not-tag k f t n e =
     (λ h. absurd (true≢false (sym e ∙ ap (λ (u : ℕ). rowed u (rowsOf k)) (eqb-true (f .tag) t h) ∙ n)))
     (λ h. h)
 
-either-no : (a : Bool) → either a false ≡ a
-either-no true = refl
-either-no false = refl
-
 list-none : (k : Kind) (fs : List Field) → Rowed k fs → rowed C2IL (rowsOf k) ≡ false → coordBodies fs ≡ bodies C2IT fs ++ bodies C2IL fs
 unfolding isCoord
 list-none k fs e n =
-    let tags = each-map fs (λ f q. ap (either (eqb (f .tag) C2IT)) (not-tag k f C2IL n q) ∙ either-no (eqb (f .tag) C2IT)) e in
+    let tags = each-map fs (λ f q. ap (either (eqb (f .tag) C2IT)) (not-tag k f C2IL n q) ∙ either-false (eqb (f .tag) C2IT)) e in
     let none = bodies-none C2IL fs (tag-none C2IL (rowsOf k) fs e n) in
     only C2IT fs tags ∙ sym (ap (λ (l : List (List ℕ)). bodies C2IT fs ++ l) none ∙ append-nil (bodies C2IT fs))
 

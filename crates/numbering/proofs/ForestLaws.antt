@@ -3,13 +3,14 @@ use mathlib.Core.Path.{_≡_, refl, sym, ap, _∙_}
 use mathlib.Core.List.{List, [], _∷_, _++_, append-assoc, append-nil}
 use Prim.Native.Nat.{ℕ, suc, _+_, _≤_, _<_}
 use native.Mathlib.Omega.{arith}
-use lib.ListN.{length, length-append}
+use lib.ListN.{length}
 use lib.Dec.{ltb}
 use borrow.Author.Tests.{lt-ltb, le-ltb, eq-eqb, ne-eqb}
 use Rattle.base.specs.Choice.{pick}
 use Rattle.forest.specs.Forest.{Forest, nil, tree, Tup, occurs, size, tuplesFrom, tuplesOf}
 use Rattle.forest.specs.Flat.{Item, item, flat, named}
 use Rattle.forest.proofs.TuplesLaws.{onto, onto-append, onto-length}
+use Rattle.forest.proofs.FlatLaws.{flat-length}
 
 -- ---- the numbers of an item, by the items before it, the latest first
 
@@ -30,11 +31,6 @@ numbered back (x ∷ xs) =
     record { natc = x .code; atix = suc (twinsIn (x .depth) (x .code) back); paix = parentIn (x .depth) back; atvl = x .value } ∷ numbered (x ∷ back) xs
 
 -- ---- a run
-
-flat-length : (d : ℕ) (f : Forest) → length (flat d f) ≡ size f
-unfolding flat size
-flat-length d nil = refl
-flat-length d (tree c v kids rest) = omega (arith, length-append (flat (suc d) kids) (flat d rest), flat-length (suc d) kids, flat-length d rest)
 
 -- a run that is not less deep leaves the parent
 parent-deep : (d e : ℕ) (f : Forest) (back : List Item) → d ≤ e → parentIn d (onto (flat e f) back) ≡ parentIn d back

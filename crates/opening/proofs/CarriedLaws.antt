@@ -8,10 +8,11 @@ use borrow.Author.Tests.{eq-eqb, ne-eqb, lt-ltb, le-ltb, le-leb, lt-leb}
 use lib.Dec.{eqb, leb, ltb}
 use lib.ListN.{length}
 use Rattle.base.specs.Choice.{pick, both}
-use Rattle.base.specs.Check.{ok, no, fault, Passed, pass}
+use Rattle.base.specs.Check.{ok, no, fault, Passed}
 use Rattle.base.specs.Verdict.{verdictOf}
 use Rattle.base.specs.declared.Verdict.{Verdict}
 use Rattle.base.specs.declared.Verdict.the-variants.{Passed as Through, Refused as Failed}
+use Rattle.base.proofs.CheckLaws.{passed-is}
 use Rattle.skeleton.specs.File.{Field}
 use Rattle.skeleton.specs.Place.{between, placeAt, fieldsAt}
 use Rattle.skeleton.specs.Record.{recordAt}
@@ -62,11 +63,6 @@ there f n p q e len base a b x = go (both (ltb 1 n) (leb (length f) p)) e
     go false z = z
 
 -- ---- a test passed or refused
-
-passed-is : (c : Passed) → Through ≡ verdictOf c → c ≡ pass
-unfolding verdictOf
-passed-is (ok tt) e = refl
-passed-is (no x) e = absurd (let y : _≡_ {A = ℕ} 0 1 = cc in omega arith)
 
 refused-is : (c : Passed) (k i j : ℕ) → Failed k i j ≡ verdictOf c → c ≡ no (fault k i j)
 unfolding verdictOf

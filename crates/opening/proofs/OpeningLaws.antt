@@ -11,6 +11,7 @@ use lib.ListN.{length}
 use Rattle.base.specs.Choice.{pick, both}
 use Rattle.base.specs.Check.{Check, ok, no, bind, fault, Passed, pass}
 use Rattle.base.specs.Walk.{Got, before}
+use Rattle.base.proofs.ChoiceLaws.{both-false}
 use Rattle.skeleton.specs.File.{Field, recordsFrom, recordsOf}
 use Rattle.skeleton.specs.Place.{between, fieldsAt}
 use Rattle.skeleton.specs.Record.{recordAt}
@@ -35,10 +36,6 @@ and-done : {A : Type 0} (c : Outcome A) → andThen c (λ a. done a) ≡ c
 unfolding andThen
 and-done (done a) = refl
 and-done (refused file n x) = refl
-
-none-of : (b : Bool) → both b false ≡ false
-none-of true = refl
-none-of false = refl
 
 module _ (test : ℕ → List Rec → List Field → Check (List Rec)) (file least n : ℕ) (seen : List Rec) (own : List Field → Passed)
     (same : (fs : List Field) → test n seen fs ≡ addsNone (own fs)) (f : List ℕ) where
@@ -83,7 +80,7 @@ module _ (test : ℕ → List Rec → List Field → Check (List Rec)) (file lea
           let h : length f ≤ p = leb-true (length f) p z in
           let m : 1 < n = ⊎-elim (λ (y : 1 < n). y) (λ (y : p < length f). omega arith) c in
           rw (lt-ltb 1 n m) (missing l p h)
-      go false z = let h : p < length f = leb-false (length f) p z in rw (none-of (ltb 1 n)) (by-head p h (recordAt f p) refl)
+      go false z = let h : p < length f = leb-false (length f) p z in rw (both-false (ltb 1 n)) (by-head p h (recordAt f p) refl)
 
 -- a record that was carried: where it lies in the file, that its fields passed, and that it is one more of the file
 pub record Over (test : List Field → Passed) (f : List ℕ) (p e : ℕ) : Type 0 where

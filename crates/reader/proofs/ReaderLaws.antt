@@ -2,11 +2,10 @@
 use mathlib.Core.Path.{_≡_, refl, sym, _∙_, ap}
 use mathlib.Core.Bool.{Bool, true, false}
 use mathlib.Core.List.{List, [], _∷_, _++_}
-use mathlib.Core.Logic.{_⊎_, inl, inr, ⊎-elim}
-use Prim.Native.Nat.{ℕ, suc, _+_, _-_, _^_, _≤_, _<_}
+use Prim.Native.Nat.{ℕ, _+_, _^_, _≤_, _<_}
 use native.Mathlib.Omega.{arith}
-use borrow.Author.Tests.{lt-ltb, le-ltb, leb-true, leb-false}
-use lib.Dec.{ltb, leb}
+use borrow.Author.Tests.{lt-ltb, le-ltb}
+use lib.Dec.{ltb}
 use lib.ListN.{length, take, drop, getD}
 use Rattle.base.specs.Choice.{pick}
 use Rattle.base.specs.Check.{Check, ok, no, fault, Passed}
@@ -16,12 +15,9 @@ use Rattle.base.specs.Walk.{Got, before}
 use Rattle.base.specs.declared.Fault.{Fault}
 use Rattle.base.proofs.ChoiceLaws.{by-test}
 use Rattle.skeleton.specs.File.{Field, recordsFrom, recordsOf}
-use Rattle.skeleton.specs.Record.{recordAt}
-use Rattle.skeleton.specs.declared.leader.Head.{Head}
-use Rattle.skeleton.specs.declared.leader.Head.the-variants.{Good, Refused}
-use Rattle.base.proofs.WalkLaws.{by-measure}
-use Rattle.skeleton.proofs.FileLaws.{records-more, records-refused, records-over, records-all}
-use Rattle.skeleton.proofs.RecordLaws.{record-falls}
+use Rattle.base.proofs.ListLaws.{each-length}
+use Rattle.skeleton.proofs.FileLaws.{records-all}
+use Rattle.skeleton.proofs.ReadLaws.{few-records}
 use Rattle.rules.specs.Associations.{Mark, marks, number11}
 use Rattle.rules.specs.Record.{Rec, keyOf}
 use Rattle.rules.specs.General.{generalRecord}
@@ -126,36 +122,9 @@ whole f =
 
 -- ---- there are fewer records than bytes
 
-le-or-lt : (a b : ℕ) → (a ≤ b) ⊎ (b < a)
-le-or-lt a b = go (leb a b) refl
-  where
-    go : (t : Bool) → leb a b ≡ t → (a ≤ b) ⊎ (b < a)
-    go true e = inl (leb-true a b e)
-    go false e = inr (leb-false a b e)
-
-abbrev Few : List ℕ → ℕ → Type 0
-Few f p = length ((recordsFrom f p) .items) ≤ length f - p
-
-few-by : (f : List ℕ) (p : ℕ) → ((q : ℕ) → length f - q < length f - p → Few f q) → (q : Head) → q ≡ recordAt f p → p < length f → Few f p
-few-by f p ih (Good len base a b) eq h =
-    let d = record-falls f p (Good len base a b) eq len base a b refl in
-    let e = ih (p + len) d in
-    rw (records-more f p h (Good len base a b) eq len base a b refl) (omega arith)
-few-by f p ih (Refused k) eq h = rw (records-refused f p h (Refused k) eq k refl) (omega arith)
-
-few : (f : List ℕ) (p : ℕ) → Few f p
-few f p =
-    by-measure (λ q. length f - q) (Few f) (λ q ih.
-    ⊎-elim (λ (h : length f ≤ q). rw (records-over f q h) (omega arith)) (λ (h : q < length f). few-by f q ih (recordAt f q) refl h) (le-or-lt (length f) q)) p
-
-each-length : {A B : Type 0} (g : A → B) (l : List A) → length (each g l) ≡ length l
-unfolding each
-each-length g [] = refl
-each-length g (x ∷ xs) = ap suc (each-length g xs)
-
 keys-few : (f : List ℕ) (start : ℕ) → length (keysFrom f start) ≤ length f
 unfolding keysFrom
-keys-few f start = let a = few f start in rw (each-length _ ((recordsFrom f start) .items)) (omega arith)
+keys-few f start = let a = few-records f start in rw (each-length _ ((recordsFrom f start) .items)) (omega arith)
 
 -- ---- the answers
 

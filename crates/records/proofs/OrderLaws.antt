@@ -10,6 +10,7 @@ use borrow.Author.Tests.{eq-eqb, ne-eqb, not-true, not-false}
 use lib.Dec.{eqb}
 use lib.ListN.{length, getD, drop}
 use Rattle.base.specs.Choice.{pick, both, either}
+use Rattle.base.proofs.ChoiceLaws.{both-false}
 use Rattle.skeleton.specs.Directory.{tagAt}
 use Rattle.skeleton.specs.Place.{placeAt, fieldsAt}
 use Rattle.skeleton.specs.RightFrom.{RightFrom}
@@ -29,10 +30,6 @@ use Rattle.records.specs.Order.{shutOut, orderFrom, faultyField}
 use Rattle.records.specs.declared.order.Instructions.{Instructions}
 
 -- ---- fields that the instructions do not take
-
-both-false : (b : Bool) → both b false ≡ false
-both-false true = refl
-both-false false = refl
 
 alone : (b : Bool) → b ≡ either (both b true) false
 alone true = refl

@@ -9,11 +9,9 @@ use borrow.Author.Tests.{eq-eqb, ne-eqb}
 use lib.Dec.{eqb}
 use lib.ListN.{length, getD, take, drop, length-take, length-drop, List·getD-eq-default}
 use lib.Seq.{getD-take, getD-drop}
-use Rattle.base.specs.Choice.{pick}
 use Rattle.base.specs.Lists.{each, empty}
-use Rattle.skeleton.specs.File.{Field}
 use Rattle.skeleton.specs.Directory.{tagAt}
-use Rattle.skeleton.specs.Place.{between, placeAt, fieldsAt, findFrom, fromTag}
+use Rattle.skeleton.specs.Place.{between, placeAt, fieldsAt, findFrom}
 use Rattle.skeleton.specs.RightFrom.{RightFrom}
 use Rattle.skeleton.specs.declared.directory.Shape.{Shape}
 use Rattle.skeleton.specs.declared.place.Place.{Place}
@@ -23,6 +21,7 @@ use Rattle.skeleton.proofs.RightLaws.{Next, right-next, right-done, right-in, r
 use Rattle.skeleton.proofs.FindLaws.{found-none, found-first, found-tag, found-runs, found-in}
 use Rattle.rules.specs.ByTag.{withTag, has, bodies, bodyOf}
 use Rattle.rules.specs.Grammar.{couiByte}
+use Rattle.rules.proofs.ByTagLaws.{with-from}
 
 -- ---- a byte of a part
 
@@ -37,17 +36,6 @@ module _ (r : List ℕ) (start end i : ℕ) where
       List·getD-eq-default (between r start end) 0 l
 
 -- ---- the first field with a tag
-
--- the fields before it do not matter
-with-from : (t : ℕ) (fs : List Field) → withTag t fs ≡ withTag t (fromTag t fs)
-unfolding withTag fromTag
-with-from t [] = refl
-with-from t (f ∷ fs) = go (eqb (f .tag) t) refl (with-from t fs)
-  where
-    go : (b : Bool) → eqb (f .tag) t ≡ b → withTag t fs ≡ withTag t (fromTag t fs)
-        → pick b (f ∷ withTag t fs) (withTag t fs) ≡ withTag t (pick b (f ∷ fs) (fromTag t fs))
-    go true e ih = simp e
-    go false e ih = ih
 
 module _ (r : List ℕ) (h : Shape) (t p : ℕ) (e : Place) (en : e ≡ findFrom r h t p) where
   pub with-none : e ≡ Done → withTag t (fieldsAt r h p) ≡ []

@@ -64,7 +64,7 @@ pub fn rank_of(k: Kind) -> usize
 }
 
 // Where RUIN stands in an identifier: behind the code, if there is one.
-fn ruin_place(k: Kind) -> usize
+pub fn ruin_place(k: Kind) -> usize
     ensures { λ n. ⌜ n ≡ ruinPlace k ⌝ }
 {
     match k {

@@ -1,6 +1,6 @@
 -- In a dataset that has passed 1 to 7 every reference can be read. Assumes nothing.
-use mathlib.Core.Path.{_≡_, refl, sym, _∙_}
-use mathlib.Core.List.{List, [], _∷_, _++_}
+use mathlib.Core.Path.{_≡_, refl, sym}
+use mathlib.Core.List.{List, [], _∷_}
 use mathlib.Core.Bool.{Bool, true, false, not}
 use Prim.Native.Nat.{ℕ, _+_, _≤_}
 use native.Mathlib.Omega.{arith}
@@ -29,19 +29,19 @@ use Rattle.rules.specs.Grammar.{asStored, number4}
 use Rattle.rules.specs.Content.{inasFormat, formatOf, number5}
 use Rattle.rules.specs.Record.{Rec, keyOf, datasetRecord}
 use Rattle.rules.specs.Associations.{inasKey, spasMarks, fieldMarks, marks}
-use Rattle.rules.specs.Outcome.{done, at}
+use Rattle.rules.specs.Outcome.{done}
 use Rattle.rules.specs.File.{lastRank, datasetTest, through, taken}
 use Rattle.rules.specs.declared.Kind.{Kind}
 use Rattle.rules.specs.declared.Kind.the-variants.{Info, Point, Multi, Feature}
 use Rattle.rules.specs.declared.Mode.the-variants.{InDataset}
-use Rattle.rules.proofs.OutcomeLaws.{andThen-inv, at-inv}
+use Rattle.rules.proofs.OutcomeLaws.{andThen-inv}
+use Rattle.rules.proofs.FileLaws.{through-later}
 use Rattle.contents.specs.Fit.{fits, allFit}
 use Rattle.contents.proofs.StepLaws.{second-entry}
 use Rattle.contents.proofs.FormatLaws.{of-inas, of-spas}
 use Rattle.contents.proofs.FitLaws.{five-fit}
 use Rattle.contents.proofs.SevenLaws.{kind-some, four-first}
 use Rattle.keys.specs.Standing.{outcomeFrom}
-use Rattle.keys.proofs.PassedLaws.{test-later}
 use Rattle.keys.proofs.ReferenceLaws.{unread-done}
 use Rattle.references.specs.Readable.{readable, allReadable, plain, recordReadable, everyReadable}
 
@@ -71,7 +71,7 @@ module _ (f : Field) (e : fits true f ≡ true) where
       go false true x y = fits-spas (eqb-true (f .tag) SPAS y)
       go false false x y = refl
 
-all-fits : (fs : List Field) → allFit true fs ≡ true → allReadable fs ≡ true
+pub all-fits : (fs : List Field) → allFit true fs ≡ true → allReadable fs ≡ true
 unfolding allFit allReadable
 all-fits [] e = refl
 all-fits (f ∷ fs) e =
@@ -103,12 +103,9 @@ through-readable : (items : List (List Field)) (n : ℕ) (seen recs : List Rec) 
 unfolding through everyReadable
 through-readable [] n seen recs h e = refl
 through-readable (fs ∷ items) n seen recs h e =
-    let p = andThen-inv (at 1 n (datasetTest n seen fs)) _ recs e in
-    let q = at-inv 1 n (datasetTest n seen fs) (p .0) (p .1) in
-    let r = bind-inv (datasetRecord (lastRank seen) (each keyOf seen) fs) (λ r. ok (r ∷ [])) (p .0) (sym (test-later n seen fs h) ∙ q) in
-    let s = andThen-inv (through datasetTest 1 (n + 1) (p .0 ++ seen) items) (λ later. done (p .0 ++ later)) recs (p .2) in
-    rw (record-readable (lastRank seen) (each keyOf seen) fs (r .0) (r .1))
-    (through-readable items (n + 1) (p .0 ++ seen) (s .0) (omega arith) (s .1))
+    let l = through-later fs items n seen recs h e in
+    rw (record-readable (lastRank seen) (each keyOf seen) fs (l .made) (l .passes))
+    (through-readable items (n + 1) (l .made ∷ seen) (l .others) (omega arith) (l .onward))
 
 pub passed-readable : (f : List ℕ) (start : ℕ) → outcomeFrom f start 0 [] ≡ done tt → everyReadable ((recordsFrom f start) .items) ≡ true
 unfolding outcomeFrom taken

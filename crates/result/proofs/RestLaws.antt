@@ -7,28 +7,15 @@ use Rattle.base.specs.Lists.{gather}
 use Rattle.skeleton.specs.File.{Field}
 use Rattle.rules.specs.Record.{Rec}
 use Rattle.sequence.specs.Stream.{keptOf, kept, joinedOf, joined, stream}
-use Rattle.sequence.proofs.Gather.{gather-append, gather-gather}
 use Rattle.updates.specs.Acts.{chart}
-use Rattle.updates.specs.Streamed.{kinds, resultRecords, recordBytes, keptBytes, joinedBytes, total, recordLength, keptLength, joinedLength}
+use Rattle.updates.specs.Streamed.{kinds, resultRecords, recordBytes, total, recordLength, keptLength, joinedLength}
+use Rattle.updates.proofs.Streams.{result-bytes}
 use Rattle.result.specs.Rest.{restBytes, restLength}
 
 -- ---- bytes
 
-joined-bytes : (q : ℕ) (us : List (List Field)) → gather recordBytes (joined chart q us) ≡ joinedBytes q us
-unfolding joined joinedBytes gather
-joined-bytes q [] = refl
-joined-bytes q (u ∷ us) =
-    gather-append recordBytes (joinedOf chart q u us) (joined chart q us) ∙ ap (λ (l : List ℕ). gather recordBytes (joinedOf chart q u us) ++ l) (joined-bytes q us)
-
-kind-bytes : (q : ℕ) (ds : List Rec) (us : List (List Field)) → gather recordBytes (kept chart q us ds ++ joined chart q us) ≡ keptBytes q us ds ++ joinedBytes q us
-unfolding kept keptBytes
-kind-bytes q ds us = gather-append recordBytes (kept chart q us ds) (joined chart q us) ∙ rw (gather-gather recordBytes (keptOf chart q us) ds, joined-bytes q us)
-
 pub rest-bytes : (ds : List Rec) (us : List (List Field)) → gather recordBytes (resultRecords ds us) ≡ restBytes ds us
-unfolding resultRecords stream
-rest-bytes ds us =
-    gather-gather recordBytes (λ q. kept chart q us ds ++ joined chart q us) kinds
-    ∙ ap (λ (f : ℕ → List ℕ). gather f kinds) (fun-ext (λ q. kind-bytes q ds us))
+rest-bytes ds us = result-bytes ds us
 
 -- ---- lengths
 

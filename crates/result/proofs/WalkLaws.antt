@@ -20,7 +20,9 @@ use Rattle.rules.specs.Record.{Rec}
 use Rattle.sequence.specs.Keyed.{Each, rank, Ordered}
 use Rattle.sequence.specs.Stream.{keptOf, kept, joinedOf, joined}
 use Rattle.sequence.proofs.Lists.{ordered-from}
-use Rattle.sound.proofs.Lists.{each-map, each-join}
+use Rattle.sequence.proofs.EachLaws.{each-join}
+use Rattle.sequence.proofs.Stream.{kept-beyond}
+use Rattle.sound.proofs.Lists.{each-map}
 use Rattle.updates.specs.Acts.{chart}
 use Rattle.keys.specs.Key.{keyAt}
 use Rattle.keys.specs.Look.{Sound}
@@ -65,12 +67,6 @@ kept-before : (q : ℕ) (us : List (List Field)) (before later : List Rec) → E
 unfolding kept gather keptOf Each
 kept-before q us [] later e = refl
 kept-before q us (r ∷ before) later e = rw (ne-eqb (rank chart r) q (λ z. omega (arith, e .0))) (kept-before q us before later (e .1))
-
--- those of later kinds
-kept-behind : (q n : ℕ) (us : List (List Field)) (rs : List Rec) → q < n → Ordered chart n rs → kept chart q us rs ≡ []
-unfolding kept gather keptOf Ordered
-kept-behind q n us [] h o = refl
-kept-behind q n us (r ∷ rs) h o = rw (ne-eqb (rank chart r) q (λ z. omega (arith, o .0))) (kept-behind q (rank chart r) us rs (omega (arith, o .0)) (o .1))
 
 ordered-behind : (n : ℕ) (before later : List Rec) → Ordered chart n (before ++ later) → Ordered chart n later
 unfolding Ordered
@@ -144,7 +140,7 @@ module _ (d : List ℕ) (ds m p : ℕ) (g : Reached d ds m p) where
           let b : Ordered chart 1 (rec ∷ stockFrom d (p + len)) = subst (λ (i : List Rec). Ordered chart 1 i) next-old (ordered-behind 1 (g .before) (stockFrom d p) a) in
           let z : kept chart q ((recordsFrom u us) .items) (stockFrom d p) ≡ []
           = ap (kept chart q ((recordsFrom u us) .items)) next-old
-          ∙ kept-behind q (rank chart rec) ((recordsFrom u us) .items) (rec ∷ stockFrom d (p + len)) (omega (arith, ranked)) (omega arith, b .1) in
+          ∙ kept-beyond chart q (rank chart rec) ((recordsFrom u us) .items) (rec ∷ stockFrom d (p + len)) (omega (arith, ranked)) (omega arith, b .1) in
           ap (λ (i : List Rec). i ++ (joined chart q ((recordsFrom u us) .items) ++ leftKinds (stockFrom d ds) ((recordsFrom u us) .items) (suc q))) z
 
       -- or it is passed

@@ -9,6 +9,7 @@ use lib.ListN.{length, length-append}
 use Rattle.base.specs.Check.{ok}
 use Rattle.base.specs.Lists.{each, gather}
 use Rattle.base.specs.Walk.{Got}
+use Rattle.base.proofs.ChoiceLaws.{both-too}
 use Rattle.fields.specs.Table.{code, count, insert, headOf, tupleOf}
 use Rattle.fields.specs.Values.{Val, num, txt, mark, puts, putAll}
 use Rattle.fields.specs.Content.{tuples, many}
@@ -26,7 +27,7 @@ use Rattle.rules.specs.Trees.{tupOf, attrTree}
 use Rattle.rules.specs.Written.{tupVals, treeBytes}
 use Rattle.sound.specs.Sound.{Attributes}
 use Rattle.sound.proofs.Lists.{each-map}
-use Rattle.sound.proofs.Values.{both-too, pass-each}
+use Rattle.sound.proofs.Values.{pass-each}
 use Rattle.sound.proofs.Trees.{Small, tuples-small}
 use Rattle.sound.proofs.Stand.{Has}
 

@@ -24,15 +24,16 @@ use Rattle.rules.specs.File.{lastRank, datasetTest, through, ending, taken, dat
 use Rattle.rules.specs.declared.Kind.{Kind}
 use Rattle.rules.specs.declared.Kind.the-variants.{Info, Point, Multi, Feature}
 use Rattle.rules.proofs.OutcomeLaws.{andThen-inv, done-inj}
+use Rattle.rules.proofs.FileLaws.{test-later}
 use Rattle.sequence.specs.Keyed.{Each, Ordered, Once, find}
 use Rattle.sequence.proofs.Tests.{by-bool, never}
+use Rattle.sequence.proofs.EachLaws.{each-join}
 use Rattle.updates.specs.Acts.{chart}
 use Rattle.updates.proofs.Steps.{placed}
 use Rattle.updates.proofs.Kept.{every-done, every-inv, each-of, of-each}
 use Rattle.sound.specs.Sound.{SoundRec, Sound}
-use Rattle.sound.proofs.Lists.{each-zip, each-join}
+use Rattle.sound.proofs.Lists.{each-zip}
 use Rattle.sound.proofs.General.{each-fits}
-use Rattle.sound.proofs.Read.{test-later}
 use Rattle.roundtrip.proofs.Room.{short}
 use Rattle.roundtrip.proofs.Record.{eleven-passes, record-reads}
 

@@ -19,9 +19,10 @@ use Rattle.rules.specs.Written.{fieldAs, listField, nums, treeBytes, assocField
 use Rattle.rules.specs.declared.Kind.{Kind}
 use Rattle.rules.specs.declared.Kind.the-variants.{Info, Point, Multi, Feature}
 use Rattle.sequence.specs.Keyed.{Each}
+use Rattle.sequence.proofs.EachLaws.{each-join}
 use Rattle.updates.proofs.Kept.{of-each}
 use Rattle.sound.specs.Sound.{SoundAssoc, SoundCoord, Counted, SoundFoid, SoundRec}
-use Rattle.sound.proofs.Lists.{each-zip, each-join}
+use Rattle.sound.proofs.Lists.{each-zip}
 use Rattle.sound.proofs.Stand.{Has, Formed}
 use Rattle.roundtrip.proofs.Attributes.{attr-has, attr-tree}
 use Rattle.roundtrip.proofs.Associations.{inas-has, inas-tree}

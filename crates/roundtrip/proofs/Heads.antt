@@ -3,13 +3,13 @@ use mathlib.Core.Path.{_≡_, refl, ap}
 use mathlib.Core.Bool.{true}
 use mathlib.Core.List.{List, [], _++_, append-nil}
 use Rattle.base.specs.Lists.{gather}
+use Rattle.base.proofs.ChoiceLaws.{both-too}
 use Rattle.fields.specs.Table.{headOf, tupleOf}
 use Rattle.fields.specs.Values.{Val, values, puts, putAll}
 use Rattle.fields.specs.Content.{Content, content, encode}
 use Rattle.fields.specs.Valid.{passAll, passEach, valid}
 use Rattle.fields.specs.declared.Format.{Format}
 use Rattle.fields.proofs.DecodeLaws.{encode-fill}
-use Rattle.sound.proofs.Values.{both-too}
 use Rattle.sound.proofs.Stand.{Has}
 
 -- it fills the field, and is read again

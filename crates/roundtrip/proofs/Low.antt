@@ -18,7 +18,7 @@ use Rattle.fields.specs.Valid.{Bytes}
 use Rattle.fields.specs.declared.Sub.{Sub}
 use Rattle.fields.specs.declared.Sub.the-variants.{B11, B12, B14, Among, Raw, Text, Fixed}
 use Rattle.sequence.specs.Keyed.{Each}
-use Rattle.sound.proofs.Lists.{each-join}
+use Rattle.sequence.proofs.EachLaws.{each-join}
 use Rattle.sound.proofs.Texts.{TextBytes}
 
 -- each number is a byte

@@ -2,7 +2,6 @@
 use Prim.Native.Nat.{ℕ, _≤_, _<_}
 use mathlib.Core.Path.{_≡_, refl, _∙_}
 use mathlib.Core.Bool.{true, false}
-use mathlib.Core.Option.{some}
 use mathlib.Core.List.{List, []}
 use native.Mathlib.Omega.{arith}
 use borrow.Author.Tests.{le-ltb}
@@ -20,7 +19,7 @@ use Rattle.fields.proofs.DecodeLaws.{length-numbers}
 use Rattle.forest.specs.Forest.{Forest, nil, tuplesOf, tuplesFrom}
 use Rattle.rules.specs.Tags.{COCC}
 use Rattle.rules.specs.ByTag.{has}
-use Rattle.rules.specs.Kind.{kindOf, tagOf, rank, rowsOf}
+use Rattle.rules.specs.Kind.{rank, rowsOf}
 use Rattle.rules.specs.Grammar.{ruinByte, couiByte, asStored, forbidden, fieldsStand, number4}
 use Rattle.rules.specs.Content.{insertOnly, identFormat, number5}
 use Rattle.rules.specs.Trees.{number6}
@@ -32,10 +31,12 @@ use Rattle.rules.specs.Written.{nums, treeBytes, identBytes, partFields, writte
 use Rattle.rules.specs.declared.Kind.{Kind}
 use Rattle.rules.specs.declared.Kind.the-variants.{Info, Point, Multi, Feature}
 use Rattle.rules.specs.declared.Mode.the-variants.{InDataset}
+use Rattle.rules.proofs.KindLaws.{kind-of-tag}
 use Rattle.sequence.specs.Keyed.{Each}
+use Rattle.sequence.proofs.EachLaws.{each-join}
 use Rattle.updates.proofs.Kept.{of-each}
 use Rattle.sound.specs.Sound.{SoundCoord, rowed, Counted, SoundParts, SoundFoid, SoundRec, Named}
-use Rattle.sound.proofs.Lists.{each-map, each-join}
+use Rattle.sound.proofs.Lists.{each-map}
 use Rattle.sound.proofs.Keys.{apart-two}
 use Rattle.sound.proofs.Stand.{fill-stands, formed-all, treed-all}
 use Rattle.sound.proofs.Marks.{apart-once, Stands, each-eleven, marks-keys}
@@ -87,14 +88,6 @@ coord-bytes k cs s c e =
     let l : length cs ≡ 1 = rw e at c in
     omega (arith, head-length (headOf C2it) (coordBytes cs) refl (c2it-has cs s l))
 
--- the kind of its first tag
-kind-first : (k : Kind) → kindOf (tagOf k) ≡ some k
-unfolding kindOf tagOf
-kind-first Info = refl
-kind-first Point = refl
-kind-first Multi = refl
-kind-first Feature = refl
-
 -- ---- number by number
 
 module _ (r : Rec) (s : SoundRec r) where
@@ -117,7 +110,7 @@ module _ (r : Rec) (s : SoundRec r) where
   -- 4
   pub four-passes : (least : ℕ) → least ≤ rank (r .kind) → number4 InDataset least (writtenFields r) ≡ ok (r .kind)
   unfolding number4 writtenFields bind
-  four-passes least l = rw (kind-first (r .kind), le-ltb (rank (r .kind)) least l, fields-stand)
+  four-passes least l = rw (kind-of-tag (r .kind), le-ltb (rank (r .kind)) least l, fields-stand)
 
   -- 7
   pub seven-passes : number7 (writtenFields r) ≡ pass

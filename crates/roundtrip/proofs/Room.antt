@@ -1,5 +1,5 @@
 -- A record that can be written has room for each of its trees. Assumes nothing.
-use Prim.Native.Nat.{ℕ, _+_, _≤_}
+use Prim.Native.Nat.{ℕ, _≤_}
 use mathlib.Core.Path.{_≡_}
 use mathlib.Core.List.{List, [], _∷_, _++_}
 use native.Mathlib.Omega.{arith}
@@ -10,6 +10,7 @@ use Rattle.base.specs.Check.{pass}
 use Rattle.base.specs.Lists.{each}
 use Rattle.skeleton.specs.File.{Field}
 use Rattle.skeleton.specs.Emit.{sizes, lengthOf}
+use Rattle.skeleton.proofs.EmitFieldsLaws.{sizes-append}
 use Rattle.fields.specs.Table.{headOf}
 use Rattle.fields.specs.Values.{puts}
 use Rattle.fields.specs.declared.Format.the-variants.{InasNew}
@@ -28,12 +29,6 @@ use Rattle.roundtrip.proofs.Idents.{foidBytes}
 pub short : (fs : List Field) → number12 fs ≡ pass → lengthOf 5 5 fs ≤ 99999
 unfolding number12 writtenLength
 short fs e = by-bool (ltb 99999 (writtenLength fs)) (λ h. refused (rw h at e)) (λ h. ltb-false 99999 (lengthOf 5 5 fs) h)
-
--- the bytes of fields joined
-sizes-join : (a b : List Field) → sizes (a ++ b) ≡ sizes a + sizes b
-unfolding sizes
-sizes-join [] b = omega arith
-sizes-join (f ∷ a) b = let h = sizes-join a b in omega arith
 
 -- a list is as long as its bytes, if not longer
 list-size : (t : ℕ) (b : List ℕ) → length b ≤ sizes (listField t b)
@@ -66,8 +61,8 @@ roomy r e =
     let attr = listField ATTR (treeBytes (p .attributes)) in
     let inas = each assocField (p .associations) in
     let tail = listField (coordTag (r .kind)) (coordBytes (p .coordinates)) ++ listField SPAS (spatialBytes (p .spatial)) in
-    let a = sizes-join foid (attr ++ (inas ++ tail)) in
-    let b = sizes-join attr (inas ++ tail) in
-    let c = sizes-join inas tail in
+    let a = sizes-append foid (attr ++ (inas ++ tail)) in
+    let b = sizes-append attr (inas ++ tail) in
+    let c = sizes-append inas tail in
     let d = list-size ATTR (treeBytes (p .attributes)) in
     record { attributes = omega arith; associations = assoc-sizes (p .associations) 99999 (omega arith) }

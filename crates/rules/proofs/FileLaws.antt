@@ -1,19 +1,22 @@
 -- A file from the record at hand on: what a loop over its records needs. Assumes nothing.
-use mathlib.Core.Path.{_≡_, refl, ap, _∙_}
-use mathlib.Core.List.{List, [], _++_}
+use mathlib.Core.Path.{_≡_, refl, sym, ap, _∙_}
+use mathlib.Core.List.{List, [], _∷_, _++_}
 use mathlib.Core.Bool.{Bool, true, false}
-use Prim.Native.Nat.{ℕ, suc, _+_}
+use Prim.Native.Nat.{ℕ, suc, _+_, _≤_}
 use native.Mathlib.Omega.{arith}
 use lib.ListN.{length}
 use lib.Dec.{leb, eqb}
+use borrow.Author.Tests.{ne-eqb}
 use Rattle.base.specs.Choice.{pick}
-use Rattle.base.specs.Check.{Check, fault}
+use Rattle.base.specs.Check.{Check, ok, bind, fault}
+use Rattle.base.specs.Lists.{each}
 use Rattle.base.specs.Walk.{Got, before}
+use Rattle.base.proofs.CheckLaws.{bind-inv, ok-inj}
 use Rattle.skeleton.specs.File.{Field}
-use Rattle.rules.specs.Record.{Rec}
+use Rattle.rules.specs.Record.{Rec, keyOf, datasetRecord}
 use Rattle.rules.specs.Outcome.{Outcome, done, refused, andThen, at}
-use Rattle.rules.specs.File.{through, ending, taken}
-use Rattle.rules.proofs.OutcomeLaws.{andThen-assoc}
+use Rattle.rules.specs.File.{lastRank, datasetTest, through, ending, taken}
+use Rattle.rules.proofs.OutcomeLaws.{andThen-assoc, andThen-inv, at-inv, done-inj}
 
 module _ (file least : ℕ) (new : List Rec) where
   -- records before those at hand change nothing in how a file ends
@@ -52,3 +55,35 @@ module _ (test : ℕ → List Rec → List Field → Check (List Rec)) (file lea
       ∙ (λ i. andThen (at file n (test n seen fs)) (λ new.
       (ap (λ k. andThen (andThen (through test file (n + 1) (new ++ seen) (g .items)) (λ later. done (new ++ later))) (λ recs. ending file least k (g .ending) recs)) z
       ∙ swap file least new (n + 1 + length (g .items)) (g .ending) (through test file (n + 1) (new ++ seen) (g .items))) i))
+
+-- from the fourth record of a dataset on, each is tested for all of them
+pub test-later : (n : ℕ) (seen : List Rec) (fs : List Field) → 4 ≤ n
+    → datasetTest n seen fs ≡ bind (datasetRecord (lastRank seen) (each keyOf seen) fs) (λ r. ok (r ∷ []))
+unfolding datasetTest
+test-later n seen fs h =
+    simp (ne-eqb n 1 (λ e. omega arith), ne-eqb n 2 (λ e. omega arith), ne-eqb n 3 (λ e. omega arith))
+
+-- the first of some records from the fourth on passed, and the others did after it
+pub record Later (fs : List Field) (items : List (List Field)) (n : ℕ) (seen recs : List Rec) : Type 0 where
+  pub made : Rec
+  pub others : List Rec
+  pub passes : datasetRecord (lastRank seen) (each keyOf seen) fs ≡ ok made
+  pub onward : through datasetTest 1 (n + 1) (made ∷ seen) items ≡ done others
+  pub all : made ∷ others ≡ recs
+
+pub through-later : (fs : List Field) (items : List (List Field)) (n : ℕ) (seen recs : List Rec) → 4 ≤ n
+    → through datasetTest 1 n seen (fs ∷ items) ≡ done recs → Later fs items n seen recs
+unfolding through
+through-later fs items n seen recs h e =
+    let p = andThen-inv (at 1 n (datasetTest n seen fs)) _ recs e in
+    let q = at-inv 1 n (datasetTest n seen fs) (p .0) (p .1) in
+    let r = bind-inv (datasetRecord (lastRank seen) (each keyOf seen) fs) (λ r. ok (r ∷ [])) (p .0) (sym (test-later n seen fs h) ∙ q) in
+    let new : r .0 ∷ [] ≡ p .0 = ok-inj (r .0 ∷ []) (p .0) (r .2) in
+    let s = andThen-inv (through datasetTest 1 (n + 1) (p .0 ++ seen) items) (λ later. done (p .0 ++ later)) recs (p .2) in
+    record {
+      made = r .0;
+      others = s .0;
+      passes = r .1;
+      onward = ap (λ (l : List Rec). through datasetTest 1 (n + 1) (l ++ seen) items) new ∙ s .1;
+      all = ap (λ (l : List Rec). l ++ s .0) new ∙ done-inj (p .0 ++ s .0) recs (s .2);
+    }

@@ -6,6 +6,11 @@ pub mod Spelling
 pub mod OutcomeLaws
 pub mod Limits
 pub mod FileLaws
+pub mod KindLaws
+pub mod ByTagLaws
+pub mod FilledLaws
+pub mod MarkLaws
+pub mod CoordinateLaws
 pub mod Locality
 pub mod Counts
 pub mod Follows

@@ -8,11 +8,12 @@ use lib.Dec.{eqb}
 use Rattle.base.specs.Check.{ok, no, bind}
 use Rattle.base.specs.Keys.{same}
 use Rattle.base.specs.declared.Fault.{Fault}
+use Rattle.base.proofs.ChoiceLaws.{neither}
 use Rattle.sequence.specs.Keyed.{delete, Parts, stop, goOn, rank}
 use Rattle.sequence.specs.History.{history, version, due, judged}
 use Rattle.sequence.specs.Order.{isInsert, isDelete, named, deleted}
 use Rattle.sequence.specs.Stream.{last, keptOf, joinedOf}
-use Rattle.sequence.proofs.Tests.{both-no, neither}
+use Rattle.sequence.proofs.Tests.{both-no}
 
 module _ (P : Parts) where
   open Parts P using (Rec, Upd, key, place, act, names, change)

@@ -1,4 +1,5 @@
 pub mod Tests
+pub mod EachLaws
 pub mod Lists
 pub mod Local
 pub mod Refusal

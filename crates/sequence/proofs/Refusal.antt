@@ -41,7 +41,7 @@ verdict-stop (done d) j x e = stopped (sym e)
 verdict-stop (stop i y) j x e = let p = stop-at e in let q = stop-with e in cc
 
 -- a run whose verdict is none
-verdict-done : {A : Type 0} (r : Ran A) → verdict r ≡ done tt → (d : A) × (r ≡ done d)
+pub verdict-done : {A : Type 0} (r : Ran A) → verdict r ≡ done tt → (d : A) × (r ≡ done d)
 unfolding verdict
 verdict-done (done d) e = (d, refl)
 verdict-done (stop i y) e = stopped e

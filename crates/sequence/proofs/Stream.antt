@@ -10,7 +10,7 @@ use lib.Dec.{eqb, ltb}
 use Rattle.base.specs.Check.{ok, bind}
 use Rattle.base.specs.Lists.{each, gather}
 use Rattle.base.specs.Keys.{same, among}
-use Rattle.base.proofs.KeysLaws.{same-sound, same-refl, same-sym}
+use Rattle.base.proofs.KeysLaws.{same-sound, same-refl, same-sym, same-comm}
 use Rattle.sequence.specs.Keyed.{insert, delete, modify, Parts, done, rank, find, settle, replace, remove, step, run, Ordered, Once, Laws}
 use Rattle.sequence.specs.History.{history}
 use Rattle.sequence.specs.Order.{keep, isInsert, isDelete, deleted, ofKind}
@@ -44,7 +44,7 @@ module _ (P : Parts) where
   kept-wrong q us r h = rw (ne-eqb (rank P r) q h)
 
   -- all of them, where the kind has gone by
-  kept-beyond : (q n : ℕ) (us : List Upd) (ds : List Rec) → q < n → Ordered P n ds → kept P q us ds ≡ []
+  pub kept-beyond : (q n : ℕ) (us : List Upd) (ds : List Rec) → q < n → Ordered P n ds → kept P q us ds ≡ []
   unfolding kept gather Ordered
   kept-beyond q n us [] h o = refl
   kept-beyond q n us (r ∷ rs) h o =
@@ -194,10 +194,6 @@ module _ (P : Parts) (L : Laws P) (n : ℕ) (low : (r : P .Rec) → n ≤ rank P
       sym (by-kinds P n m d high (run-ordered P L n low j ds us d o x)) ∙ ap (λ (f : ℕ → List Rec). gather f (places n m)) e
 
 -- ---- what stands at the end
-
--- the same either way round
-same-comm : (a b : List ℕ) → same a b ≡ same b a
-same-comm a b = by-bool (same a b) (λ h. h ∙ sym (rw (same-sound a b h) (same-refl b))) (λ h. h ∙ sym (same-sym a b h))
 
 module _ (P : Parts) where
   -- a key is among those of the records where a record is found under it

@@ -4,7 +4,7 @@ use mathlib.Core.Path.{_≡_, refl}
 use mathlib.Core.Bool.{Bool, true, false}
 use mathlib.Core.Option.{some, none}
 use native.Mathlib.Omega.{arith}
-use Rattle.base.specs.Choice.{both, either}
+use Rattle.base.specs.Choice.{both}
 use Rattle.base.specs.Check.{Check, ok, no, bind}
 use Rattle.base.specs.declared.Fault.{Fault}
 use Rattle.sequence.specs.Keyed.{Ran, done, stop, goOn}
@@ -18,11 +18,6 @@ by-bool false f g = g refl
 pub both-no : (a b : Bool) → b ≡ false → both a b ≡ false
 both-no true b e = e
 both-no false b e = refl
-
--- neither of two tests holds
-pub neither : (a b : Bool) → either a b ≡ false → (a ≡ false) × (b ≡ false)
-neither true b e = absurd (let z : _≡_ {A = ℕ} 0 1 = cc in omega arith)
-neither false b e = (refl, e)
 
 -- something is not nothing
 pub never : {A X : Type 0} {a : A} → some a ≡ none → X

@@ -3,7 +3,7 @@ use mathlib.Core.Path.{_≡_, refl, sym, ap, _∙_}
 use mathlib.Core.List.{List, [], _∷_, _++_, append-assoc, append-nil}
 use mathlib.Core.Bool.{Bool, true, false}
 use Prim.Native.Nat.{ℕ, _+_, _-_, _*_, _/_, _%_, _^_, _≤_, _<_}
-use native.Mathlib.Nat.{add-zero, div-div-eq-div-mul, div-add-mod'}
+use native.Mathlib.Nat.{add-zero, add-assoc, div-div-eq-div-mul, div-add-mod'}
 use native.Mathlib.Omega.{arith}
 use borrow.Author.Tests.{le-leb, lt-leb, lt-ltb, le-ltb, eq-eqb, ne-eqb}
 use lib.ListN.{length, getD, take, length-append}
@@ -179,3 +179,29 @@ fields-back a b first fs w =
     read-back a b fs (emit a b first fs) lead (contents fs) (lead ++ (entries a b 0 fs ++ (30 ∷ []))) [] (baseOf a b fs) 24 0 (w .tags) (w .places)
     refl (length-leading a b first _ _) (simp append-assoc) (simp (length-append, length-leading, length-entries) (omega arith)) refl
     (omega arith) (omega arith) (omega arith)
+
+-- ---- fields one after the other
+
+-- the bytes that they take
+pub sizes-append : (fs gs : List Field) → sizes (fs ++ gs) ≡ sizes fs + sizes gs
+unfolding sizes
+sizes-append [] gs = omega arith
+sizes-append (f ∷ fs) gs = let h = sizes-append fs gs in omega arith
+
+-- their contents
+pub contents-append : (fs gs : List Field) → contents (fs ++ gs) ≡ contents fs ++ contents gs
+unfolding contents
+contents-append [] gs = refl
+contents-append (f ∷ fs) gs =
+    ap (λ (l : List ℕ). f .body ++ (30 ∷ l)) (contents-append fs gs) ∙ sym (append-assoc (f .body) (30 ∷ contents fs) (contents gs))
+
+-- their entries: the second begin behind the first
+pub entries-append : (a b pos : ℕ) (fs gs : List Field) → entries a b pos (fs ++ gs) ≡ entries a b pos fs ++ entries a b (pos + sizes fs) gs
+unfolding entries sizes
+entries-append a b pos [] gs = rw add-zero
+entries-append a b pos (f ∷ fs) gs =
+    let w = entry a b f pos in
+    let n : pos + size f + sizes fs ≡ pos + (size f + sizes fs) = add-assoc pos (size f) (sizes fs) in
+    ap (λ (l : List ℕ). w ++ l) (entries-append a b (pos + size f) fs gs)
+    ∙ ap (λ (k : ℕ). w ++ (entries a b (pos + size f) fs ++ entries a b k gs)) n
+    ∙ sym (append-assoc w (entries a b (pos + size f) fs) (entries a b (pos + (size f + sizes fs)) gs))

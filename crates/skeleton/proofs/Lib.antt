@@ -2,6 +2,7 @@ pub mod DigitsLaws
 pub mod LeaderLaws
 pub mod DirectoryLaws
 pub mod PlaceLaws
+pub mod BetweenLaws
 pub mod FindLaws
 pub mod RecordLaws
 pub mod RightLaws

@@ -98,7 +98,7 @@ module _ (r : List ℕ) (h : Shape) (p : ℕ) (e : Place) (en : e ≡ placeAt r 
 
 -- ---- they are the fields of the record
 
-body-size : (start len : ℕ) → start + len - 1 - start ≡ len - 1
+pub body-size : (start len : ℕ) → start + len - 1 - start ≡ len - 1
 body-size start len = omega arith
 
 -- what the checked walk over a directory finds, the steps find

@@ -113,3 +113,23 @@ records-read f bytes at =
 pub file-read : (f : List ℕ) → ((k : ℕ) → getD f k 0 < 256) → AllTagged ((recordsOf f) .items)
 unfolding recordsOf
 file-read f bytes = by-test (λ (g : Got (List Field)). AllTagged (g .items)) (eqb (length f) 0) _ _ (λ _. tt) (λ _. records-read f bytes 0)
+
+-- ---- there are no more records than bytes
+
+abbrev Few : List ℕ → ℕ → Type 0
+Few f at = length ((recordsFrom f at) .items) ≤ length f - at
+
+-- a record, and then those from its end on
+few-at : (f : List ℕ) (at : ℕ) → at < length f → (h : Head) → h ≡ recordAt f at → ((q : ℕ) → length f - q < length f - at → Few f q) → Few f at
+few-at f at l (Good len base a b) e later =
+    let k = right f at _ e len base a b refl in
+    let n = later (at + len) (omega arith) in
+    rw (records-more f at l _ e len base a b refl) (omega arith)
+few-at f at l (Refused n) e later = rw (records-refused f at l _ e n refl) (omega arith)
+
+few-by : (f : List ℕ) (at : ℕ) (t : Bool) → ltb at (length f) ≡ t → ((q : ℕ) → length f - q < length f - at → Few f q) → Few f at
+few-by f at false e later = rw (records-over f at (ltb-false at (length f) e)) (omega arith)
+few-by f at true e later = few-at f at (ltb-true at (length f) e) (recordAt f at) refl later
+
+pub few-records : (f : List ℕ) (at : ℕ) → length ((recordsFrom f at) .items) ≤ length f - at
+few-records f at = by-measure (λ q. length f - q) (Few f) (λ q later. few-by f q (ltb q (length f)) refl later) at

@@ -7,6 +7,7 @@ use lib.ListN.{length}
 use lib.Dec.{eqb}
 use borrow.Author.Tests.{eqb-true}
 use Rattle.base.specs.Lists.{each}
+use Rattle.base.proofs.ListLaws.{each-length}
 use Rattle.skeleton.specs.File.{Field}
 use Rattle.rules.specs.ByTag.{withTag, bodyOf, bodies}
 use Rattle.rules.specs.Written.{fieldAs}
@@ -37,12 +38,6 @@ bodies-skip t f fs h = rw h
 pub bodies-none : (t : ℕ) (fs : List Field) → withTag t fs ≡ [] → bodies t fs ≡ []
 unfolding bodies each
 bodies-none t fs e = rw e
-
--- as many are made as there are
-each-length : {A B : Type 0} (f : A → B) (l : List A) → length (each f l) ≡ length l
-unfolding each
-each-length f [] = refl
-each-length f (x ∷ l) = rw (each-length f l)
 
 -- as many bodies as fields with the tag
 pub bodies-length : (t : ℕ) (fs : List Field) → length (bodies t fs) ≡ length (withTag t fs)

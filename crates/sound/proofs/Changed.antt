@@ -132,7 +132,7 @@ unfolding follows
 code-follows id old e = sym (eqb-true (id .code) (old .code) (both-hold (eqb (id .rver) (old .rver + 1)) _ (pass-inv _ 10 1 0 tt e) .1))
 
 -- the kind and the number of a record that an update record names
-key-names : (old : Rec) (k : Kind) (fs : List Field) → keyOf old ≡ keyNamed k fs → (old .kind ≡ k) × (old .rcid ≡ (identOf k (front fs)) .rcid)
+pub key-names : (old : Rec) (k : Kind) (fs : List Field) → keyOf old ≡ keyNamed k fs → (old .kind ≡ k) × (old .rcid ≡ (identOf k (front fs)) .rcid)
 unfolding keyOf keyNamed
 key-names old k fs e =
     let a : rcnm (old .kind) ≡ rcnm k = cc in

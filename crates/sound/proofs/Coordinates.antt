@@ -25,9 +25,10 @@ use Rattle.rules.specs.Coordinates.{coordOf, coordsIn}
 use Rattle.rules.specs.Written.{coordVals}
 use Rattle.sequence.specs.Keyed.{Each}
 use Rattle.sequence.proofs.Tests.{by-bool, refused}
+use Rattle.sequence.proofs.EachLaws.{each-join}
 use Rattle.updates.proofs.Kept.{of-each}
 use Rattle.sound.specs.Sound.{SoundCoord}
-use Rattle.sound.proofs.Lists.{each-nil, each-map, each-join}
+use Rattle.sound.proofs.Lists.{each-nil, each-map}
 use Rattle.sound.proofs.Values.{numsFrom, all-nums, each-pass}
 use Rattle.sound.proofs.Stand.{Has}
 

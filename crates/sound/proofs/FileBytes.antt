@@ -57,7 +57,7 @@ records-at f bytes at l (Good len base a b) e later =
 records-at f bytes at l (Refused n) e later = rw (records-refused f at l _ e n refl) tt
 
 -- all records from a place on
-records-bytes : (f : List ℕ) → Bytes f → (at : ℕ) → Each Bodies ((recordsFrom f at) .items)
+pub records-bytes : (f : List ℕ) → Bytes f → (at : ℕ) → Each Bodies ((recordsFrom f at) .items)
 records-bytes f bytes at =
     by-measure (λ q. length f - q) (λ q. Each Bodies ((recordsFrom f q) .items))
     (λ q later. by-bool (ltb q (length f))

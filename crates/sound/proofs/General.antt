@@ -25,12 +25,14 @@ use Rattle.rules.specs.Content.{stands}
 use Rattle.rules.specs.General.{generalFormat, generalRecord, newer, merged}
 use Rattle.rules.specs.declared.Mode.{Mode}
 use Rattle.rules.specs.declared.Mode.the-variants.{InDataset, InUpdate}
+use Rattle.rules.proofs.FilledLaws.{stands-fill}
 use Rattle.sequence.specs.Keyed.{Each}
 use Rattle.sequence.proofs.Tests.{by-bool, refused}
+use Rattle.sequence.proofs.EachLaws.{each-join}
 use Rattle.sound.specs.Sound.{rowed, Carried}
-use Rattle.sound.proofs.Lists.{each-map, each-join, each-gathered}
+use Rattle.sound.proofs.Lists.{each-map, each-gathered}
 use Rattle.sound.proofs.Order.{most, order-once}
-use Rattle.sound.proofs.Stand.{stands-fill, fill-stands}
+use Rattle.sound.proofs.Stand.{fill-stands}
 
 -- ---- fields gathered tag by tag stand in order
 
@@ -157,7 +159,7 @@ merged-stands old new e f =
     let single-all : Each (λ t. Single t (newer old new t)) generalTags =
     each-map generalTags (λ t q. newer-by (Single t) old new t (single InDataset old a t (q .0) (q .1)) (single InUpdate new b t (q .0) (q .1))) tags-fine in
     let o = in-rows old new 2 single-all in
-    let d = fill-stands 1 Dsid (b .first .body) (format-wider dsid (b .first .body) (stands-fill 1 DsidUpdate (b .first .body) (update-format (b .first) (b .format))) .0) in
+    let d = fill-stands 1 Dsid (b .first .body) (format-wider dsid (b .first .body) (stands-fill 1 DsidUpdate (b .first .body) tt (update-format (b .first) (b .format))) .0) in
     rw (ap (take 1) (b .is)) (rw (eq-eqb (b .first .tag) DSID (b .tag), o) d)
   where
     in-rows : (old new : List Field) (i : ℕ) → Each (λ t. Single t (newer old new t)) generalTags → inOrder (λ t. false) generalRows i (gather (newer old new) generalTags) ≡ pass

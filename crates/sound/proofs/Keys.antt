@@ -1,20 +1,20 @@
 -- Keys that stand once: in parts of a list, with one more at the end, with one that leaves, and in lists of keys of two lengths. Assumes nothing.
 use Prim.Native.Nat.{ℕ}
 use mathlib.Core.Path.{_≡_, refl, sym, ap, _∙_}
-use mathlib.Core.Bool.{Bool, true, false}
+use mathlib.Core.Bool.{false}
 use mathlib.Core.List.{List, [], _∷_, _++_}
-use native.Mathlib.Omega.{arith}
 use lib.ListN.{length}
-use Rattle.base.specs.Choice.{either}
 use Rattle.base.specs.Check.{ok}
 use Rattle.base.specs.Lists.{each}
 use Rattle.base.specs.Keys.{same, among, join, leave}
 use Rattle.base.proofs.CheckLaws.{bind-inv, ok-inj}
 use Rattle.base.proofs.KeysLaws.{same-sound}
+use Rattle.base.proofs.ChoiceLaws.{neither}
+use Rattle.base.proofs.ListLaws.{each-append}
 use Rattle.sequence.specs.Keyed.{Each}
 use Rattle.sequence.proofs.Tests.{by-bool, refused}
+use Rattle.sequence.proofs.EachLaws.{each-join}
 use Rattle.sound.specs.Sound.{Apart}
-use Rattle.sound.proofs.Lists.{each-join, each-append}
 
 -- ---- parts of a list
 
@@ -24,11 +24,6 @@ pub data Within : List (List ℕ) → List (List ℕ) → Type 0 where
   w-keep : {x : List ℕ} {a b : List (List ℕ)} → Within a b → Within (x ∷ a) (x ∷ b)
   w-skip : {x : List ℕ} {a b : List (List ℕ)} → Within a b → Within a (x ∷ b)
 
--- none of two
-either-no : (a b : Bool) → either a b ≡ false → (a ≡ false) × (b ≡ false)
-either-no true b e = absurd (let z : _≡_ {A = ℕ} 0 1 = cc in omega arith)
-either-no false b e = (refl, e)
-
 -- what is not among the first is not among the second
 abbrev Fewer : List (List ℕ) → List (List ℕ) → Type 0
 Fewer seen seen′ = (k : List ℕ) → among k seen ≡ false → among k seen′ ≡ false
@@ -36,12 +31,12 @@ Fewer seen seen′ = (k : List ℕ) → among k seen ≡ false → among k seen�
 -- nor behind one more
 fewer-more : (x : List ℕ) (seen seen′ : List (List ℕ)) → Fewer seen seen′ → Fewer (x ∷ seen) (x ∷ seen′)
 unfolding among
-fewer-more x seen seen′ f k e = let (a, b) = either-no (same k x) (among k seen) e in rw (a, f k b)
+fewer-more x seen seen′ f k e = let (a, b) = neither (same k x) (among k seen) e in rw (a, f k b)
 
 -- or before fewer
 fewer-less : (x : List ℕ) (seen seen′ : List (List ℕ)) → Fewer seen seen′ → Fewer (x ∷ seen) seen′
 unfolding among
-fewer-less x seen seen′ f k e = f k (either-no (same k x) (among k seen) e .1)
+fewer-less x seen seen′ f k e = f k (neither (same k x) (among k seen) e .1)
 
 -- keys that stand once stand once in a part
 pub apart-part : (seen seen′ : List (List ℕ)) {a b : List (List ℕ)} → Fewer seen seen′ → Within a b → Apart seen b → Apart seen′ a
@@ -72,7 +67,7 @@ within-join a (y ∷ b) (w-skip w) v = w-skip (within-join a b w v)
 apart-end : (k : List ℕ) (seen ks : List (List ℕ)) → Apart seen ks → among k seen ≡ false → among k ks ≡ false → Apart seen (ks ++ (k ∷ []))
 unfolding Apart among
 apart-end k seen [] p e f = (e, tt)
-apart-end k seen (x ∷ ks) p e f = let (a, b) = either-no (same k x) (among k ks) f in (p .0, apart-end k (x ∷ seen) ks (p .1) (rw (a, e)) b)
+apart-end k seen (x ∷ ks) p e f = let (a, b) = neither (same k x) (among k ks) f in (p .0, apart-end k (x ∷ seen) ks (p .1) (rw (a, e)) b)
 
 module _ {A : Type 0} (P : A → Type 0) (key : A → List ℕ) where
   -- a thing joined
@@ -114,7 +109,7 @@ among-other m n k [] (x ∷ seen) d l e h =
     by-bool (same k x)
     (λ t. absurd (d (sym (e .0) ∙ ap length (sym (same-sound k x t)) ∙ l)))
     (λ t. rw (t, among-other m n k [] seen d l (e .1) h))
-among-other m n k (x ∷ s) seen d l e h = let (a, b) = either-no (same k x) (among k s) h in rw (a, among-other m n k s seen d l e b)
+among-other m n k (x ∷ s) seen d l e h = let (a, b) = neither (same k x) (among k s) h in rw (a, among-other m n k s seen d l e b)
 
 -- so they may have been seen
 apart-seen : (m n : ℕ) (s seen b : List (List ℕ)) → (m ≡ n → ⊥) → Each (λ x. length x ≡ m) seen → Each (λ x. length x ≡ n) b → Apart s b → Apart (s ++ seen) b

@@ -1,8 +1,8 @@
 -- What each of a list has: of parts of lists, of lists joined, and of what is made of each. Assumes nothing.
-use mathlib.Core.Path.{_≡_, refl}
 use mathlib.Core.List.{List, [], _∷_, _++_}
-use Rattle.base.specs.Lists.{each, gather}
+use Rattle.base.specs.Lists.{gather}
 use Rattle.sequence.specs.Keyed.{Each}
+use Rattle.sequence.proofs.EachLaws.{each-join}
 
 -- none
 pub each-nil : {A : Type 0} (P : A → Type 0) → Each P []
@@ -21,32 +21,14 @@ unfolding Each
 each-zip [] f p q = tt
 each-zip (x ∷ l) f p q = (f x (p .0) (q .0), each-zip l f (p .1) (q .1))
 
--- lists joined
-pub each-join : {A : Type 0} (P : A → Type 0) (a b : List A) → Each P a → Each P b → Each P (a ++ b)
-unfolding Each
-each-join P [] b p q = q
-each-join P (x ∷ a) b p q = (p .0, each-join P a b (p .1) q)
-
 -- the lists that are made of each
 pub each-gathered : {A B : Type 0} (P : B → Type 0) (f : A → List B) (l : List A) → Each (λ a. Each P (f a)) l → Each P (gather f l)
 unfolding Each gather
 each-gathered P f [] e = tt
 each-gathered P f (x ∷ l) e = each-join P (f x) (gather f l) (e .0) (each-gathered P f l (e .1))
 
--- what is made of what is made
-pub each-each : {A B C : Type 0} (g : B → C) (f : A → B) (l : List A) → each g (each f l) ≡ each (λ a. g (f a)) l
-unfolding each
-each-each g f [] = refl
-each-each g f (x ∷ l) = rw (each-each g f l)
-
 -- each of two lists joined
 pub each-parts : {A : Type 0} (P : A → Type 0) (a b : List A) → Each P (a ++ b) → Each P a × Each P b
 unfolding Each
 each-parts P [] b e = (tt, e)
 each-parts P (x ∷ a) b e = let (p, q) = each-parts P a b (e .1) in ((e .0, p), q)
-
--- what is made of lists joined
-pub each-append : {A B : Type 0} (f : A → B) (a b : List A) → each f (a ++ b) ≡ each f a ++ each f b
-unfolding each
-each-append f [] b = refl
-each-append f (x ∷ a) b = rw (each-append f a b)

@@ -10,25 +10,21 @@ use Rattle.base.specs.Choice.{pick}
 use Rattle.base.specs.Check.{pass}
 use Rattle.base.specs.Lists.{each, gather}
 use Rattle.base.specs.Keys.{among}
+use Rattle.base.proofs.ListLaws.{each-append}
 use Rattle.skeleton.specs.File.{Field}
 use Rattle.fields.specs.Table.{tupleOf}
-use Rattle.fields.specs.Values.{Val}
 use Rattle.fields.specs.Content.{many}
 use Rattle.fields.specs.declared.Format.the-variants.{Spas}
 use Rattle.rules.specs.Tags.{INAS, SPAS}
 use Rattle.rules.specs.ByTag.{withTag, bodies}
-use Rattle.rules.specs.Associations.{Mark, inasKey, spasKey, spasMarks, fieldMarks, marks, keysOnce, number11}
+use Rattle.rules.specs.Associations.{Mark, inasKey, spasKey, fieldMarks, marks, keysOnce, number11}
+use Rattle.rules.proofs.MarkLaws.{spas-marked, markKey}
 use Rattle.sequence.specs.Keyed.{Each}
 use Rattle.sequence.proofs.Tests.{by-bool, refused}
 use Rattle.sound.specs.Sound.{Apart}
-use Rattle.sound.proofs.Lists.{each-append}
 use Rattle.sound.proofs.Keys.{Within, w-none, w-keep, w-skip, within-all, within-none, within-join}
 
 -- ---- 7 and 11
-
--- the key of a mark
-abbrev pub markKey : Mark → List ℕ
-markKey m = m .key
 
 -- 7 passes where the keys are apart
 pub once-apart : (seen : List (List ℕ)) (ms : List Mark) → keysOnce seen ms ≡ pass → Apart seen (each markKey ms)
@@ -64,18 +60,6 @@ each-eleven keys (m ∷ ms) e = rw (e .0) (each-eleven keys ms (e .1))
 unfoldable pub fieldKeys : Field → List (List ℕ)
 fieldKeys f = pick (eqb (f .tag) INAS) (inasKey (f .body) ∷ []) (pick (eqb (f .tag) SPAS) (each spasKey (many (tupleOf Spas) (f .body))) [])
 
--- what is made of lists gathered
-pub each-gather : {A B C : Type 0} (f : B → C) (g : A → List B) (l : List A) → each f (gather g l) ≡ gather (λ a. each f (g a)) l
-unfolding each gather
-each-gather f g [] = refl
-each-gather f g (x ∷ l) = each-append f (g x) (gather g l) ∙ ap (λ (r : List _). each f (g x) ++ r) (each-gather f g l)
-
--- the tuples of a SPAS
-spas-keys : (i j : ℕ) (vss : List (List Val)) → each markKey (spasMarks i j vss) ≡ each spasKey vss
-unfolding spasMarks each
-spas-keys i j [] = refl
-spas-keys i j (vs ∷ vss) = ap (λ (l : List (List ℕ)). spasKey vs ∷ l) (spas-keys i (j + 1) vss)
-
 -- those of a field's marks
 field-keys : (i : ℕ) (f : Field) → each markKey (fieldMarks i f) ≡ fieldKeys f
 unfolding fieldMarks fieldKeys
@@ -83,7 +67,7 @@ field-keys i f =
     by-bool (eqb (f .tag) INAS)
     (λ h. rw h (unfold each in refl))
     (λ h. by-bool (eqb (f .tag) SPAS)
-    (λ g. rw (h, g) (spas-keys i 1 (many (tupleOf Spas) (f .body))))
+    (λ g. rw (h, g) (spas-marked i 1 (many (tupleOf Spas) (f .body))))
     (λ g. rw (h, g) (unfold each in refl)))
 
 -- those of a record's marks

@@ -12,6 +12,8 @@ use Rattle.base.specs.Check.{ok, pass}
 use Rattle.base.specs.Lists.{each, gather, empty}
 use Rattle.base.specs.Walk.{Got}
 use Rattle.base.proofs.ChoiceLaws.{both-hold}
+use Rattle.base.proofs.CheckLaws.{passed-inv}
+use Rattle.base.proofs.ListLaws.{each-each, each-gather}
 use Rattle.skeleton.specs.File.{Field}
 use Rattle.fields.specs.Table.{headOf, tupleOf}
 use Rattle.fields.specs.Values.{Val}
@@ -37,21 +39,22 @@ use Rattle.rules.specs.Written.{fieldAs, nums}
 use Rattle.rules.specs.declared.Kind.{Kind}
 use Rattle.rules.specs.declared.Kind.the-variants.{Info, Point, Multi, Feature}
 use Rattle.rules.specs.declared.Mode.{Mode}
+use Rattle.rules.proofs.MarkLaws.{markKey}
 use Rattle.sequence.specs.Keyed.{Each}
 use Rattle.sequence.proofs.Tests.{by-bool, never}
+use Rattle.sequence.proofs.EachLaws.{each-join}
 use Rattle.updates.proofs.Kept.{of-each, each-of}
 use Rattle.sound.specs.Sound.{Attributes, r-nil, Apart, SoundAssoc, SoundCoord, SoundSpatial, rowed, Counted, SoundParts, SoundFoid, SoundRec, identVals, Named}
-use Rattle.sound.proofs.Lists.{each-map, each-join, each-gathered, each-each}
+use Rattle.sound.proofs.Lists.{each-map, each-gathered}
 use Rattle.sound.proofs.Keys.{apart-part}
 use Rattle.sound.proofs.Order.{most, tag-none}
 use Rattle.sound.proofs.Bodies.{each-body, bodies-skip, bodies-none}
-use Rattle.sound.proofs.Stand.{passed-inv}
 use Rattle.sound.proofs.Attributes.{attributes-read}
 use Rattle.sound.proofs.Associations.{assoc-read}
 use Rattle.sound.proofs.Coordinates.{list-read, point-read}
 use Rattle.sound.proofs.Spatial.{spatial-read}
 use Rattle.sound.proofs.Idents.{identNums, ident-read, foid-read}
-use Rattle.sound.proofs.Marks.{markKey, once-apart, Stands, fieldKeys, each-gather, marks-keys, within-inas, within-spas, each-within}
+use Rattle.sound.proofs.Marks.{once-apart, Stands, fieldKeys, marks-keys, within-inas, within-spas, each-within}
 use Rattle.sound.proofs.Records.{Stood, Whole, Through}
 
 -- ---- one part each, of fields that are as in a dataset

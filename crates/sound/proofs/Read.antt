@@ -3,11 +3,10 @@ use Prim.Native.Nat.{ℕ, _+_, _<_}
 use mathlib.Core.Path.{_≡_, refl, sym, ap, _∙_, subst}
 use mathlib.Core.List.{List, [], _∷_, _++_}
 use native.Mathlib.Omega.{arith}
-use borrow.Author.Tests.{ne-eqb}
 use lib.ListN.{length, drop}
 use lib.Dec.{eqb}
 use Rattle.base.specs.Choice.{pick}
-use Rattle.base.specs.Check.{ok, no, bind, fault, pass}
+use Rattle.base.specs.Check.{ok, no, fault, pass}
 use Rattle.base.specs.Lists.{each}
 use Rattle.base.specs.Keys.{among}
 use Rattle.base.specs.Walk.{Got}
@@ -27,6 +26,7 @@ use Rattle.rules.specs.Outcome.{done, at}
 use Rattle.rules.specs.File.{lastRank, datasetTest, through, storedAs, references, readDataset}
 use Rattle.rules.specs.declared.Mode.the-variants.{InDataset}
 use Rattle.rules.proofs.OutcomeLaws.{andThen-inv, at-inv, done-inj}
+use Rattle.rules.proofs.FileLaws.{through-later}
 use Rattle.sequence.specs.Keyed.{Each}
 use Rattle.sequence.proofs.Tests.{by-bool, refused}
 use Rattle.updates.specs.Sorted.{Sorted}
@@ -73,22 +73,15 @@ data Goods : List (List Field) → List Rec → Type 0 where
   g-none : Goods [] []
   g-more : {fs : List Field} {rest : List (List Field)} {r : Rec} {rs : List Rec} → Good fs r → Goods rest rs → Goods (fs ∷ rest) (r ∷ rs)
 
--- the test of a record behind the third
-pub test-later : (n : ℕ) (seen : List Rec) (fs : List Field) → 3 < n → datasetTest n seen fs ≡ bind (datasetRecord (lastRank seen) (each keyOf seen) fs) (λ r. ok (r ∷ []))
-unfolding datasetTest
-test-later n seen fs l = rw (ne-eqb n 1 (λ z. omega arith), ne-eqb n 2 (λ z. omega arith), ne-eqb n 3 (λ z. omega arith))
-
 -- those behind the third
 records-good : (n : ℕ) (seen : List Rec) (items : List (List Field)) (recs : List Rec) → 3 < n → Each Bodies items → through datasetTest 1 n seen items ≡ done recs → Goods items recs
 unfolding through Each
 records-good n seen [] recs l g e = rw (← done-inj [] recs e) g-none
 records-good n seen (fs ∷ rest) recs l g e =
-    let (new, a, b) = andThen-inv (at 1 n (datasetTest n seen fs)) _ recs e in
-    let (later, c, d) = andThen-inv (through datasetTest 1 (n + 1) (new ++ seen) rest) _ recs b in
-    let t : datasetTest n seen fs ≡ ok new = at-inv 1 n (datasetTest n seen fs) new a in
-    let (r, x, y) = bind-inv (datasetRecord (lastRank seen) (each keyOf seen) fs) (λ r. ok (r ∷ [])) new (sym (test-later n seen fs l) ∙ t) in
-    let z : r ∷ later ≡ recs = ap (λ (w : List Rec). w ++ later) (ok-inj (r ∷ []) new y) ∙ done-inj (new ++ later) recs d in
-    rw (← z) (g-more (record-good (lastRank seen) (each keyOf seen) fs r (g .0) x) (records-good (n + 1) (new ++ seen) rest later (omega arith) (g .1) c))
+    let t = through-later fs rest n seen recs l e in
+    rw (← t .all)
+    (g-more (record-good (lastRank seen) (each keyOf seen) fs (t .made) (g .0) (t .passes))
+    (records-good (n + 1) (t .made ∷ seen) rest (t .others) (omega arith) (g .1) (t .onward)))
 
 -- each of them is sound
 goods-sound : {items : List (List Field)} {recs : List Rec} → Goods items recs → Each SoundRec recs

@@ -26,12 +26,13 @@ use Rattle.rules.specs.declared.Kind.{Kind}
 use Rattle.rules.specs.declared.Kind.the-variants.{Info, Point, Multi, Feature}
 use Rattle.rules.specs.declared.Mode.{Mode}
 use Rattle.rules.specs.declared.Mode.the-variants.{InDataset, InUpdate}
+use Rattle.rules.proofs.FilledLaws.{stands-fill}
 use Rattle.sequence.specs.Keyed.{Each}
 use Rattle.sequence.proofs.Tests.{by-bool, refused}
 use Rattle.sound.specs.Sound.{rowed}
 use Rattle.sound.proofs.Lists.{each-map}
 use Rattle.sound.proofs.Order.{most, order-rowed, order-once}
-use Rattle.sound.proofs.Stand.{Has, Formed, stands-fill, all-formed, all-treed}
+use Rattle.sound.proofs.Stand.{Has, Formed, all-formed, all-treed}
 
 -- a field behind the identifier; new: every instruction is insert
 pub record Stood (new : Bool) (k : Kind) (f : Field) : Type 0 where
@@ -126,7 +127,7 @@ through m least f fs k g four five six =
     let (v, all, counted) = bind-inv (allStand new 2 fs) _ tt more in
     record {
       kind = kind;
-      ident = ident-has m k (f .body) (stands-fill 1 (identFormat (insertOnly m) k) (f .body) ident);
+      ident = ident-has m k (f .body) (stands-fill 1 (identFormat (insertOnly m) k) (f .body) tt ident);
       ident-bytes = g .0;
       stood = stood-all new k fs (each-map fs (λ f q. q .0) (order-rowed shut (rowsOf k) 2 fs order)) (all-formed new 2 fs all) (all-treed new 2 fs six) (g .1);
       whole = λ h. record { once = λ t m. order-once shut t (rowsOf k) 2 fs m order; needs = either-inv new (complete (rowsOf k) fs) (pass-inv _ 4 0 0 tt whole) h };

@@ -1,35 +1,24 @@
 -- Fields that passed numbers 5 and 6, one by one. Assumes nothing.
 use Prim.Native.Nat.{ℕ, _+_}
 use mathlib.Core.Path.{_≡_, refl}
-use mathlib.Core.Bool.{Bool, true, not}
+use mathlib.Core.Bool.{Bool, true}
 use mathlib.Core.List.{List, [], _∷_}
-use Rattle.base.specs.Check.{Check, ok, no, bind, inField, pass, passed}
-use Rattle.base.specs.Lists.{empty}
+use Rattle.base.specs.Check.{Check, ok, no, bind, inField, pass}
 use Rattle.base.proofs.CheckLaws.{bind-inv}
 use Rattle.skeleton.specs.File.{Field}
 use Rattle.fields.specs.Table.{headOf, tupleOf}
-use Rattle.fields.specs.Content.{tallyField, fill}
+use Rattle.fields.specs.Content.{fill}
 use Rattle.fields.specs.declared.Format.{Format}
-use Rattle.fields.specs.declared.Tally.{Tally}
-use Rattle.fields.specs.declared.Tally.the-variants.{Whole, Short}
-use Rattle.fields.proofs.FieldLaws.{count-fill, fill-count}
-use Rattle.rules.specs.Content.{formatOf, filled, stands, allStand}
+use Rattle.fields.proofs.FieldLaws.{fill-count}
+use Rattle.rules.specs.Content.{formatOf, stands, allStand}
 use Rattle.rules.specs.Trees.{treeStands, treesStand}
+use Rattle.rules.proofs.FilledLaws.{stands-fill}
 use Rattle.sequence.specs.Keyed.{Each}
 use Rattle.sequence.proofs.Tests.{refused}
 
 -- the subfields of a format fill a body
 abbrev pub Has : Format → List ℕ → Type 0
 Has k b = fill (headOf k) (tupleOf k) b ≡ true
-
--- a field that stands has its format
-pub stands-fill : (i : ℕ) (k : Format) (b : List ℕ) → stands i k b ≡ pass → Has k b
-unfolding stands
-stands-fill i k b e = go (tallyField (headOf k) (tupleOf k) b) refl e
-  where
-    go : (t : Tally) → tallyField (headOf k) (tupleOf k) b ≡ t → filled i (not (empty (tupleOf k))) t ≡ pass → Has k b
-    go (Whole n) x e = count-fill (headOf k) (tupleOf k) b n x
-    go (Short j) x e = refused e
 
 -- and the other way
 pub fill-stands : (i : ℕ) (k : Format) (b : List ℕ) → Has k b → stands i k b ≡ pass
@@ -46,7 +35,7 @@ unfolding allStand Each
 all-formed new i [] e = tt
 all-formed new i (f ∷ fs) e =
     let (t, a, b) = bind-inv (stands i (formatOf new (f .tag) (f .body)) (f .body)) _ tt e in
-    (stands-fill i (formatOf new (f .tag) (f .body)) (f .body) a, all-formed new (i + 1) fs b)
+    (stands-fill i (formatOf new (f .tag) (f .body)) (f .body) t a, all-formed new (i + 1) fs b)
 
 -- and the other way
 pub formed-all : (new : Bool) (i : ℕ) (fs : List Field) → Each (Formed new) fs → allStand new i fs ≡ pass
@@ -59,11 +48,6 @@ pub field-inv : {A : Type 0} (i : ℕ) (c : Check A) (a : A) → inField i c ≡
 unfolding inField
 field-inv i (ok b) a e = e
 field-inv i (no x) a e = refused e
-
--- a test that passed gave a value
-pub passed-inv : {A : Type 0} (c : Check A) → passed c ≡ pass → (a : A) × (c ≡ ok a)
-unfolding passed
-passed-inv c e = let (a, x, y) = bind-inv c (λ _. pass) tt e in (a, x)
 
 -- each of fields whose trees stand
 pub all-treed : (new : Bool) (i : ℕ) (fs : List Field) → treesStand new i fs ≡ pass → Each (λ f. treeStands new f ≡ pass) fs

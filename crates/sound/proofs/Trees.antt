@@ -18,8 +18,9 @@ use Rattle.forest.specs.Acts.{Act, insert, delete, modify, UTup, Acts, done, ac
 use Rattle.forest.specs.Edit.{count, put, behind, cut, alter, edit}
 use Rattle.sequence.specs.Keyed.{Each}
 use Rattle.sequence.proofs.Tests.{by-bool, refused}
+use Rattle.sequence.proofs.EachLaws.{each-join}
 use Rattle.sound.specs.Sound.{SoundText, Ranged, r-nil, r-tree}
-use Rattle.sound.proofs.Lists.{each-join, each-parts}
+use Rattle.sound.proofs.Lists.{each-parts}
 
 -- ---- acts
 

@@ -1,7 +1,7 @@
 -- Values that subfields take: numbers among numbers, one of them by its place, and an instruction that becomes insert. Assumes nothing.
 use Prim.Native.Nat.{ℕ, zero, suc, _<_}
 use mathlib.Core.Path.{_≡_, refl, sym, ap, ap₂, _∙_}
-use mathlib.Core.Bool.{Bool, true, false, true≢false}
+use mathlib.Core.Bool.{true, false, true≢false}
 use mathlib.Core.List.{List, [], _∷_, _++_}
 use native.Mathlib.Omega.{arith}
 use lib.ListN.{length}
@@ -9,7 +9,7 @@ use lib.Dec.{leb, ltb}
 use borrow.Author.Tests.{lt-ltb, leb-true}
 use Rattle.base.specs.Choice.{both}
 use Rattle.base.specs.Lists.{each}
-use Rattle.base.proofs.ChoiceLaws.{both-hold}
+use Rattle.base.proofs.ChoiceLaws.{both-hold, both-too}
 use Rattle.fields.specs.Bytes.{clean}
 use Rattle.fields.specs.Table.{insert}
 use Rattle.fields.specs.Values.{Val, num, txt, numOf, textOf, numAt, puts}
@@ -18,10 +18,6 @@ use Rattle.fields.specs.declared.Sub.{Sub}
 use Rattle.fields.specs.declared.Sub.the-variants.{B11, B12, B14, Among, Raw, Text, Fixed}
 use Rattle.fields.proofs.SizeLaws.{isNum, allNum}
 use Rattle.sequence.specs.Keyed.{Each}
-
--- two tests that hold
-pub both-too : {a b : Bool} → a ≡ true → b ≡ true → both a b ≡ true
-both-too p q = rw p q
 
 -- ---- one value
 

@@ -3,7 +3,7 @@ use Prim.Native.Nat.{ℕ, _+_, _≤_, _<_}
 use mathlib.Core.Path.{_≡_, refl, sym, ap, ap₂, _∙_}
 use mathlib.Core.Bool.{Bool, true, false}
 use mathlib.Core.Option.{Option, some, none}
-use mathlib.Core.List.{List, [], _∷_, _++_}
+use mathlib.Core.List.{List, [], _∷_}
 use native.Mathlib.Omega.{arith}
 use borrow.Author.Tests.{le-ltb, eqb-true}
 use lib.Dec.{ltb, eqb, leb}
@@ -27,13 +27,13 @@ use Rattle.rules.specs.Content.{number5}
 use Rattle.rules.specs.Trees.{number6}
 use Rattle.rules.specs.Associations.{number7}
 use Rattle.rules.specs.Record.{Rec, recOf, keyOf, datasetRecord}
-use Rattle.rules.specs.Outcome.{Outcome, done, refused, andThen, at}
+use Rattle.rules.specs.Outcome.{Outcome, done, refused, andThen}
 use Rattle.rules.specs.File.{lastRank, datasetTest, through, taken, ending}
 use Rattle.rules.specs.declared.Kind.{Kind}
 use Rattle.rules.specs.declared.Mode.the-variants.{InDataset}
-use Rattle.rules.proofs.OutcomeLaws.{andThen-inv, done-inj, at-inv}
+use Rattle.rules.proofs.OutcomeLaws.{andThen-inv, done-inj}
+use Rattle.rules.proofs.FileLaws.{through-later}
 use Rattle.skeleton.proofs.RecordLaws.{refusal-some}
-use Rattle.keys.proofs.PassedLaws.{test-later}
 use Rattle.updates.specs.Acts.{kindIn}
 use Rattle.stock.specs.Stored.{Stored}
 use Rattle.stock.specs.Stock.{recBy, recIn, AllStored, stockFrom, Stock}
@@ -80,25 +80,15 @@ record-stored least earlier fs r e =
 
 -- ---- all of them
 
--- from the fourth record on each is tested for all of them
-later-test : (n : ℕ) (seen : List Rec) (fs : List Field) → 4 ≤ n
-    → datasetTest n seen fs ≡ bind (datasetRecord (lastRank seen) (each keyOf seen) fs) (λ r. ok (r ∷ []))
-later-test n seen fs h = test-later n seen fs h
-
 through-stored : (items : List (List Field)) (n : ℕ) (seen recs : List Rec) → 4 ≤ n → through datasetTest 1 n seen items ≡ done recs
     → AllStored items × (recs ≡ each recIn items)
 unfolding through each AllStored
 through-stored [] n seen recs h e = (tt, sym (done-inj [] recs e))
 through-stored (fs ∷ items) n seen recs h e =
-    let p = andThen-inv (at 1 n (datasetTest n seen fs)) _ recs e in
-    let q = at-inv 1 n (datasetTest n seen fs) (p .0) (p .1) in
-    let r = bind-inv (datasetRecord (lastRank seen) (each keyOf seen) fs) (λ r. ok (r ∷ [])) (p .0) (sym (later-test n seen fs h) ∙ q) in
-    let new : r .0 ∷ [] ≡ p .0 = ok-inj (r .0 ∷ []) (p .0) (r .2) in
-    let s = andThen-inv (through datasetTest 1 (n + 1) (p .0 ++ seen) items) (λ later. done (p .0 ++ later)) recs (p .2) in
-    let t = through-stored items (n + 1) (p .0 ++ seen) (s .0) (omega arith) (s .1) in
-    let u = record-stored (lastRank seen) (each keyOf seen) fs (r .0) (r .1) in
-    let whole : p .0 ++ s .0 ≡ recs = done-inj (p .0 ++ s .0) recs (s .2) in
-    ((u .0, t .0), sym whole ∙ sym (ap (λ (l : List Rec). l ++ s .0) new) ∙ ap₂ (λ (a : Rec) (l : List Rec). a ∷ l) (u .1) (t .1))
+    let l = through-later fs items n seen recs h e in
+    let t = through-stored items (n + 1) (l .made ∷ seen) (l .others) (omega arith) (l .onward) in
+    let u = record-stored (lastRank seen) (each keyOf seen) fs (l .made) (l .passes) in
+    ((u .0, t .0), sym (l .all) ∙ ap₂ (λ (a : Rec) (rs : List Rec). a ∷ rs) (u .1) (t .1))
 
 -- a file that ends well
 ended-well : (least n z : ℕ) (l m : List Rec) → ending 1 least n z l ≡ done m → (z ≡ 0) × (l ≡ m)

@@ -2,7 +2,7 @@
 use mathlib.Core.Path.{_≡_, refl, sym, ap, _∙_}
 use mathlib.Core.List.{List, [], _∷_}
 use mathlib.Core.Option.{Option, some}
-use mathlib.Core.Bool.{true, true≢false}
+use mathlib.Core.Bool.{true}
 use Prim.Native.Nat.{ℕ, zero, suc, _+_, _≤_, _<_}
 use native.Mathlib.Omega.{arith}
 use lib.ListN.{length, getD, take, drop, length-drop}
@@ -19,9 +19,10 @@ use Rattle.fields.specs.Valid.{allows}
 use Rattle.fields.specs.Content.{tuples, many}
 use Rattle.fields.specs.Places.{endingAt}
 use Rattle.fields.specs.declared.Sub.{Sub}
-use Rattle.fields.specs.declared.Sub.the-variants.{B11, B12, B14, Among, Raw, Text, Fixed}
+use Rattle.fields.specs.declared.Sub.the-variants.{B11, Raw, Text}
 use Rattle.fields.proofs.SizeLaws.{isNum, some-inj, num-size, num-some, text-some, sizes-cons}
 use Rattle.fields.proofs.TupleLaws.{tuples-end, first-tuple}
+use Rattle.fields.proofs.ValueLaws.{num-value}
 use Rattle.tree.specs.Source.{two, past}
 use Rattle.tree.specs.Known.{Whole, ended, onward}
 use Rattle.tree.proofs.CountLaws.{past-above}
@@ -43,17 +44,6 @@ pub record Stands (lo hi : ℕ) (b : List ℕ) (at : ℕ) : Type 0 where
   pub found : many (shape lo hi) (drop at b) ≡ valuesAt b at ∷ many (shape lo hi) (drop (past b at) b)
 
 -- ---- its subfields one after the other
-
--- the value of a number
-num-value : (d : Sub) (l : List ℕ) → isNum d ≡ true → value d l ≡ num (le (width d) l)
-unfolding value
-num-value (B11 lo hi) l i = refl
-num-value (B12 lo hi) l i = refl
-num-value (B14 lo hi) l i = refl
-num-value (Among p q s t) l i = refl
-num-value (Raw n) l i = refl
-num-value Text l i = absurd (true≢false (sym i))
-num-value (Fixed n) l i = absurd (true≢false (sym i))
 
 -- a number at an offset, and the subfields behind it
 pub record Numbered (d : Sub) (ds : List Sub) (b : List ℕ) (at next n : ℕ) : Type 0 where

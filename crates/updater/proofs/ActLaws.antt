@@ -1,6 +1,6 @@
 -- From each way out behind the general records to the rules' outcome: verdicts, references, 14, 13, done. Assumes nothing.
-use Prim.Native.Nat.{ℕ, suc, _+_, _≤_, _<_}
-use mathlib.Core.Path.{_≡_, refl, sym, ap, ap₂, _∙_, subst}
+use Prim.Native.Nat.{ℕ, _+_, _≤_, _<_}
+use mathlib.Core.Path.{_≡_, sym, ap, ap₂, _∙_, subst}
 use mathlib.Core.Bool.{Bool, true, false}
 use mathlib.Core.List.{List, [], _∷_, _++_}
 use native.Mathlib.Omega.{arith}
@@ -9,20 +9,19 @@ use lib.ListN.{length, take, drop, length-append}
 use lib.Dec.{ltb}
 use Rattle.base.specs.Choice.{pick}
 use Rattle.base.specs.Check.{ok, fault}
-use Rattle.base.specs.Lists.{each}
 use Rattle.base.specs.Walk.{Got}
 use Rattle.base.specs.declared.Fault.{Fault}
+use Rattle.base.proofs.ListLaws.{each-length}
 use Rattle.memory.specs.Put.{put}
 use Rattle.memory.specs.Wrote.{Wrote}
 use Rattle.memory.proofs.PutLaws.{put-put-last-first}
 use Rattle.memory.proofs.WroteLaws.{wrote-take}
 use Rattle.skeleton.specs.File.{Field, recordsOf}
-use Rattle.skeleton.specs.Emit.{emit, emits}
-use Rattle.skeleton.proofs.EmitFieldsLaws.{length-emit}
+use Rattle.skeleton.specs.Emit.{emits}
 use Rattle.skeleton.proofs.EmitFileLaws.{length-emits}
 use Rattle.rules.specs.General.{merged}
 use Rattle.rules.specs.Record.{Rec}
-use Rattle.rules.specs.Written.{Dataset, writtenFields, fieldWidth, writtenLength, written, writtenBytes}
+use Rattle.rules.specs.Written.{Dataset, writtenFields, fieldWidth, written, writtenBytes}
 use Rattle.rules.specs.Outcome.{Outcome, done, refused, andThen, at}
 use Rattle.rules.specs.File.{Sent, sentAs}
 use Rattle.rules.specs.Update.{general}
@@ -35,7 +34,7 @@ use Rattle.sequence.specs.History.{judged}
 use Rattle.sequence.proofs.Tests.{by-bool}
 use Rattle.updates.specs.Acts.{chart, inUpdate}
 use Rattle.updates.specs.Streamed.{verdicts, resultRecords, resultReferences, headBytes, headLength, resultBytes, resultLength, streamedTo, streamedOutcome}
-use Rattle.updates.proofs.Lengths.{length-result}
+use Rattle.updates.proofs.Lengths.{length-result, length-head}
 use Rattle.updates.proofs.Read.{refuses}
 use Rattle.updates.proofs.Streams.{streams, resultOf, written-result}
 use Rattle.stock.specs.Stock.{stockFrom}
@@ -71,25 +70,13 @@ behind-bytes room front ds us w e =
 
 -- ---- lengths
 
--- the first three records
-pub front-length : (d : Dataset) (g : List Field) → length (headBytes d g) ≡ headLength d g
-unfolding headBytes headLength writtenLength
-front-length d g =
-    rw (
-      length-append (emit fieldWidth fieldWidth true (d .descriptive)) (emit fieldWidth fieldWidth false g ++ emit fieldWidth fieldWidth false (d .systems)),
-      length-append (emit fieldWidth fieldWidth false g) (emit fieldWidth fieldWidth false (d .systems)),
-      length-emit fieldWidth fieldWidth true (d .descriptive),
-      length-emit fieldWidth fieldWidth false g,
-      length-emit fieldWidth fieldWidth false (d .systems),
-    )
-
 -- the records behind them
 pub rest-length : (d : Dataset) (g : List Field) (us : List (List Field)) → length (restBytes (d .records) us) ≡ restLength (d .records) us
 unfolding resultBytes resultLength
 rest-length d g us =
     let a = length-append (headBytes d g) (restBytes (d .records) us) in
     let b = length-result d g us in
-    let c = front-length d g in
+    let c = length-head d g in
     omega arith
 
 -- there are fewer records than bytes
@@ -99,11 +86,6 @@ emits-count first (fs ∷ rest) =
     let a = length-emits fieldWidth fieldWidth first fs rest in
     let b = emits-count false rest in
     omega arith
-
-each-length : {A B : Type 0} (g : A → B) (l : List A) → length (each g l) ≡ length l
-unfolding each
-each-length g [] = refl
-each-length g (x ∷ xs) = ap suc (each-length g xs)
 
 pub count-few : (d : Dataset) (g : List Field) (us : List (List Field)) → 3 + length (resultRecords (d .records) us) ≤ headLength d g + restLength (d .records) us
 unfolding writtenBytes written resultLength
@@ -144,7 +126,7 @@ module _ (f u : List ℕ) (ds us front : ℕ) (k : Begun f u ds us front) where
   opening = headBytes (k .fits .dataset) (merged ((k .fits .dataset) .general) (sentGeneral u))
 
   opening-length : length opening ≡ front
-  opening-length = front-length (k .fits .dataset) (merged ((k .fits .dataset) .general) (sentGeneral u)) ∙ sym (k .long)
+  opening-length = length-head (k .fits .dataset) (merged ((k .fits .dataset) .general) (sentGeneral u)) ∙ sym (k .long)
 
   pub behind-length : length (restBytes old new) ≡ restLength old new
   behind-length =

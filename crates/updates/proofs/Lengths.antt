@@ -26,7 +26,7 @@ unfolding recordBytes recordLength writtenLength
 length-record r = length-emit fieldWidth fieldWidth false (writtenFields r)
 
 -- the first three records
-length-head : (d : Dataset) (g : List Field) → length (headBytes d g) ≡ headLength d g
+pub length-head : (d : Dataset) (g : List Field) → length (headBytes d g) ≡ headLength d g
 unfolding headBytes headLength writtenLength
 length-head d g =
     rw (

@@ -30,6 +30,7 @@ use Rattle.rules.specs.declared.Mode.the-variants.{InDataset, InUpdate}
 use Rattle.rules.proofs.OutcomeLaws.{andThen-inv, at-inv, done-inj}
 use Rattle.sequence.specs.Keyed.{Each}
 use Rattle.sequence.proofs.Tests.{by-bool, refused}
+use Rattle.sequence.proofs.EachLaws.{each-join}
 use Rattle.updates.specs.Acts.{kindIn}
 use Rattle.updates.proofs.Read.{is-read, is-sent}
 
@@ -53,12 +54,6 @@ test-made n seen fs new e =
     (λ l. let (r, x, y) = bind-inv (datasetRecord (lastRank seen) (each keyOf seen) fs) (λ r. ok (r ∷ [])) new (rw (h, g, l) at e) in
     rw (← ok-inj (r ∷ []) new y) (record { least = lastRank seen; earlier = each keyOf seen; fields = fs; passes = x }, tt))))
 
--- one list and then another
-each-append : {A : Type 0} (Q : A → Type 0) (a b : List A) → Each Q a → Each Q b → Each Q (a ++ b)
-unfolding Each
-each-append Q [] b p q = q
-each-append Q (x ∷ a) b p q = (p .0, each-append Q a b (p .1) q)
-
 -- so were all records of a file
 through-made : (n : ℕ) (seen : List Rec) (items : List (List Field)) (recs : List Rec) → through datasetTest 1 n seen items ≡ done recs → Each FromFields recs
 unfolding through
@@ -67,7 +62,7 @@ through-made n seen (fs ∷ rest) recs e =
     let (new, a, b) = andThen-inv (at 1 n (datasetTest n seen fs)) _ recs e in
     let (later, c, d) = andThen-inv (through datasetTest 1 (n + 1) (new ++ seen) rest) _ recs b in
     rw (← done-inj (new ++ later) recs d)
-    (each-append FromFields new later (test-made n seen fs new (at-inv 1 n (datasetTest n seen fs) new a)) (through-made (n + 1) (new ++ seen) rest later c))
+    (each-join FromFields new later (test-made n seen fs new (at-inv 1 n (datasetTest n seen fs) new a)) (through-made (n + 1) (new ++ seen) rest later c))
 
 -- each record of a dataset that is read was made of fields that passed 4 to 7
 pub read-made : (f : List ℕ) (d : Dataset) → readDataset f ≡ done d → Each FromFields (d .records)

@@ -64,21 +64,21 @@ emits-records [] = refl
 emits-records (r ∷ rs) = ap (λ (l : List ℕ). emit fieldWidth fieldWidth false (writtenFields r) ++ l) (emits-records rs)
 
 -- the inserted records
-joined-bytes : (q : ℕ) (us : List (List Field)) → gather recordBytes (joined chart q us) ≡ joinedBytes q us
+pub joined-bytes : (q : ℕ) (us : List (List Field)) → gather recordBytes (joined chart q us) ≡ joinedBytes q us
 unfolding joined joinedBytes gather
 joined-bytes q [] = refl
 joined-bytes q (u ∷ us) =
     gather-append recordBytes (joinedOf chart q u us) (joined chart q us) ∙ ap (λ (l : List ℕ). gather recordBytes (joinedOf chart q u us) ++ l) (joined-bytes q us)
 
 -- the records of one kind
-kind-bytes : (q : ℕ) (ds : List Rec) (us : List (List Field)) → gather recordBytes (kept chart q us ds ++ joined chart q us) ≡ keptBytes q us ds ++ joinedBytes q us
+pub kind-bytes : (q : ℕ) (ds : List Rec) (us : List (List Field)) → gather recordBytes (kept chart q us ds ++ joined chart q us) ≡ keptBytes q us ds ++ joinedBytes q us
 unfolding kept keptBytes
 kind-bytes q ds us =
     gather-append recordBytes (kept chart q us ds) (joined chart q us)
     ∙ rw (gather-gather recordBytes (keptOf chart q us) ds, joined-bytes q us)
 
 -- all of them
-result-bytes : (ds : List Rec) (us : List (List Field)) → gather recordBytes (resultRecords ds us) ≡ gather (λ q. keptBytes q us ds ++ joinedBytes q us) kinds
+pub result-bytes : (ds : List Rec) (us : List (List Field)) → gather recordBytes (resultRecords ds us) ≡ gather (λ q. keptBytes q us ds ++ joinedBytes q us) kinds
 unfolding resultRecords stream
 result-bytes ds us =
     gather-gather recordBytes (λ q. kept chart q us ds ++ joined chart q us) kinds

@@ -1,1 +1,3 @@
 pub mod AreaLaws
+pub mod BodyLaws
+pub mod RowLaws

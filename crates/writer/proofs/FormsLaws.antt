@@ -21,7 +21,7 @@ use Rattle.skeleton.proofs.FileLaws.{records-over, records-refused, records-mor
 use Rattle.fields.specs.Valid.{Bytes}
 use Rattle.rules.specs.Tags.{CSID}
 use Rattle.rules.specs.ByTag.{firstTag}
-use Rattle.rules.specs.Record.{Rec, keyOf, datasetRecord}
+use Rattle.rules.specs.Record.{Rec, keyOf}
 use Rattle.rules.specs.General.{generalRecord}
 use Rattle.rules.specs.Written.{Dataset, writtenFields, written}
 use Rattle.rules.specs.Outcome.{done, andThen, at}
@@ -29,10 +29,10 @@ use Rattle.rules.specs.File.{addsNone, lastRank, datasetTest, through, storedAs
 use Rattle.rules.specs.Answers.{notTooLong, readOutcome}
 use Rattle.rules.specs.declared.Mode.the-variants.{InDataset}
 use Rattle.rules.proofs.OutcomeLaws.{andThen-inv, at-inv, done-inj}
+use Rattle.rules.proofs.FileLaws.{through-later}
 use Rattle.sequence.specs.Keyed.{Each}
 use Rattle.sequence.proofs.Tests.{by-bool}
 use Rattle.updates.proofs.Read.{refuses, is-read}
-use Rattle.sound.proofs.Read.{test-later}
 use Rattle.sound.proofs.FileBytes.{Bodies, file-bytes}
 use Rattle.writing.specs.House.{inHouseForm}
 use Rattle.writing.proofs.HouseLaws.{house-carried}
@@ -74,14 +74,10 @@ later-forms : (n : ℕ) (seen : List Rec) (items : List (List Field)) (recs : Li
 unfolding through formsOf each Each
 later-forms n seen [] recs l g e = rw (← done-inj [] recs e)
 later-forms n seen (fs ∷ rest) recs l g e =
-    let (new, a, b) = andThen-inv (at 1 n (datasetTest n seen fs)) _ recs e in
-    let (later, c, d) = andThen-inv (through datasetTest 1 (n + 1) (new ++ seen) rest) _ recs b in
-    let t : datasetTest n seen fs ≡ ok new = at-inv 1 n (datasetTest n seen fs) new a in
-    let (r, x, y) = bind-inv (datasetRecord (lastRank seen) (each keyOf seen) fs) (λ r. ok (r ∷ [])) new (sym (test-later n seen fs l) ∙ t) in
-    let z : r ∷ later ≡ recs = ap (λ (w : List Rec). w ++ later) (ok-inj (r ∷ []) new y) ∙ done-inj (new ++ later) recs d in
-    let here : writtenFields r ≡ inHouseForm true fs = written-house (lastRank seen) (each keyOf seen) fs r (all-bytes fs (g .0)) x in
-    let ih = later-forms (n + 1) (new ++ seen) rest later (omega arith) (g .1) c in
-    rw (← z, lt-ltb 3 n l, here, ih)
+    let t = through-later fs rest n seen recs l e in
+    let here : writtenFields (t .made) ≡ inHouseForm true fs = written-house (lastRank seen) (each keyOf seen) fs (t .made) (all-bytes fs (g .0)) (t .passes) in
+    let ih = later-forms (n + 1) (t .made ∷ seen) rest (t .others) (omega arith) (g .1) (t .onward) in
+    rw (← t .all, lt-ltb 3 n l, here, ih)
 
 -- a record that adds none to those of the four kinds
 skip : (n : ℕ) (own : Passed) (fs : List Field) (rest : List (List Field)) (recs : List Rec) → datasetTest n [] fs ≡ addsNone own

@@ -7,13 +7,14 @@ use native.Mathlib.Nat.{zero-add}
 use native.Mathlib.Omega.{arith}
 use borrow.Author.Tests.{eq-eqb, ne-eqb, not-true, not-false}
 use lib.Dec.{eqb}
-use lib.ListN.{length, length-append, length-take, length-drop}
+use lib.ListN.{length, length-append}
 use Rattle.skeleton.specs.File.{Field}
 use Rattle.skeleton.specs.Place.{between, placeAt, fieldsAt}
 use Rattle.skeleton.specs.declared.directory.Shape.{Shape}
 use Rattle.skeleton.specs.declared.place.Place.{Place}
 use Rattle.skeleton.specs.declared.place.Place.the-variants.{At as PlaceAt, Done as NoPlace}
 use Rattle.skeleton.proofs.PlaceLaws.{held, place-falls, place-runs, fields-more, fields-done}
+use Rattle.skeleton.proofs.BetweenLaws.{length-between}
 use Rattle.rules.specs.Written.{fieldAs}
 use Rattle.writing.specs.House.{isList, inHouseForm}
 use Rattle.writing.specs.Runs.{emptyList, goesOn, runBody, runRest, moreBody, moreRest}
@@ -69,13 +70,9 @@ pub ruleset on-ways = (on-same, on-empty)
 
 -- ---- bodies
 
--- how long a body is
-pub body-length : (r : List ℕ) (i j : ℕ) → i ≤ j → j ≤ length r → length (between r i j) ≡ j - i
-body-length r i j h g = simp (length-take, length-drop) (omega arith)
-
 module _ (r : List ℕ) (h : Shape) (q : ℕ) (e : Place) (en : e ≡ placeAt r h q) (tag start end next : ℕ) (x : e ≡ PlaceAt tag start end next) where
   pub body-at : length (between r start end) ≡ end - start
-  body-at = let k = held r h q e en tag start end next x in body-length r start end (k .body-runs) (omega arith)
+  body-at = let k = held r h q e en tag start end next x in length-between r start end (omega arith)
 
   -- the body there, whether a list goes on over it or not
   module _ (joins : Bool) (t : ℕ) (b : Bool) (eb : b ≡ goesOn joins t tag (end - start)) where

@@ -1,25 +1,22 @@
 -- The parts of a record of a dataset that has passed 5 and 6: what is written of each is what was read. Assumes nothing.
 use Prim.Native.Nat.{ℕ, _+_, _≤_, _<_}
 use mathlib.Core.Path.{_≡_, refl, sym, ap, ap₂, _∙_, subst}
-use mathlib.Core.Bool.{true, not}
+use mathlib.Core.Bool.{true}
 use mathlib.Core.List.{List, [], _∷_, _++_, append-nil}
 use native.Mathlib.Omega.{arith}
 use lib.ListN.{length, getD}
-use Rattle.base.specs.Check.{Check, ok, no, bind, inField, passed, pass, Passed}
+use Rattle.base.specs.Check.{Check, ok, no, bind, inField, pass, Passed}
 use Rattle.base.specs.Lists.{each, gather, empty}
 use Rattle.base.specs.Walk.{walk, steps}
-use Rattle.base.proofs.CheckLaws.{bind-inv}
+use Rattle.base.proofs.CheckLaws.{bind-inv, passed-inv}
 use Rattle.skeleton.specs.File.{Field}
 use Rattle.fields.specs.Table.{headOf, tupleOf}
 use Rattle.fields.specs.Values.{puts, putAll}
 use Rattle.fields.specs.Valid.{Bytes}
-use Rattle.fields.specs.Content.{tuples, tupleStep, many, tallyField, fill}
+use Rattle.fields.specs.Content.{tuples, tupleStep, many, fill}
 use Rattle.fields.specs.Places.{endingAt}
-use Rattle.fields.specs.declared.Format.{Format}
 use Rattle.fields.specs.declared.Format.the-variants.{Foid, SpasNew, C2il}
-use Rattle.fields.specs.declared.Tally.{Tally}
-use Rattle.fields.specs.declared.Tally.the-variants.{Whole, Short}
-use Rattle.fields.proofs.FieldLaws.{count-fill, fill-list, head-length}
+use Rattle.fields.proofs.FieldLaws.{fill-list, head-length}
 use Rattle.forest.specs.Forest.{Forest, tuplesOf, tuplesFrom}
 use Rattle.forest.specs.Rule.{treeOf, runUpTo, allTaken}
 use Rattle.rules.specs.Tags.{FOID, ATTR, INAS, SPAS, C2IT, C2IL}
@@ -28,6 +25,7 @@ use Rattle.rules.specs.Content.{formatOf, inasFormat, filled, stands, allStand}
 use Rattle.rules.specs.Trees.{attrTree, inasTree, treeStands, treesStand}
 use Rattle.rules.specs.Record.{foidOf, standing, assocOf}
 use Rattle.rules.specs.Written.{fieldAs, listField, nums, treeBytes, assocField}
+use Rattle.rules.proofs.FilledLaws.{stands-fill}
 use Rattle.writing.proofs.OrderedLaws.{Every, Tagged, BodiesBytes, not-passed}
 use Rattle.writing.proofs.SameBytesLaws.{foid-again, attr-again, inas-again, Lists, none, one, point-list}
 
@@ -42,15 +40,6 @@ pub record RightAt (t : ℕ) (b : List ℕ) : Type 0 where
 abbrev pub Right : Field → Type 0
 Right f = RightAt (f .tag) (f .body)
 
--- a field that has its format is filled
-pub stands-fill : (i : ℕ) (k : Format) (b : List ℕ) → stands i k b ≡ pass → fill (headOf k) (tupleOf k) b ≡ true
-unfolding stands
-stands-fill i k b e = go (tallyField (headOf k) (tupleOf k) b) refl e
-  where
-    go : (y : Tally) → tallyField (headOf k) (tupleOf k) b ≡ y → filled i (not (empty (tupleOf k))) y ≡ pass → fill (headOf k) (tupleOf k) b ≡ true
-    go (Whole n) q x = count-fill (headOf k) (tupleOf k) b n q
-    go (Short j) q x = not-passed x
-
 in-field : (i : ℕ) (c : Passed) → inField i c ≡ pass → c ≡ pass
 unfolding inField
 in-field i (ok a) e = refl
@@ -63,7 +52,7 @@ all-right i j [] g e t = tt
 all-right i j (f ∷ fs) g e t =
     let a = bind-inv (stands i (formatOf true (f .tag) (f .body)) (f .body)) _ tt e in
     let b = bind-inv (inField j (treeStands true f)) _ tt t in (
-      record { bytes = g .0; filled = stands-fill i (formatOf true (f .tag) (f .body)) (f .body) (a .1); tree = in-field j (treeStands true f) (b .1) },
+      record { bytes = g .0; filled = stands-fill i (formatOf true (f .tag) (f .body)) (f .body) (a .0) (a .1); tree = in-field j (treeStands true f) (b .1) },
       all-right (i + 1) (j + 1) fs (g .1) (a .2) (b .2),
     )
 
@@ -98,11 +87,6 @@ foid-part (f ∷ []) t r h =
     ∙ list-some FOID (f .body) (omega arith)
     ∙ ap (λ (g : Field). g ∷ []) (field-tag FOID f (t .0))
 foid-part (f ∷ g ∷ xs) t r h = absurd (omega arith)
-
--- ATTR: at most one
-pub passed-inv : {A : Type 0} (c : Check A) → passed c ≡ pass → (a : A) × (c ≡ ok a)
-unfolding passed
-passed-inv c e = let r = bind-inv c (λ _. pass) tt e in (r .0, r .1)
 
 attr-right : (b : List ℕ) → RightAt ATTR b → treeBytes (standing (attrTree b)) ≡ b
 unfolding formatOf treeStands standing

@@ -14,6 +14,7 @@ use Rattle.base.specs.Check.{Check, ok}
 use Rattle.base.specs.Lists.{each, gather}
 use Rattle.base.specs.Walk.{Got}
 use Rattle.base.proofs.ChoiceLaws.{both-hold}
+use Rattle.base.proofs.ListLaws.{each-append, each-gather, each-each}
 use Rattle.fields.specs.Bytes.{le}
 use Rattle.fields.specs.Sizes.{size, sizes, inRange}
 use Rattle.fields.specs.Table.{headOf, tupleOf}
@@ -142,11 +143,6 @@ many-again t w same = tuples-ind t (λ l. each w (many t l) ≡ many t l) base t
         ∙ ap₂ (λ (v : List Val) (vs : List (List Val)). v ∷ vs) (same l (f .bytes) (f .taken)) ih
         ∙ sym (ap (λ (g : Got (List Val)). g .items) (f .found))
 
-each-each : {A B C : Type 0} (f : B → C) (g : A → B) (xs : List A) → each f (each g xs) ≡ each (λ x. f (g x)) xs
-unfolding each
-each-each f g [] = refl
-each-each f g (x ∷ xs) = ap (λ ys. f (g x) ∷ ys) (each-each f g xs)
-
 -- a tuple of ATTR or INAS
 tup-again : (l : List ℕ) (n : ℕ) → sizes (tupleOf AttrNew) l ≡ some n → tupVals (tupOf (values (tupleOf AttrNew) l)) ≡ values (tupleOf AttrNew) l
 unfolding tupleOf tupVals tupOf pin pinned values value
@@ -218,11 +214,6 @@ pub data Lists (t : List Sub) : List (List ℕ) → Type 0 where
   none : Lists t []
   one : {b : List ℕ} {bs : List (List ℕ)} → Bytes b → (tuples t b) .ending ≡ 0 → Lists t bs → Lists t (b ∷ bs)
 
-pub each-append : {A B : Type 0} (f : A → B) (xs ys : List A) → each f (xs ++ ys) ≡ each f xs ++ each f ys
-unfolding each
-each-append f [] ys = refl
-each-append f (x ∷ xs) ys = ap (λ zs. f x ∷ zs) (each-append f xs ys)
-
 -- what is made of each tuple is its values: the lists one after the other are written as their bodies one after the other
 pub lists-again : (t : List Sub) (w : List Val → List Val) → ((l : List ℕ) (n : ℕ) → sizes t l ≡ some n → w (values t l) ≡ values t l)
     → (bs : List (List ℕ)) → Lists t bs → putAll t (each w (gather (many t) bs)) ≡ gather (λ b. b) bs
@@ -238,15 +229,10 @@ coord-again : (l : List ℕ) (n : ℕ) → sizes (tupleOf C2il) l ≡ some n →
 unfolding tupleOf coordVals coordOf values value
 coord-again l n e = refl
 
-each-gather : {A B C : Type 0} (f : B → C) (g : A → List B) (xs : List A) → gather (λ x. each f (g x)) xs ≡ each f (gather g xs)
-unfolding each gather
-each-gather f g [] = refl
-each-gather f g (x ∷ xs) = ap (λ ys. each f (g x) ++ ys) (each-gather f g xs) ∙ sym (each-append f (g x) (gather g xs))
-
 pub coords-again : (bs : List (List ℕ)) → Lists (tupleOf C2il) bs → putAll (tupleOf C2il) (each coordVals (gather coordsIn bs)) ≡ gather (λ b. b) bs
 unfolding coordsIn
 coords-again bs h =
-    ap (λ (cs : List Coord). putAll (tupleOf C2il) (each coordVals cs)) (each-gather coordOf (many (tupleOf C2il)) bs)
+    ap (λ (cs : List Coord). putAll (tupleOf C2il) (each coordVals cs)) (sym (each-gather coordOf (many (tupleOf C2il)) bs))
     ∙ ap (putAll (tupleOf C2il)) (each-each coordVals coordOf (gather (many (tupleOf C2il)) bs))
     ∙ lists-again (tupleOf C2il) (λ v. coordVals (coordOf v)) coord-again bs h
 

@@ -20,6 +20,7 @@ use Rattle.skeleton.specs.declared.place.Place.the-variants.{At as PlaceAt, Don
 use Rattle.skeleton.proofs.PlaceLaws.{held, place-falls, place-runs}
 use Rattle.skeleton.proofs.EmitDigitsLaws.{length-digits}
 use Rattle.skeleton.proofs.EmitFieldsLaws.{length-leading, length-entries, length-contents, length-emit}
+use Rattle.skeleton.proofs.BetweenLaws.{length-between}
 use Rattle.rules.specs.Written.{fieldWidth, writtenLength}
 use Rattle.writing.specs.House.{isList}
 use Rattle.writing.specs.Runs.{goesOn, runBody, moreBody}
@@ -28,7 +29,7 @@ use Rattle.writing.specs.Found.{houseAt, joinedAt, Found, Next, Summed}
 use Rattle.writing.specs.declared.joining.Written.{Written}
 use Rattle.writing.specs.declared.joining.Written.the-variants.{At, Done}
 use Rattle.writing.specs.declared.measuring.Sum.{Sum}
-use Rattle.writing.proofs.JoiningLaws.{body-at, body-length, run-more, run-ends, run-none}
+use Rattle.writing.proofs.JoiningLaws.{body-at, run-more, run-ends, run-none}
 use Rattle.writing.proofs.MeasuringLaws.{nothing, found, found-falls, found-word, found-count, found-bytes, length-product, length-head, length-word}
 use Rattle.writing.proofs.PartsLaws.{wrote-as}
 
@@ -202,7 +203,7 @@ module _ (joins : Bool) (r : List ℕ) (h : Shape) (out₀ : List ℕ) (at : ℕ
     -- how long the parts of the field are
     part-long : length (part start (end - start) r) ≡ end - start
     unfolding part
-    part-long = body-length r start end (here .body-runs) (here .body-in)
+    part-long = length-between r start end (here .body-in)
 
     size-long : size ≡ end - start + length (joinedAt joins r h tag next)
     unfolding part

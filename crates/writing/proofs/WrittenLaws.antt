@@ -5,7 +5,6 @@ use mathlib.Core.Bool.{Bool, true, false}
 use mathlib.Core.Option.{Option, some, none}
 use mathlib.Core.List.{List, [], _∷_, _++_}
 use native.Mathlib.Omega.{arith}
-use borrow.Author.Tests.{eqb-true}
 use lib.Dec.{eqb, ltb}
 use lib.ListN.{getD}
 use Rattle.base.specs.Choice.{pick, both}
@@ -13,6 +12,7 @@ use Rattle.base.specs.Check.{ok, no, bind, fault, pass}
 use Rattle.base.specs.Lists.{each, gather}
 use Rattle.base.specs.Keys.{among}
 use Rattle.base.proofs.CheckLaws.{bind-inv, ok-inj}
+use Rattle.base.proofs.ListLaws.{each-append}
 use Rattle.skeleton.specs.File.{Field}
 use Rattle.skeleton.specs.Place.{fieldsAt}
 use Rattle.skeleton.specs.declared.directory.Shape.{Shape}
@@ -21,7 +21,7 @@ use Rattle.fields.specs.Values.{puts, putAll}
 use Rattle.fields.specs.Valid.{Bytes}
 use Rattle.fields.specs.Content.{many, fill}
 use Rattle.fields.specs.declared.Format.the-variants.{Foid, Spas, SpasNew, C2il}
-use Rattle.rules.specs.Tags.{IRID, PRID, MRID, FRID, FOID, ATTR, INAS, SPAS, COCC, C2IT, C2IL}
+use Rattle.rules.specs.Tags.{FOID, ATTR, INAS, SPAS, COCC, C2IT, C2IL}
 use Rattle.rules.specs.ByTag.{withTag, bodyOf, bodies, front, has}
 use Rattle.rules.specs.Kind.{kindOf, tagOf, rank, rowsOf}
 use Rattle.rules.specs.Grammar.{inOrder, forbidden, ruinByte, couiByte, asStored, fieldsStand, onKind, number4}
@@ -34,11 +34,13 @@ use Rattle.rules.specs.Written.{fieldAs, listField, identBytes, nums, treeBytes
 use Rattle.rules.specs.declared.Kind.{Kind}
 use Rattle.rules.specs.declared.Kind.the-variants.{Info, Point, Multi, Feature}
 use Rattle.rules.specs.declared.Mode.the-variants.{InDataset}
+use Rattle.rules.proofs.KindLaws.{tag-of-kind}
+use Rattle.rules.proofs.FilledLaws.{stands-fill}
 use Rattle.writing.specs.House.{isList, inHouseForm}
 use Rattle.writing.proofs.HouseLaws.{house-plain}
 use Rattle.writing.proofs.OrderedLaws.{Every, Tagged, BodiesBytes, Parted, parted}
-use Rattle.writing.proofs.SameBytesLaws.{identVals, ident-again, Lists, coords-again, spatials-again, each-append}
-use Rattle.writing.proofs.RecordPartLaws.{Right, stands-fill, all-right, every-append, foid-part, attr-part, inas-part, coord-lists, point-lists, spatial-lists}
+use Rattle.writing.proofs.SameBytesLaws.{identVals, ident-again, Lists, coords-again, spatials-again}
+use Rattle.writing.proofs.RecordPartLaws.{Right, all-right, every-append, foid-part, attr-part, inas-part, coord-lists, point-lists, spatial-lists}
 use Rattle.writing.proofs.BytesLaws.{bytes-fields}
 use Rattle.writing.proofs.TagLaws.{with-foid, with-attr, with-inas, with-spas, with-coords}
 use Rattle.writing.proofs.HousePartLaws.{Apart, house-plains, house-lists, apart-tagged, apart-list, apart-alone, house-coords, attr-coord}
@@ -118,10 +120,10 @@ after-ident t f fs xs e w = rw (e, w)
 -- an identifier is a head alone
 ident-fill : (k : Kind) (b : List ℕ) → stands 1 (identFormat true k) b ≡ pass → fill (headOf (identFormat true k)) [] b ≡ true
 unfolding identFormat tupleOf
-ident-fill Info b e = stands-fill 1 (identFormat true Info) b e
-ident-fill Point b e = stands-fill 1 (identFormat true Point) b e
-ident-fill Multi b e = stands-fill 1 (identFormat true Multi) b e
-ident-fill Feature b e = stands-fill 1 (identFormat true Feature) b e
+ident-fill Info b e = stands-fill 1 (identFormat true Info) b tt e
+ident-fill Point b e = stands-fill 1 (identFormat true Point) b tt e
+ident-fill Multi b e = stands-fill 1 (identFormat true Multi) b tt e
+ident-fill Feature b e = stands-fill 1 (identFormat true Feature) b tt e
 
 -- it is no list
 ident-plain : (k : Kind) → isList true (tagOf k) ≡ false
@@ -157,27 +159,11 @@ written-whole k f fs p t g e r =
 
 -- ---- the tests, turned round
 
-kind-same : {j k : Kind} → some j ≡ some k → j ≡ k
-kind-same e = cc
-
 not-some {ℓ} : {X : Type ℓ} {k : Kind} → none ≡ some k → X
 not-some e = absurd (let z : _≡_ {A = ℕ} 0 1 = cc in omega arith)
 
 not-kind {ℓ} : {X : Type ℓ} {n i j : ℕ} {k : Kind} → no (fault n i j) ≡ ok k → X
 not-kind e = absurd (let z : _≡_ {A = ℕ} 0 1 = cc in omega arith)
-
--- a kind has one tag
-pub kind-tag : (t : ℕ) (k : Kind) → kindOf t ≡ some k → t ≡ tagOf k
-unfolding kindOf tagOf
-kind-tag t k e = go (eqb t IRID) refl (eqb t PRID) refl (eqb t MRID) refl (eqb t FRID) refl e
-  where
-    go : (a : Bool) → eqb t IRID ≡ a → (b : Bool) → eqb t PRID ≡ b → (c : Bool) → eqb t MRID ≡ c → (d : Bool) → eqb t FRID ≡ d
-        → pick a (some Info) (pick b (some Point) (pick c (some Multi) (pick d (some Feature) none))) ≡ some k → t ≡ tagOf k
-    go true p b q c s d u x = eqb-true t IRID p ∙ ap tagOf (kind-same x)
-    go false p true q c s d u x = eqb-true t PRID q ∙ ap tagOf (kind-same x)
-    go false p false q true s d u x = eqb-true t MRID s ∙ ap tagOf (kind-same x)
-    go false p false q false s true u x = eqb-true t FRID u ∙ ap tagOf (kind-same x)
-    go false p false q false s false u x = not-some x
 
 -- number 4 passed
 four-inv : (least : ℕ) (f : Field) (fs : List Field) (k : Kind) → number4 InDataset least (f ∷ fs) ≡ ok k
@@ -214,7 +200,7 @@ unfolding number4 number5 number6 insertOnly asStored
 written-passed least [] k g e₄ e₅ e₆ = not-kind e₄
 written-passed least (f ∷ fs) k g e₄ e₅ e₆ =
     let a = four-inv least f fs k e₄ in
-    let t = kind-tag (f .tag) k (a .0) in
+    let t = tag-of-kind (f .tag) k (a .0) in
     let p = parted (ruinByte k (f .body)) (couiByte fs) (has COCC fs) k 2 fs (order-inv k (f .body) fs (a .1)) in
     let b = bind-inv (stands 1 (identFormat true k) (f .body)) _ tt e₅ in
     let c = bind-inv (allStand true 2 fs) _ tt (b .2) in

@@ -5,8 +5,8 @@ use Rattle.composing.proofs.acts.ruin.Statement.{statement}
 use Rattle.composing.proofs.acts.ruin.Tie as tie
 use Rattle.composing.proofs.acts.ruin.Reads as reads
 use Rattle.composing.proofs.acts.ruin.Lts as lts
-use Rattle.composing.proofs.acts.kind_of.Reads as kind-of-reads
-use Rattle.contents.proofs.identifier.ruin_byte.Reads as ruin-byte-reads
+use Rattle.keys.proofs.look.kind_of.Reads as kind-of-reads
+use Rattle.records.proofs.grammar.ruin_byte.Reads as ruin-byte-reads
 use Rattle.skeleton.proofs.place.place_at.Reads as place-at-reads
 
 place-at-requires : tie.Need-place-at-requires

@@ -1,6 +1,6 @@
-use Rattle.listing.proofs.TextLaws.{store-out}
 use native.Mathlib.Omega.{arith}
 use borrow.Author.Needs.{needs}
+use Rattle.keys.proofs.TableLaws.{put-past}
 use Rattle.listing.proofs.text.store.Statement.{statement}
 use Rattle.listing.proofs.text.store.Tie as tie
 use Rattle.listing.proofs.text.store.Reads as reads
@@ -16,7 +16,7 @@ returns : tie.Need-returns
 returns c = search needs
 
 returns-2 : tie.Need-returns-2
-returns-2 c = search store-out
+returns-2 c = search put-past
 
 pub store-spec : {M : Type 1} → statement M
 store-spec = tie.close (tie.spec slice-write-out same-length returns returns-2)

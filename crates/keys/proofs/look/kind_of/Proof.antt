@@ -1,7 +1,6 @@
--- `kind_of` meets its contract. Assumes nothing.
-use Rattle.history.proofs.FindingLaws.{kind-ways}
-use Rattle.history.proofs.finding.kind_of.Statement.{statement}
-use Rattle.history.proofs.finding.kind_of.Tie as tie
+use Rattle.keys.proofs.KeyLaws.{kind-ways}
+use Rattle.keys.proofs.look.kind_of.Statement.{statement}
+use Rattle.keys.proofs.look.kind_of.Tie as tie
 
 returns : tie.Need-returns
 returns c = search kind-ways
