@@ -9,6 +9,7 @@ use lib.ListN.{length, getD, take, drop, length-take}
 use lib.Dec.{eqb}
 use Rattle.base.specs.Check.{Check, ok, bind, refuse, pass, passed}
 use Rattle.base.specs.Lists.{each}
+use Rattle.base.proofs.ListLaws.{none-long}
 use Rattle.skeleton.specs.Emit.{size, sizes}
 use Rattle.skeleton.specs.File.{Field}
 use Rattle.skeleton.specs.Place.{between, fieldsAt}
@@ -384,10 +385,6 @@ module _ (u w : List ℕ) (v : Version) (from to : ℕ) (r : Ready u w v COCC fr
 
 -- ---- C2IT
 
-no-length : (xs : List Coord) → length xs ≡ 0 → xs ≡ []
-no-length [] e = refl
-no-length (x ∷ xs) e = absurd (omega arith)
-
 module _ (u w : List ℕ) (v : Version) (from to : ℕ) (r : Ready u w v C2IT from to) where
   abbrev pointBody : List ℕ
   pointBody = between u from to
@@ -405,7 +402,7 @@ module _ (u w : List ℕ) (v : Version) (from to : ℕ) (r : Ready u w v C2IT fr
   unfolding PartActs
   point-right ys long m s d new =
       let wide : 400000 ≤ length w = r .wide in
-      let none : tuplesOf (take 200000 w) 0 ≡ [] = no-length _ (coords-count (take 0 (take 200000 w)) 0 refl) in
+      let none : tuplesOf (take 200000 w) 0 ≡ [] = none-long _ (omega (arith, coords-count (take 0 (take 200000 w)) 0 refl)) in
       let cs : tuplesOf ys m ≡ coordsIn pointBody = s .1 ∙ ap (λ (z : List Coord). coordsIn pointBody ++ z) none ∙ append-nil (coordsIn pointBody) in
       let bare : takesTree (v .kind) ≡ false = r .due .c2it refl .1 in
       let eight : 8 * m ≡ 8 = s .0 ∙ omega (arith, point-long) in

@@ -4,20 +4,31 @@ use mathlib.Core.Bool.{Bool, true, false}
 use Prim.Native.Nat.{ℕ}
 use native.Mathlib.Omega.{arith}
 use Rattle.base.specs.Choice.{pick}
-use Rattle.base.specs.Check.{Check, Passed, ok, no, bind, fault, pass, passed}
+use Rattle.base.specs.Check.{Check, Passed, ok, no, bind, fault, inField, pass, passed}
+use Rattle.base.specs.declared.Fault.{Fault}
 use Rattle.base.specs.Verdict.{verdictOf}
 use Rattle.base.specs.declared.Verdict.the-variants.{Passed as Through}
+
+-- a refusal is no value
+pub refused : {A X : Type 0} {x : Fault} {a : A} → no x ≡ ok a → X
+refused e = absurd (let z : _≡_ {A = ℕ} 0 1 = cc in omega arith)
 
 -- two tests that pass: the first gave a value, and the second passed on it
 pub bind-inv : {A B : Type 0} (m : Check A) (k : A → Check B) (b : B) → bind m k ≡ ok b → (a : A) × (m ≡ ok a) × (k a ≡ ok b)
 unfolding bind
 bind-inv (ok a) k b e = (a, refl, e)
-bind-inv (no x) k b e = absurd (let z : _≡_ {A = ℕ} 0 1 = cc in omega arith)
+bind-inv (no x) k b e = refused e
+
+-- a test that passed in a field passed
+pub field-inv : {A : Type 0} (i : ℕ) (c : Check A) (a : A) → inField i c ≡ ok a → c ≡ ok a
+unfolding inField
+field-inv i (ok b) a e = e
+field-inv i (no x) a e = refused e
 
 -- a test that passed held
 pub pass-inv : (b : Bool) (n i j : ℕ) (u : Unit {0}) → pick b pass (no (fault n i j)) ≡ ok u → b ≡ true
 pass-inv true n i j u e = refl
-pass-inv false n i j u e = absurd (let z : _≡_ {A = ℕ} 0 1 = cc in omega arith)
+pass-inv false n i j u e = refused e
 
 -- two values that pass alike are equal
 pub ok-inj : {A : Type 0} (x y : A) → ok x ≡ ok y → x ≡ y

@@ -34,6 +34,11 @@ pub either-false : (b : Bool) → either b false ≡ b
 either-false true = refl
 either-false false = refl
 
+-- a test, or one that holds
+pub either-true : (b : Bool) → either b true ≡ true
+either-true true = refl
+either-true false = refl
+
 -- neither of two tests holds
 pub neither : (a b : Bool) → either a b ≡ false → (a ≡ false) × (b ≡ false)
 neither true b e = absurd (let z : _≡_ {A = ℕ} 0 1 = cc in omega arith)

@@ -3,3 +3,4 @@ pub mod CheckLaws
 pub mod ListLaws
 pub mod KeysLaws
 pub mod WalkLaws
+pub mod OptionLaws

@@ -1,7 +1,8 @@
 -- What is made of each thing of a list, or gathered from it: how many, of lists joined, and of parts of a list. Assumes nothing.
 use mathlib.Core.Path.{_≡_, refl, ap, _∙_}
 use mathlib.Core.List.{List, [], _∷_, _++_}
-use Prim.Native.Nat.{ℕ, zero, suc, _-_}
+use Prim.Native.Nat.{ℕ, zero, suc, _-_, _≤_}
+use native.Mathlib.Omega.{arith}
 use native.Mathlib.Nat.{sub-zero, zero-sub, suc-sub-suc}
 use lib.ListN.{length, take, drop}
 use lib.Seq.{drop-nil, take-nil}
@@ -46,6 +47,11 @@ each-gather f g [] = refl
 each-gather f g (x ∷ xs) = each-append f (g x) (gather g xs) ∙ ap (λ (zs : List _). each f (g x) ++ zs) (each-gather f g xs)
 
 -- ---- parts of a list
+
+-- a list of nothing
+pub none-long : {A : Type 0} (l : List A) → length l ≤ 0 → l ≡ []
+none-long [] h = refl
+none-long (x ∷ l) h = absurd (omega arith)
 
 -- the first m things, behind k of them
 pub drop-take : {A : Type 0} (k m : ℕ) (l : List A) → drop k (take m l) ≡ take (m - k) (drop k l)

@@ -11,6 +11,7 @@ use lib.ListN.{length, take, drop, length-take, length-drop}
 use Rattle.base.specs.Walk.{Got, before}
 use Rattle.base.proofs.ChoiceLaws.{both-hold}
 use Rattle.base.proofs.ListLaws.{drop-take}
+use Rattle.base.proofs.OptionLaws.{some-inj}
 use Rattle.fields.specs.Bytes.{le}
 use Rattle.fields.specs.Table.{link, insert}
 use Rattle.fields.specs.Sizes.{inRange, numSize, size, sizes}
@@ -19,7 +20,7 @@ use Rattle.fields.specs.Valid.{allows}
 use Rattle.fields.specs.Content.{fill}
 use Rattle.fields.specs.Places.{endingAt}
 use Rattle.fields.specs.declared.Sub.{Sub}
-use Rattle.fields.proofs.SizeLaws.{isNum, allNum, some-inj, num-size, num-some, sizes-cons, sizes-join}
+use Rattle.fields.proofs.SizeLaws.{isNum, allNum, num-size, num-some, sizes-cons, sizes-join}
 use Rattle.fields.proofs.TupleLaws.{tuples-end, tuples-on}
 use Rattle.fields.proofs.FieldLaws.{list-fill}
 use Rattle.fields.proofs.ValueLaws.{num-value, values-first}

@@ -7,7 +7,8 @@ use mathlib.Core.List.{List, [], _∷_}
 use native.Mathlib.Omega.{arith}
 use lib.ListN.{length}
 use Rattle.base.specs.Check.{ok, pass}
-use Rattle.base.proofs.CheckLaws.{bind-inv}
+use Rattle.base.proofs.CheckLaws.{bind-inv, refused}
+use Rattle.base.proofs.OptionLaws.{never}
 use Rattle.skeleton.specs.File.{Field}
 use Rattle.skeleton.specs.Place.{between, placeAt, fieldsAt}
 use Rattle.skeleton.specs.Record.{recordAt}
@@ -36,7 +37,6 @@ use Rattle.rules.specs.declared.Kind.the-variants.{Info, Point, Multi, Feature}
 use Rattle.rules.specs.declared.Mode.the-variants.{InUpdate}
 use Rattle.rules.proofs.FilledLaws.{stands-fill}
 use Rattle.sequence.specs.Keyed.{Each}
-use Rattle.sequence.proofs.Tests.{refused, never}
 use Rattle.updates.proofs.ReadEach.{passes-kind}
 use Rattle.sound.proofs.Lists.{each-map}
 use Rattle.sound.proofs.Stand.{Has, Formed, all-formed}

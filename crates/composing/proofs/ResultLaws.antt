@@ -6,7 +6,7 @@ use mathlib.Core.Option.{Option, some, none}
 use mathlib.Core.List.{List, [], _∷_, _++_}
 use Rattle.base.specs.Check.{ok, bind}
 use Rattle.base.specs.Keys.{same}
-use Rattle.base.proofs.CheckLaws.{bind-inv, ok-inj}
+use Rattle.base.proofs.CheckLaws.{bind-inv, ok-inj, refused}
 use Rattle.base.proofs.KeysLaws.{same-sound, same-refl}
 use Rattle.skeleton.specs.File.{Field}
 use Rattle.rules.specs.Record.{Rec}
@@ -15,7 +15,7 @@ use Rattle.sequence.specs.Keyed.{Act, insert, delete, modify, Parts, done, Each
 use Rattle.sequence.specs.History.{history, version, judged}
 use Rattle.sequence.specs.Order.{isInsert, deleted}
 use Rattle.sequence.specs.Stream.{stands}
-use Rattle.sequence.proofs.Tests.{by-bool, refused}
+use Rattle.sequence.proofs.Tests.{by-bool}
 use Rattle.sequence.proofs.Lists.{find-under}
 use Rattle.sequence.proofs.Local.{history-append, history-under}
 use Rattle.updates.specs.Acts.{kindIn, namedBy, changedBy, chart}

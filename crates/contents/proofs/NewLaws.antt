@@ -10,7 +10,7 @@ use lib.ListN.{take}
 use Rattle.base.specs.Choice.{pick, either}
 use Rattle.base.specs.Keys.{among}
 use Rattle.base.specs.Lists.{empty, each, gather}
-use Rattle.base.proofs.ChoiceLaws.{either-false}
+use Rattle.base.proofs.ChoiceLaws.{either-false, either-true}
 use Rattle.fields.specs.Table.{headOf, tupleOf}
 use Rattle.fields.specs.Content.{fill, many}
 use Rattle.fields.specs.declared.Format.the-variants.{Spas}
@@ -34,10 +34,6 @@ before-among : (r : List ℕ) (h : Shape) (p n : ℕ) (b : List ℕ) (j : ℕ) (
     → among k (seenBefore r h p n b j) ≡ either (seenFrom r h p n k) (among k (take j (spasKeys b)))
 unfolding seenBefore seenFrom
 before-among r h p n b j k = among-append k (keysIn (take n (fieldsAt r h p))) (take j (spasKeys b))
-
-either-true : (a : Bool) → either a true ≡ true
-either-true true = refl
-either-true false = refl
 
 pub not-not : (a t : Bool) → not (not a) ≡ t → a ≡ t
 not-not true t e = e

@@ -6,17 +6,17 @@ use mathlib.Core.List.{List, [], _++_, append-assoc}
 use native.Mathlib.Nat.{add-zero}
 use native.Mathlib.Omega.{arith}
 use lib.ListN.{length, take, drop, length-take, length-drop, take-append-drop}
-use Rattle.base.specs.Lists.{each, empty}
-use Rattle.base.specs.Walk.{walk, steps}
+use Rattle.base.specs.Lists.{each}
 use Rattle.base.proofs.ListLaws.{each-append, each-take, each-drop}
 use Rattle.fields.specs.Table.{headOf, tupleOf}
-use Rattle.fields.specs.Content.{many, fill, tuples, tupleStep}
+use Rattle.fields.specs.Content.{many, fill}
 use Rattle.fields.specs.Places.{endingAt, allRaw}
 use Rattle.fields.specs.declared.Format.the-variants.{C2il}
 use Rattle.fields.proofs.EvenLaws.{raw-fill, even-length, raw-take, raw-drop}
 use Rattle.fields.proofs.FieldLaws.{fill-list}
 use Rattle.fields.proofs.JoinLaws.{many-join}
 use Rattle.rules.specs.Coordinates.{Coord, coordOf, coordsIn}
+use Rattle.rules.proofs.CoordinateLaws.{coords-none}
 use Rattle.memory.specs.Put.{part}
 use Rattle.memory.specs.Splice.{spliced, splicedIn}
 use Rattle.memory.proofs.SpliceLaws.{take-splicedIn, take-closed}
@@ -50,11 +50,6 @@ module _ (b : List ℕ) (n : ℕ) (e : length b ≡ 8 * n) (i : ℕ) (h : i ≤ 
   pub coords-drop : coordsIn (drop (8 * i) b) ≡ drop i (coordsIn b)
   unfolding coordsIn tupleOf allRaw
   coords-drop = ap (each coordOf) (raw-drop (tupleOf C2il) refl (omega arith) b (even-whole b n e) i few) ∙ sym (each-drop coordOf i (many (tupleOf C2il) b))
-
--- no bytes
-coords-none : coordsIn [] ≡ []
-unfolding coordsIn each many tuples walk steps tupleStep empty
-coords-none = refl
 
 -- ---- spliced
 

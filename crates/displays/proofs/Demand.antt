@@ -5,6 +5,7 @@ use mathlib.Core.Logic.{_⊎_, inl, inr}
 use mathlib.Core.Option.{Option, some}
 use mathlib.Core.List.{List, [], _∷_}
 use native.Mathlib.Omega.{arith}
+use Rattle.base.proofs.OptionLaws.{never, some-inj}
 use Rattle.fields.specs.Valid.{Bytes}
 use Rattle.rules.specs.General.{numberOf}
 use Rattle.rules.specs.Written.{Dataset, writtenBytes, count}
@@ -12,7 +13,6 @@ use Rattle.rules.specs.Outcome.{Outcome, done, refused}
 use Rattle.rules.specs.File.{readDataset, writable}
 use Rattle.rules.specs.Answers.{notTooLong}
 use Rattle.rules.proofs.OutcomeLaws.{done-inj}
-use Rattle.sequence.proofs.Tests.{never, some-inj}
 use Rattle.updates.specs.Accepted.{Accepted}
 use Rattle.updates.proofs.Accepted.{accepted as is-accepted}
 use Rattle.updates.proofs.Kept.{result-writable}

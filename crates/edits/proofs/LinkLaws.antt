@@ -11,7 +11,7 @@ use borrow.Author.Tests.{eq-eqb, ne-eqb}
 use Rattle.base.specs.Choice.{pick}
 use Rattle.base.specs.Check.{Check, ok, no, bind, refuse, pass, passed}
 use Rattle.base.specs.Lists.{each}
-use Rattle.base.proofs.CheckLaws.{bind-inv}
+use Rattle.base.proofs.CheckLaws.{bind-inv, ok-inj}
 use Rattle.skeleton.specs.Place.{between}
 use Rattle.fields.specs.Table.{headOf, tupleOf}
 use Rattle.fields.specs.Values.{Val}
@@ -24,7 +24,7 @@ use Rattle.forest.specs.Acts.{Acts, done, act, UTup, ActRun, actOf, actsUpTo, a
 use Rattle.forest.specs.Edit.{edit}
 use Rattle.forest.specs.Flat.{Item, flat, editFlat}
 use Rattle.forest.proofs.Numbers.{lt-or-le, eq-or-ne}
-use Rattle.forest.proofs.CheckLaws.{never, ok-same, no-same}
+use Rattle.forest.proofs.CheckLaws.{never, no-same}
 use Rattle.forest.proofs.FlatLaws.{s-end}
 use Rattle.forest.proofs.Splice.{edit-splice}
 use Rattle.rules.specs.Trees.{instructionOf, utupOf, attrActs}
@@ -78,7 +78,7 @@ unfolding actOf
 enter-inv t k kids on r e =
     let (f, p, q) = bind-inv kids _ r e in
     let (g, x, y) = bind-inv (on (f .place) (f .left)) _ r q in
-    record { first = f; rest = g; in-kids = p; after = x; is = sym (ok-same y) }
+    record { first = f; rest = g; in-kids = p; after = x; is = sym (ok-inj _ _ y) }
 
 -- the two readings came to the same
 record Agree (u : List ℕ) (e : ℕ) (r : ActRun) (x : Reading) : Type 0 where
@@ -93,12 +93,12 @@ agree-here u e at q r z = rw z (record { acts = refl; place = refl; left = refl 
 -- no act is read below a delete
 gone-none : (n k p : ℕ) (ts : List UTup) (r : ActRun) → actsUpTo n k p true ts ≡ ok r → r ≡ record { acts = done; place = k; left = ts }
 unfolding actsUpTo
-gone-none zero k p ts r e = sym (ok-same e)
-gone-none (suc n) k p [] r e = sym (ok-same e)
+gone-none zero k p ts r e = sym (ok-inj _ _ e)
+gone-none (suc n) k p [] r e = sym (ok-inj _ _ e)
 gone-none (suc n) k p (t ∷ ts) r e =
     ⊎-elim
     (λ (z : t .paix ≡ p). never (rw (eq-eqb (t .paix) p z) at e))
-    (λ (z : t .paix ≡ p → ⊥). sym (ok-same (rw (ne-eqb (t .paix) p z) at e)))
+    (λ (z : t .paix ≡ p → ⊥). sym (ok-inj _ _ (rw (ne-eqb (t .paix) p z) at e)))
     (eq-or-ne (t .paix) p)
 
 -- the acts on the children
@@ -136,7 +136,7 @@ agree : (n : ℕ) (u : List ℕ) (e at p q : ℕ) (gone : Bool) (r : ActRun) →
 unfolding actsUpTo
 agree zero u e at p q gone r h x =
     let l : e ≤ at = ⊎-elim (λ (y : at < e). absurd (omega (arith, ap length (to-more u at e y)))) (λ (y : e ≤ at). y) (lt-or-le at e) in
-    rw (read-end u e at p q l) (agree-here u e at q r (sym (ok-same x)))
+    rw (read-end u e at p q l) (agree-here u e at q r (sym (ok-inj _ _ x)))
 agree (suc n) u e at p q gone r h x =
     ⊎-elim
     (λ (l : at < e).
@@ -144,15 +144,15 @@ agree (suc n) u e at p q gone r h x =
     ⊎-elim
     (λ (z : u16 u (at + 4) ≡ p).
     agree-more n u e at p q gone r l z h (λ a p′ q′ g′ r′ k y. agree n u e a p′ q′ g′ r′ k y) (enter-inv _ _ _ _ r (not-gone gone q _ r (rw (eq-eqb (u16 u (at + 4)) p z) at x′))))
-    (λ (z : u16 u (at + 4) ≡ p → ⊥). rw (read-other u e at p q l z) (agree-here u e at q r (rw (utups-more u at e l) (sym (ok-same (rw (ne-eqb (u16 u (at + 4)) p z) at x′))))))
+    (λ (z : u16 u (at + 4) ≡ p → ⊥). rw (read-other u e at p q l z) (agree-here u e at q r (rw (utups-more u at e l) (sym (ok-inj _ _ (rw (ne-eqb (u16 u (at + 4)) p z) at x′))))))
     (eq-or-ne (u16 u (at + 4)) p))
-    (λ (l : e ≤ at). rw (read-end u e at p q l) (agree-here u e at q r (rw (utups-end u at e l) (sym (ok-same (rw (utups-end u at e l) at x))))))
+    (λ (l : e ≤ at). rw (read-end u e at p q l) (agree-here u e at q r (rw (utups-end u at e l) (sym (ok-inj _ _ (rw (utups-end u at e l) at x))))))
     (lt-or-le at e)
 
 -- every tuple was taken
 taken-inv : (us vs : Acts) (k : ℕ) (ts : List UTup) → allTaken us k ts ≡ ok vs → us ≡ vs
 unfolding allTaken
-taken-inv us vs k [] e = ok-same e
+taken-inv us vs k [] e = ok-inj _ _ e
 taken-inv us vs k (t ∷ ts) e = never e
 
 -- as many tuples as values
@@ -188,7 +188,7 @@ top-no (no f) k j e = ap no (no-same e)
 -- an edit that was done
 top-ok : (c : Check Forest) (l : List Item) → bind c (λ g. ok (flat 0 g)) ≡ ok l → (g : Forest) × (c ≡ ok g) × (l ≡ flat 0 g)
 unfolding bind
-top-ok (ok g) l e = (g, refl, sym (ok-same e))
+top-ok (ok g) l e = (g, refl, sym (ok-inj _ _ e))
 top-ok (no f) l e = absurd (let z : _≡_ {A = ℕ} 0 1 = cc in omega arith)
 
 -- ---- the field

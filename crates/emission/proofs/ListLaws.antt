@@ -7,6 +7,7 @@ use borrow.Author.Tests.{eq-eqb, ne-eqb}
 use lib.Dec.{eqb}
 use lib.ListN.{length, length-append}
 use Rattle.base.specs.Choice.{pick}
+use Rattle.base.proofs.ListLaws.{none-long}
 use Rattle.memory.specs.Put.{part}
 use Rattle.memory.specs.Wrote.{Wrote}
 use Rattle.memory.proofs.PutLaws.{length-part}
@@ -44,10 +45,6 @@ entries-then pos pos′ fs gs n w v =
     (then w v)
 
 -- ---- a list
-
-pub list-none : (b : List ℕ) → length b ≡ 0 → b ≡ []
-list-none [] h = refl
-list-none (x ∷ b) h = absurd (omega arith)
 
 -- no bytes
 module _ (n : ℕ) (z : n ≡ 0) where
@@ -106,7 +103,7 @@ pub entry-none : (tag n pos at : ℕ) (d : List ℕ) → n ≡ 0 → ListEntry t
 entry-none tag n pos at d z = record { next = omega (arith, no-count n z); is = λ b e. wrote-as (same b (e ∙ z)) (wrote-none at d) }
   where
     same : (b : List ℕ) → length b ≡ 0 → [] ≡ entries fieldWidth fieldWidth pos (listField tag b)
-    same b e = unfold entries listField in rw (list-none b e)
+    same b e = unfold entries listField in rw (none-long b (omega (arith, e)))
 
 pub entry-some : (tag n pos at : ℕ) (d : List ℕ) (p : ℕ) (o : List ℕ) → (n ≡ 0 → ⊥) → (p ≡ at + 14) × Wrote at (entryBytes tag (n + 1) pos) d p o
     → ListEntry tag n pos at d p o
@@ -129,7 +126,7 @@ pub ruleset entry-ways = (entry-none, entry-some, entry-room)
 
 pub field-none : (t : ℕ) (b : List ℕ) (at : ℕ) (d : List ℕ) → length b ≡ 0 → Wrote at (contents (listField t b)) d at d
 unfolding contents listField
-field-none t b at d z = rw (list-none b z) (wrote-none at d)
+field-none t b at d z = rw (none-long b (omega (arith, z))) (wrote-none at d)
 
 pub field-some : {at p q : ℕ} {d e o : List ℕ} (t : ℕ) (b : List ℕ) → (length b ≡ 0 → ⊥) → Wrote p (30 ∷ []) e q o → Wrote at b d p e
     → Wrote at (contents (listField t b)) d q o

@@ -12,6 +12,7 @@ use lib.Dec.{leb, eqb, leb·zero}
 use borrow.Author.Tests.{eq-eqb, ne-eqb, le-leb, lt-leb}
 use Rattle.base.specs.Choice.{pick}
 use Rattle.base.specs.Walk.{Got, before}
+use Rattle.base.proofs.OptionLaws.{some-inj}
 use Rattle.fields.specs.Sizes.{any, numSize, size, sizes, onSize, plus}
 use Rattle.fields.specs.Values.{Val, values}
 use Rattle.fields.specs.Content.{tuples, tallied, tally}
@@ -22,7 +23,7 @@ use Rattle.fields.specs.declared.Stop.{Stop}
 use Rattle.fields.specs.declared.Stop.the-variants.{At, Bad}
 use Rattle.fields.specs.declared.Tally.{Tally}
 use Rattle.fields.specs.declared.Tally.the-variants.{Whole, Short}
-use Rattle.fields.proofs.SizeLaws.{widths, tested, subfields-bound, some-inj, after-at}
+use Rattle.fields.proofs.SizeLaws.{widths, tested, subfields-bound, after-at}
 use Rattle.fields.proofs.TupleLaws.{split, tuples-end, tuples-bad, tuples-on, here-end, here-bad, here-stuck, here-on}
 
 -- ---- the ways through a loop over tuples

@@ -12,6 +12,8 @@ use Rattle.base.specs.Choice.{pick}
 use Rattle.base.specs.Lists.{gather}
 use Rattle.base.specs.Walk.{Got}
 use Rattle.base.proofs.ChoiceLaws.{both-too}
+use Rattle.base.proofs.OptionLaws.{some-inj}
+use Rattle.base.proofs.ListLaws.{none-long}
 use Rattle.fields.specs.Bytes.{le, run}
 use Rattle.fields.specs.Sizes.{textSize, size, sizes, amount}
 use Rattle.fields.specs.Values.{Val, value, values, width, mark, put, puts, putAll}
@@ -21,8 +23,8 @@ use Rattle.fields.specs.Places.{endingAt}
 use Rattle.fields.specs.declared.Sub.{Sub}
 use Rattle.fields.specs.declared.Sub.the-variants.{B11, B12, B14, Among, Raw, Text, Fixed}
 use Rattle.fields.proofs.ByteLaws.{bytes-drop, bytes-le, le-bound, clean-take, run-le}
-use Rattle.fields.proofs.SizeLaws.{isNum, num-size, num-some, text-some, fixed-some, some-inj, sizes-cons, sizes-bound}
-use Rattle.fields.proofs.TupleLaws.{no-bytes, First, tuples-end, tuples-ind}
+use Rattle.fields.proofs.SizeLaws.{isNum, num-size, num-some, text-some, fixed-some, sizes-cons, sizes-bound}
+use Rattle.fields.proofs.TupleLaws.{First, tuples-end, tuples-ind}
 use Rattle.fields.proofs.FieldLaws.{filled}
 use Rattle.fields.proofs.ValueLaws.{num-value, values-first}
 
@@ -67,7 +69,7 @@ unfolding putAll gather many
 put-many t = tuples-ind t (λ l. Bytes l → putAll t (many t l) ≡ l) base turn
   where
     base : (l : List ℕ) → length l ≤ 0 → Bytes l → putAll t (many t l) ≡ l
-    base l h g = ap (λ (x : Got (List Val)). putAll t (x .items)) (tuples-end t l h) ∙ sym (no-bytes l h)
+    base l h g = ap (λ (x : Got (List Val)). putAll t (x .items)) (tuples-end t l h) ∙ sym (none-long l h)
 
     turn : (l : List ℕ) → 0 < length l → (f : First t l) → (Bytes (drop (f .bytes) l) → putAll t (many t (drop (f .bytes) l)) ≡ drop (f .bytes) l)
         → Bytes l → putAll t (many t l) ≡ l

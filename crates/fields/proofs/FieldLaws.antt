@@ -11,13 +11,14 @@ use lib.Dec.{eqb}
 use borrow.Author.Tests.{eq-eqb, eqb-true}
 use Rattle.base.specs.Choice.{pick}
 use Rattle.base.specs.Walk.{Got, before}
+use Rattle.base.proofs.OptionLaws.{some-inj}
 use Rattle.fields.specs.Sizes.{sizes, onSize, amount}
 use Rattle.fields.specs.Values.{Val, values}
 use Rattle.fields.specs.Content.{tuples, many, tallied, tally, tallyField, isWhole, fill, content}
 use Rattle.fields.specs.Places.{endingAt}
 use Rattle.fields.specs.declared.Sub.{Sub}
 use Rattle.fields.specs.declared.Tally.the-variants.{Whole, Short}
-use Rattle.fields.proofs.SizeLaws.{allNum, widths, some-inj, sizes-bound, num-widths}
+use Rattle.fields.proofs.SizeLaws.{allNum, widths, sizes-bound, num-widths}
 use Rattle.fields.proofs.TupleLaws.{split, tuples-end, tuples-on, first-tuple}
 
 -- ---- what it means that subfields fill a field

@@ -11,6 +11,7 @@ use lib.Seq.{take-append-le, drop-append-le}
 use borrow.Author.Tests.{le-leb, lt-ltb}
 use Rattle.base.specs.Choice.{pick}
 use Rattle.base.specs.Walk.{Got, before}
+use Rattle.base.proofs.ListLaws.{none-long}
 use Rattle.fields.specs.Bytes.{sep, le, run}
 use Rattle.fields.specs.Sizes.{inRange, inSet, any, numSize, textSize, fixedSize, size, sizes}
 use Rattle.fields.specs.Values.{Val, num, txt, value, values}
@@ -19,7 +20,7 @@ use Rattle.fields.specs.declared.Sub.{Sub}
 use Rattle.fields.specs.declared.Sub.the-variants.{B11, B12, B14, Among, Raw, Text, Fixed}
 use Rattle.fields.proofs.ByteLaws.{run-le}
 use Rattle.fields.proofs.SizeLaws.{num-some, text-some, fixed-some, size-bound, sizes-cons, sizes-join, sizes-bound}
-use Rattle.fields.proofs.TupleLaws.{no-bytes, First, tuples-end, tuples-on, tuples-ind}
+use Rattle.fields.proofs.TupleLaws.{First, tuples-end, tuples-on, tuples-ind}
 use Rattle.fields.proofs.ValueLaws.{values-first}
 
 -- ---- bytes
@@ -114,7 +115,7 @@ module _ (t : List Sub) (r : List ℕ) where
   join-base : (l : List ℕ) → length l ≤ 0 → tuples t (l ++ r) ≡ behind (many t l) (tuples t r)
   unfolding many
   join-base l h =
-      ap (λ (x : List ℕ). tuples t (x ++ r)) (no-bytes l h) ∙ ap (λ (g : Got (List Val)). behind (g .items) (tuples t r)) (sym (tuples-end t l h))
+      ap (λ (x : List ℕ). tuples t (x ++ r)) (none-long l h) ∙ ap (λ (g : Got (List Val)). behind (g .items) (tuples t r)) (sym (tuples-end t l h))
 
   join-turn : (l : List ℕ) → 0 < length l → (f : First t l) → tuples t (drop (f .bytes) l ++ r) ≡ behind (many t (drop (f .bytes) l)) (tuples t r)
       → tuples t (l ++ r) ≡ behind (many t l) (tuples t r)

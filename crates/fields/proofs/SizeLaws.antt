@@ -12,6 +12,7 @@ use lib.Dec.{leb, ltb, eqb}
 use borrow.Author.Tests.{eq-eqb, ne-eqb, le-leb, lt-leb, lt-ltb, le-ltb, leb-true, ltb-true}
 use Rattle.base.specs.Choice.{pick, both}
 use Rattle.base.proofs.ChoiceLaws.{both-hold}
+use Rattle.base.proofs.OptionLaws.{some-inj}
 use Rattle.fields.specs.Bytes.{le, run}
 use Rattle.fields.specs.Sizes.{inRange, inSet, any, numSize, textSize, fixedSize, size, sizes, onSize, plus}
 use Rattle.fields.specs.Values.{width}
@@ -27,9 +28,6 @@ use Rattle.fields.proofs.ByteLaws.{run-le}
 
 pub not-some {ℓ} : {X : Type ℓ} {n : ℕ} → none ≡ some n → X
 not-some e = absurd (let z : _≡_ {A = ℕ} 0 1 = cc in omega arith)
-
-pub some-inj : {m n : ℕ} → some m ≡ some n → m ≡ n
-some-inj e = cc
 
 -- a test that holds where there is a size
 pub tested : (t : Bool) (o : Option ℕ) (n : ℕ) → pick t o none ≡ some n → (t ≡ true) × (o ≡ some n)

@@ -5,7 +5,7 @@ use mathlib.Core.Path.{_≡_, refl, sym, ap, _∙_}
 use mathlib.Core.Bool.{true, false}
 use mathlib.Core.Option.{Option, none, some}
 use mathlib.Core.List.{List, [], _∷_}
-use native.Mathlib.Nat.{lt-of-not-le, not-suc-le-zero}
+use native.Mathlib.Nat.{lt-of-not-le}
 use native.Mathlib.Decide.{decLe}
 use native.Mathlib.Omega.{arith}
 use lib.ListN.{length, drop, length-drop}
@@ -32,10 +32,6 @@ pub split {ℓ} : {X : Type ℓ} (a b : ℕ) → (a ≤ b → X) → (b < a → 
 split a b f g = elim (decLe a b) [ yes h ↦ f h | no h ↦ g (lt-of-not-le h) ]
 
 -- ---- the walk
-
-pub no-bytes : (l : List ℕ) → length l ≤ 0 → l ≡ []
-no-bytes [] h = refl
-no-bytes (x ∷ l) h = absurd (not-suc-le-zero h)
 
 empty-is : (l : List ℕ) → empty l ≡ eqb (length l) 0
 unfolding empty

@@ -13,6 +13,7 @@ use lib.Dec.{leb, eqb}
 use borrow.Author.Tests.{leb-true, eqb-true}
 use Rattle.base.specs.Choice.{both}
 use Rattle.base.proofs.ChoiceLaws.{both-hold}
+use Rattle.base.proofs.OptionLaws.{some-inj}
 use Rattle.fields.specs.Bytes.{le, run}
 use Rattle.fields.specs.Sizes.{size, sizes, amount}
 use Rattle.fields.specs.Values.{Val, num, txt, value, values, numOf, textOf, numAt, textAt, width}
@@ -23,7 +24,7 @@ use Rattle.fields.specs.declared.Sub.{Sub}
 use Rattle.fields.specs.declared.Sub.the-variants.{B11, B12, B14, Among, Raw, Text, Fixed}
 use Rattle.fields.specs.declared.Stop.{Stop}
 use Rattle.fields.specs.declared.Stop.the-variants.{At, Bad}
-use Rattle.fields.proofs.SizeLaws.{isNum, some-inj, num-size, num-some, text-some, size-bound, sizes-cons, at-inj, end-nil, end-cons}
+use Rattle.fields.proofs.SizeLaws.{isNum, num-size, num-some, text-some, size-bound, sizes-cons, at-inj, end-nil, end-cons}
 use Rattle.fields.proofs.TupleLaws.{Next}
 use Rattle.fields.proofs.FieldLaws.{filled}
 

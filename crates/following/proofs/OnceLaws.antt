@@ -11,6 +11,7 @@ use lib.ListN.{length, getD}
 use Rattle.base.specs.Choice.{pick}
 use Rattle.base.specs.Check.{no, pass}
 use Rattle.base.specs.Lists.{each, gather, empty}
+use Rattle.base.proofs.ListLaws.{none-long}
 use Rattle.skeleton.specs.File.{Field}
 use Rattle.rules.specs.Tags.{DSID, generalTags}
 use Rattle.rules.specs.ByTag.{withTag}
@@ -32,10 +33,6 @@ hit u t = pick (eqb u t) 1 0
 unfoldable times : ℕ → List ℕ → ℕ
 times t [] = 0
 times t (u ∷ us) = hit u t + times t us
-
-pub no-fields : (l : List Field) → length l ≤ 0 → l ≡ []
-no-fields [] g = refl
-no-fields (f ∷ fs) g = absurd (omega arith)
 
 -- the rows that a field leaves have its tag once less
 left-fewer : (t u : ℕ) (ts : List ℕ) (left : List Row) → rowsAfter u (each (λ x. once x) ts) ≡ some left
@@ -114,7 +111,7 @@ dsid-alone : (f : Field) (fs : List Field) → Headed InUpdate f fs → withTag 
 unfolding withTag times generalRows
 dsid-alone f fs h =
     let n : length (withTag DSID fs) ≤ 0 = fewer DSID 2 generalTags fs (h .ordered) in
-    simp (eq-eqb (f .tag) DSID (h .tag), no-fields (withTag DSID fs) n)
+    simp (eq-eqb (f .tag) DSID (h .tag), none-long (withTag DSID fs) n)
 
 pub merged-parts : (old new : List Field) → generalRecord InUpdate new ≡ pass → gather (newer old new) generalParts ≡ merged old new
 unfolding gather newer merged empty

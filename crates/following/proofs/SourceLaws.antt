@@ -6,6 +6,7 @@ use native.Mathlib.Omega.{arith}
 use borrow.Author.Tests.{eq-eqb}
 use lib.ListN.{length}
 use Rattle.base.specs.Lists.{empty}
+use Rattle.base.proofs.ListLaws.{none-long}
 use Rattle.memory.specs.Put.{part}
 use Rattle.memory.specs.Wrote.{Wrote}
 use Rattle.memory.proofs.WroteLaws.{then, wrote-none, wrote-length}
@@ -25,7 +26,6 @@ use Rattle.writing.proofs.PartsLaws.{wrote-as}
 use Rattle.following.specs.Merging.{AtMostOne, newerAt, OneIn, Sourced, Measured}
 use Rattle.following.specs.declared.sources.Source.{Source}
 use Rattle.following.specs.declared.sources.Source.the-variants.{Sent, Kept, Neither}
-use Rattle.following.proofs.OnceLaws.{no-fields}
 
 -- ---- the only field with a tag
 
@@ -42,7 +42,7 @@ module _ (r : List ℕ) (h : Shape) (t : ℕ) (e : Place) (en : e ≡ findFrom r
         let a : withTag t (fieldsAt r h 24) ≡ fieldAs tag (between r start end) ∷ withTag t (fieldsAt r h next) =
         with-from t (fieldsAt r h 24) ∙ ap (withTag t) (found-first r h t 24 e en tag start end next x) ∙ simp (eq-eqb tag t z) in
         let n : length (withTag t (fieldsAt r h 24)) ≡ suc (length (withTag t (fieldsAt r h next))) = ap length a in
-        a ∙ rw (z, no-fields (withTag t (fieldsAt r h next)) (omega arith))
+        a ∙ rw (z, none-long (withTag t (fieldsAt r h next)) (omega arith))
 
 -- ---- `source_of`
 

@@ -10,10 +10,6 @@ use Rattle.base.specs.declared.Fault.{Fault}
 pub never : {A X : Type 0} {n t : ℕ} {a : A} → refuse n t ≡ ok a → X
 never e = absurd (let z : _≡_ {A = ℕ} 0 1 = cc in omega arith)
 
--- values that are checked to be the same are the same
-pub ok-same : {A : Type 0} {a b : A} → ok a ≡ ok b → a ≡ b
-ok-same e = cc
-
 -- what comes after a test need only agree on the value that it gives
 pub bind-same : {A B : Type 0} (c : Check A) (k l : A → Check B) → ((a : A) → c ≡ ok a → k a ≡ l a) → bind c k ≡ bind c l
 unfolding bind

@@ -7,11 +7,11 @@ use lib.Dec.{eqb, ltb}
 use Rattle.base.specs.Choice.{pick}
 use Rattle.base.specs.Check.{Check, ok, bind, refuse}
 use Rattle.base.proofs.ChoiceLaws.{by-test}
-use Rattle.base.proofs.CheckLaws.{bind-inv}
+use Rattle.base.proofs.CheckLaws.{bind-inv, ok-inj}
 use Rattle.forest.specs.Forest.{Forest, nil, tree, valued, beside, Plain, p-nil, p-tree}
 use Rattle.forest.specs.Acts.{Acts, done, act, insert, delete, modify}
 use Rattle.forest.specs.Edit.{count, put, behind, cut, alter, edit}
-use Rattle.forest.proofs.CheckLaws.{never, ok-same}
+use Rattle.forest.proofs.CheckLaws.{never}
 
 -- ---- an entry that joins, leaves or changes
 
@@ -32,7 +32,7 @@ Gives c = (g : Forest) → c ≡ ok g → Plain g
 
 -- a plain forest
 gives : (f : Forest) → Plain f → Gives (ok f)
-gives f p g e = rw (← ok-same e) p
+gives f p g e = rw (← ok-inj _ _ e) p
 
 -- an entry before a rest that is plain
 behind-plain : (d : ℕ) (w : List ℕ) (ks : Forest) (r : Check Forest) → beside w ks ≡ false → Plain ks → Gives r → Gives (behind d w ks r)
@@ -65,7 +65,7 @@ alter-plain n c k v h below (tree d w ks rest) (p-tree bare kp rp) =
 -- under a value nothing comes to be
 barren-edit : (us : Acts) (g : Forest) → edit true nil us ≡ ok g → g ≡ nil
 unfolding edit cut alter bind
-barren-edit done g e = sym (ok-same e)
+barren-edit done g e = sym (ok-inj _ _ e)
 barren-edit (act n insert c k v us rest) g e = never e
 barren-edit (act n delete c k v us rest) g e = never e
 barren-edit (act n modify c k v us rest) g e = never e

@@ -11,8 +11,8 @@ use Rattle.base.specs.Choice.{either}
 use Rattle.base.specs.Check.{Check, ok, no, bind, fault, refuse}
 use Rattle.base.specs.declared.Fault.{Fault}
 use Rattle.base.proofs.ChoiceLaws.{both-hold}
-use Rattle.base.proofs.CheckLaws.{bind-inv}
-use Rattle.forest.proofs.CheckLaws.{never, ok-same, bind-same, ok-no, no-same, bind-no}
+use Rattle.base.proofs.CheckLaws.{bind-inv, ok-inj}
+use Rattle.forest.proofs.CheckLaws.{never, bind-same, ok-no, no-same, bind-no}
 use Rattle.forest.specs.Reader.{Reader, Read, belongs, faulty, entryThen, readUpTo, readRun, Falls}
 
 -- 6 at a place from k on, below m
@@ -61,13 +61,13 @@ module _ {S F : Type 0} (d : Reader S F) where
   read-turn n p shut s r e = go (belongs d p s) refl (faulty d shut s) refl
     where
       go : (x : Bool) → belongs d p s ≡ x → (y : Bool) → faulty d shut s ≡ y → Turn n p shut s r
-      go false b y f = stopped b (ok-same (sym e ∙ read-past (suc n) p shut s b))
+      go false b y f = stopped b (ok-inj _ _ (sym e ∙ read-past (suc n) p shut s b))
       go true b true f = never (sym (read-faulty n p shut s b f) ∙ e)
       go true b false f =
           let (here, parent) = both-hold (d .here s) (eqb (d .parent s) p) b in
           let (kids, k, on) = bind-inv _ _ r (sym (read-entry n p shut s b f) ∙ e) in
           let (rest, q, last) = bind-inv _ _ r on in
-          went kids rest here (eqb-true _ _ parent) f k q (sym (ok-same last))
+          went kids rest here (eqb-true _ _ parent) f k q (sym (ok-inj _ _ last))
 
   -- ---- what is kept
 
@@ -83,7 +83,7 @@ module _ {S F : Type 0} (d : Reader S F) where
     -- what is known at a state of a run, if it passes from an entry to its children and from them back, holds behind the run
     pub read-keeps : (n p : ℕ) (shut : Bool) (s : S) (r : Read S F) → readUpTo d n p shut s ≡ ok r → I p s → I p (r .end)
     unfolding readUpTo
-    read-keeps zero p shut s r e i = rw (← ok-same e) i
+    read-keeps zero p shut s r e i = rw (← ok-inj _ _ e) i
     read-keeps (suc n) p shut s r e i = turn-keeps n p shut s r (read-keeps n) (read-turn n p shut s r e) i
 
   -- ---- the bound
@@ -173,7 +173,7 @@ module _ {S F : Type 0} (d : Reader S F) where
     pub read-holds : (n p : ℕ) (shut : Bool) (s : S) (r : Read S F) → d .rest s ≤ n → readUpTo d n p shut s ≡ ok r → I p shut s
         → I p shut (r .end) × (belongs d p (r .end) ≡ false)
     unfolding readUpTo
-    read-holds zero p shut s r l e i = rw (← ok-same e) (i, nothing-left falls p s l)
+    read-holds zero p shut s r l e i = rw (← ok-inj _ _ e) (i, nothing-left falls p s l)
     read-holds (suc n) p shut s r l e i = turn-holds n p shut s r l (read-holds n) (read-turn n p shut s r e) i
 
     -- a run with no entry that is faulty is not refused

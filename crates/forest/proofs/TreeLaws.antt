@@ -8,11 +8,11 @@ use lib.ListN.{length}
 use borrow.Author.Tests.{eq-eqb, ne-eqb, eqb-true}
 use Rattle.base.specs.Choice.{either}
 use Rattle.base.specs.Check.{Check, ok, bind}
-use Rattle.base.proofs.CheckLaws.{bind-inv}
+use Rattle.base.proofs.CheckLaws.{bind-inv, ok-inj}
 use Rattle.forest.specs.Forest.{Forest, nil, tree, Tup, occurs, size, tuplesFrom, tuplesOf, valued, beside, Plain, p-nil, p-tree}
 use Rattle.forest.specs.Rule.{codesOf, indexed, Run, allTaken, runUpTo, treeOf, entryOf}
 use Rattle.forest.specs.Reader.{Reader, Read, readUpTo}
-use Rattle.forest.proofs.CheckLaws.{never, ok-same, bind-then}
+use Rattle.forest.proofs.CheckLaws.{never, bind-then}
 use Rattle.forest.proofs.ReaderLaws.{Turn, stopped, went, read-turn}
 use Rattle.forest.proofs.TupleReader.{Passing, passing, source, rule-reads}
 use Rattle.forest.proofs.RunLaws.{wholeRule}
@@ -98,7 +98,7 @@ module _ (earlier : List Tup) (p : ℕ) (t : Tup) (ts : List Tup) (kids : Forest
 -- a parent that takes no child has none
 childless : (n p : ℕ) (s : Passing (List Tup) Tup) (r : Read (Passing (List Tup) Tup) Forest) → readUpTo tuples n p true s ≡ ok r → r .found ≡ nil
 unfolding readUpTo wholeRule
-childless zero p s r e = ap (λ (q : Read (Passing (List Tup) Tup) Forest). q .found) (sym (ok-same e))
+childless zero p s r e = ap (λ (q : Read (Passing (List Tup) Tup) Forest). q .found) (sym (ok-inj _ _ e))
 childless (suc n) p s r e = go (read-turn tuples n p true s r e)
   where
     go : Turn tuples n p true s r → r .found ≡ nil
@@ -142,13 +142,13 @@ turn-sound n earlier p barren (t ∷ ts) r fits low ih (went kids rest h q f k l
 pub sound : (n : ℕ) (earlier : List Tup) (p : ℕ) (barren : Bool) (ts : List Tup) (r : Read (Passing (List Tup) Tup) Forest) → p ≤ length earlier → Low earlier
     → readUpTo tuples n p barren (passing earlier ts) ≡ ok r → Sound earlier p ts (r .found) (r .end .past) (r .end .left)
 unfolding readUpTo wholeRule
-sound zero earlier p barren ts r fits low e = rw (← ok-same e) (sound-none earlier p ts)
+sound zero earlier p barren ts r fits low e = rw (← ok-inj _ _ e) (sound-none earlier p ts)
 sound (suc n) earlier p barren ts r fits low e = turn-sound n earlier p barren ts r fits low (sound n) (read-turn tuples n p barren (passing earlier ts) r e)
 
 -- what the rule takes whole
 pub taken-whole : (f g : Forest) (k : ℕ) (ts : List Tup) → allTaken f k ts ≡ ok g → (f ≡ g) × (ts ≡ [])
 unfolding allTaken
-taken-whole f g k [] e = (ok-same e, refl)
+taken-whole f g k [] e = (ok-inj _ _ e, refl)
 taken-whole f g k (t ∷ ts) e = never e
 
 -- the tree rule as a reading
@@ -254,4 +254,4 @@ tree-complete f pl =
 
 -- so a plain forest is known by its tuples
 pub tuples-injective : (f g : Forest) → Plain f → Plain g → tuplesOf f ≡ tuplesOf g → f ≡ g
-tuples-injective f g p q e = ok-same (sym (tree-complete f p) ∙ ap treeOf e ∙ tree-complete g q)
+tuples-injective f g p q e = ok-inj _ _ (sym (tree-complete f p) ∙ ap treeOf e ∙ tree-complete g q)

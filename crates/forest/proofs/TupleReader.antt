@@ -9,9 +9,9 @@ use lib.Dec.{eqb}
 use borrow.Author.Tests.{eq-eqb, ne-eqb}
 use Rattle.base.specs.Choice.{pick, either}
 use Rattle.base.specs.Check.{Check, ok, no, bind, refuse}
-use Rattle.base.proofs.CheckLaws.{bind-inv}
+use Rattle.base.proofs.CheckLaws.{bind-inv, ok-inj}
 use Rattle.forest.specs.Reader.{Reader, Read, entryThen, readUpTo, Falls}
-use Rattle.forest.proofs.CheckLaws.{ok-same, bind-same}
+use Rattle.forest.proofs.CheckLaws.{bind-same}
 use Rattle.forest.proofs.ReaderLaws.{read-falls, read-bound}
 
 -- what is kept of the tuples passed, and those left
@@ -158,7 +158,7 @@ module _ {P T F B : Type 0} (d : TupleRule P T F B) where
   left-falls n h p b ts r e =
       let (q, x, y) = bind-inv (readUpTo source n p b (passing h ts)) (λ k. ok (d .inWords k)) r (sym (rule-reads n h p b ts) ∙ e) in
       let falls = read-falls source (list-falls (d .parent) (d .place) (d .right) (d .shuts) (d .keep) (d .none) (d .one)) n p b (passing h ts) q x in
-      rw (← ok-same y, d .left-as q) falls
+      rw (← ok-inj _ _ y, d .left-as q) falls
 
   -- an entry
   pub rule-entry : (h : P) (p : ℕ) (t : T) (ts : List T) → d .parent t ≡ p → d .right h t ≡ true

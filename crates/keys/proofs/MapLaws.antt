@@ -10,6 +10,7 @@ use lib.Dec.{ltb, eqb}
 use Rattle.memory.specs.Hold.{zeros}
 use Rattle.memory.proofs.HoldLaws.{length-zeros, getD-zeros}
 use Rattle.base.specs.Choice.{either}
+use Rattle.base.proofs.ChoiceLaws.{either-true, either-false}
 use Rattle.keys.specs.Listed.{listed}
 use Rattle.keys.specs.Bits.{flagOf, raised}
 use Rattle.keys.specs.Map.{Mapped}
@@ -23,14 +24,6 @@ zeros-all n i = go (ltb i n) refl
     go : (b : Bool) → ltb i n ≡ b → getD (zeros n) i 0 ≡ 0
     go true e = getD-zeros n i (ltb-true i n e)
     go false e = List·getD-eq-default (zeros n) 0 (omega (arith, length-zeros n, ltb-false i n e))
-
-either-true : (b : Bool) → true ≡ either b true
-either-true true = refl
-either-true false = refl
-
-either-false : (b : Bool) → b ≡ either b false
-either-false true = refl
-either-false false = refl
 
 -- a map with places from which the keys can be told
 module _ (has : ℕ → Bool) (place : ℕ → ℕ) (back : ℕ → ℕ) (told : (k : ℕ) → has k ≡ true → back (place k) ≡ k) where
@@ -47,10 +40,10 @@ module _ (has : ℕ → Bool) (place : ℕ → ℕ) (back : ℕ → ℕ) (told :
     here-or-not e j true x g h =
         let z : k ≡ j = eqb-true k j x in
         let p : flagOf (raised t (place k)) (place j) ≡ true = rw z (flag-same t (place j) h) in
-        rw (listed-more, x) (p ∙ either-true (listed j l))
+        rw (listed-more, x) (p ∙ sym (either-true (listed j l)))
     here-or-not e j false x g h =
         let n : place j ≡ place k → ⊥ = λ y. eqb-false k j x (sym (told k e) ∙ ap back (sym y) ∙ told j g) in
-        rw (listed-more, x) (flag-other t (place j) (place k) n ∙ ms j g h ∙ either-false (listed j l))
+        rw (listed-more, x) (flag-other t (place j) (place k) n ∙ ms j g h ∙ sym (either-false (listed j l)))
 
     pub mapped-more : has k ≡ true → Mapped has place (l ++ (k ∷ [])) (raised t (place k))
     unfolding Mapped
@@ -61,4 +54,4 @@ module _ (has : ℕ → Bool) (place : ℕ → ℕ) (back : ℕ → ℕ) (told :
     unfolding Mapped
     mapped-out e j g h =
         let n : k ≡ j → ⊥ = λ y. true≢false (sym g ∙ ap has (sym y) ∙ e) in
-        rw (listed-more, ne-eqb k j n) (ms j g h ∙ either-false (listed j l))
+        rw (listed-more, ne-eqb k j n) (ms j g h ∙ sym (either-false (listed j l)))

@@ -12,7 +12,7 @@ use Rattle.base.specs.Choice.{pick}
 use Rattle.base.specs.Check.{Check, ok, no, bind, fault, Passed, pass}
 use Rattle.base.specs.Lists.{each}
 use Rattle.base.specs.Keys.{among}
-use Rattle.base.proofs.CheckLaws.{bind-inv, ok-inj}
+use Rattle.base.proofs.CheckLaws.{bind-inv, ok-inj, refused}
 use Rattle.skeleton.specs.File.{Field}
 use Rattle.rules.specs.ByTag.{firstTag}
 use Rattle.rules.specs.Kind.{kindOf, tagOf, rank}
@@ -37,28 +37,25 @@ use Rattle.keys.proofs.IdentLaws.{Keyed, keyed-passed}
 
 -- ---- numbers 4 to 6
 
-not-ok : {A B : Type 0} {x : _} {a : A} → no x ≡ ok a → B
-not-ok e = absurd (let z : _≡_ {A = ℕ} 0 1 = cc in omega arith)
-
 picked-kind : (k j : Kind) (t : Bool) (c : Passed) → pick t (no (fault 4 1 0)) (bind c (λ _. ok k)) ≡ ok j → k ≡ j
-picked-kind k j true c h = not-ok h
+picked-kind k j true c h = refused h
 picked-kind k j false c h = ok-inj k j (bind-inv c (λ _. ok k) j h .2)
 
 -- a kind that number 4 gives is not before the last one
 picked : (k j : Kind) (least : ℕ) (t : Bool) (c : Passed) → ltb (rank k) least ≡ t → pick t (no (fault 4 1 0)) (bind c (λ _. ok k)) ≡ ok j → least ≤ rank j
-picked k j least true c e h = not-ok h
+picked k j least true c e h = refused h
 picked k j least false c e h =
     let r = bind-inv c (λ _. ok k) j h in
     rw (ok-inj k j (r .2)) at (ltb-false (rank k) least e)
 
 kind-rank : (o : Option Kind) (least : ℕ) (c : Kind → Passed) (j : Kind)
     → onKind o (λ k. pick (ltb (rank k) least) (no (fault 4 1 0)) (bind (c k) (λ _. ok k))) ≡ ok j → least ≤ rank j
-kind-rank none least c j h = not-ok h
+kind-rank none least c j h = refused h
 kind-rank (some k) least c j h = picked k j least (ltb (rank k) least) (c k) refl h
 
 given-tag : (t : ℕ) (o : Option Kind) (least : ℕ) (c : Kind → Passed) (j : Kind) → kindOf t ≡ o
     → onKind o (λ k. pick (ltb (rank k) least) (no (fault 4 1 0)) (bind (c k) (λ _. ok k))) ≡ ok j → t ≡ tagOf j
-given-tag t none least c j e h = not-ok h
+given-tag t none least c j e h = refused h
 given-tag t (some k) least c j e h =
     let z : k ≡ j = picked-kind k j (ltb (rank k) least) (c k) h in
     tag-of-kind t j (e ∙ ap some z)
@@ -72,7 +69,7 @@ pub record Placed (least : ℕ) (k : Kind) (fs : List Field) : Type 0 where
 
 pub placed : (least : ℕ) (fs : List Field) (k : Kind) → fourToSix least fs ≡ ok k → Placed least k fs
 unfolding fourToSix number4 firstTag
-placed least [] k e = let r = bind-inv (number4 InDataset least []) _ k e in not-ok (r .1)
+placed least [] k e = let r = bind-inv (number4 InDataset least []) _ k e in refused (r .1)
 placed least (f ∷ fs) k e =
     let r = bind-inv (number4 InDataset least (f ∷ fs)) _ k e in
     let s = bind-inv (number5 InDataset (r .0) (f ∷ fs)) _ k (r .2) in
@@ -145,7 +142,7 @@ read-of least k fs p =
 
 seventh-read : (k : Kind) (earlier : List (List ℕ)) (fs : List Field) (r : Rec) (t : Bool) (c : Passed)
     → pick t (no (fault 7 1 0)) (bind c (λ _. ok (recOf k fs))) ≡ ok r → recOf k fs ≡ r
-seventh-read k earlier fs r true c e = not-ok e
+seventh-read k earlier fs r true c e = refused e
 seventh-read k earlier fs r false c e = ok-inj (recOf k fs) r (bind-inv c (λ _. ok (recOf k fs)) r e .2)
 
 record-read : (least : ℕ) (earlier : List (List ℕ)) (fs : List Field) (r : Rec) → datasetRecord least earlier fs ≡ ok r → Read fs r

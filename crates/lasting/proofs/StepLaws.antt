@@ -9,11 +9,11 @@ use borrow.Author.Tests.{ltb-false}
 use lib.Dec.{ltb}
 use Rattle.base.specs.Choice.{pick}
 use Rattle.base.specs.Check.{ok, no, fault, pass}
-use Rattle.base.proofs.CheckLaws.{ok-inj}
+use Rattle.base.proofs.CheckLaws.{ok-inj, refused}
+use Rattle.base.proofs.OptionLaws.{some-inj}
 use Rattle.skeleton.specs.File.{Field}
 use Rattle.rules.specs.Record.{Rec}
 use Rattle.rules.specs.Written.{writtenFields, writtenLength, number12}
-use Rattle.sequence.proofs.Tests.{some-inj, refused}
 use Rattle.version.specs.Areas.{flagArea}
 use Rattle.version.specs.Held.{Held}
 use Rattle.version.specs.Present.{HeldAs, ChangedTo}

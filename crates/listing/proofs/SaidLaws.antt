@@ -12,7 +12,7 @@ use Rattle.base.specs.Choice.{pick, either}
 use Rattle.base.specs.Check.{Check, ok, no, bind, inField, pass, passed, Passed as Through}
 use Rattle.base.specs.Lists.{empty, each, gather}
 use Rattle.base.specs.Walk.{Got, steps, walk}
-use Rattle.base.proofs.CheckLaws.{bind-inv}
+use Rattle.base.proofs.CheckLaws.{bind-inv, field-inv}
 use Rattle.base.proofs.ChoiceLaws.{both-hold}
 use Rattle.base.proofs.ListLaws.{each-length}
 use Rattle.skeleton.specs.File.{Field}
@@ -112,11 +112,6 @@ unfolding passed bind
 passed-tree (ok t) u e = (t, refl)
 passed-tree (no x) u e = absurd (let z : _≡_ {A = ℕ} 0 1 = cc in omega arith)
 
-in-field : (i : ℕ) (c : Through) (u : Unit {0}) → inField i c ≡ ok u → c ≡ ok u
-unfolding inField
-in-field i (ok v) u e = refl
-in-field i (no x) u e = absurd (let z : _≡_ {A = ℕ} 0 1 = cc in omega arith)
-
 attr-here : (f : Field) → eqb (f .tag) ATTR ≡ true → treeStands true f ≡ ok tt → passed (attrTree (f .body)) ≡ ok tt
 unfolding treeStands
 attr-here f e t = rw e at t
@@ -128,7 +123,7 @@ entries-said i [] a s = none-size ∙ sym entries-none
 entries-said i (f ∷ fs) a s =
     let p = both-hold (fits true f) (allFit true fs) a in
     let q = bind-inv (inField i (treeStands true f)) (λ _. treesStand true (i + 1) fs) tt s in
-    go (eqb (f .tag) ATTR) refl (p .0) (in-field i (treeStands true f) (q .0) (q .1)) (entries-said (i + 1) fs (p .1) (q .2))
+    go (eqb (f .tag) ATTR) refl (p .0) (field-inv i (treeStands true f) (q .0) (q .1)) (entries-said (i + 1) fs (p .1) (q .2))
   where
     go : (b : Bool) → eqb (f .tag) ATTR ≡ b → fits true f ≡ true → treeStands true f ≡ ok tt
         → size (standing (attrTree (getD (each (λ (g : Field). g .body) (withTag ATTR fs)) 0 []))) ≡ entriesOf (getD (each (λ (g : Field). g .body) (withTag ATTR fs)) 0 [])

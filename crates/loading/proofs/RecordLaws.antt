@@ -29,6 +29,7 @@ use Rattle.fields.proofs.TupleLaws.{tuples-end}
 use Rattle.fields.specs.Values.{Val}
 use Rattle.base.specs.Walk.{Got}
 use Rattle.base.specs.Lists.{each, gather}
+use Rattle.base.proofs.CheckLaws.{refused}
 use Rattle.forest.specs.Forest.{nil}
 use Rattle.forest.specs.Flat.{flat}
 use Rattle.rules.specs.ByTag.{front}
@@ -39,8 +40,8 @@ use Rattle.rules.specs.Record.{Ident, identOf, recOf}
 use Rattle.rules.specs.Written.{fieldAs}
 use Rattle.rules.specs.declared.Kind.{Kind}
 use Rattle.rules.specs.declared.Mode.the-variants.{InDataset, InUpdate}
+use Rattle.rules.proofs.CoordinateLaws.{coords-none}
 use Rattle.sequence.specs.Keyed.{Each}
-use Rattle.sequence.proofs.Tests.{refused}
 use Rattle.sound.proofs.Lists.{each-map}
 use Rattle.sound.proofs.Records.{Stood, Whole, through}
 use Rattle.sound.proofs.Changed.{tests}
@@ -91,10 +92,6 @@ none-loadable k (inserted e r) = refused ((tests [] k e) .0)
 
 -- ---- nothing but the identifier
 
-no-coords : coordsIn [] ≡ []
-unfolding coordsIn many each
-no-coords = ap (λ (g : Got (List Val)). each coordOf (g .items)) (tuples-end (tupleOf C2il) [] (omega arith))
-
 pub opened-is : (k : Kind) (i : Ident) (a b c : ℕ) → a ≡ i .rcid → b ≡ i .code → c ≡ i .rver
     → record { kind = k; rcid = a; code = b; rver = c; foids = 0; foid = 0; slice = 0; attr = 0; inas = 0; coord = 0; spas = 0 } ≡ opened k i
 unfolding opened
@@ -114,7 +111,7 @@ blank-held d u w k i =
         attributes = its-end d u (listArea w) 0 0 (omega arith) ∙ sym (ap (flat 0) (standing-ok [] nil attr-nothing));
         associations = refl;
         inas-right = tt;
-        coordinates = sym no-coords;
+        coordinates = sym coords-none;
         spatial = refl;
         spas-right = tt;
         attr-room = omega arith;

@@ -12,6 +12,7 @@ use Rattle.base.specs.Choice.{pick, either}
 use Rattle.base.specs.Lists.{each, gather}
 use Rattle.base.proofs.ChoiceLaws.{either-false}
 use Rattle.base.proofs.ListLaws.{each-gather}
+use Rattle.base.proofs.OptionLaws.{never}
 use Rattle.skeleton.specs.File.{Field}
 use Rattle.fields.specs.Table.{tupleOf}
 use Rattle.fields.specs.Content.{many}
@@ -26,7 +27,7 @@ use Rattle.rules.specs.Record.{Rec, Assoc, Spatial, Ident, identOf, foidOf, sta
 use Rattle.rules.specs.declared.Kind.{Kind}
 use Rattle.rules.specs.declared.Kind.the-variants.{Info, Point, Multi, Feature}
 use Rattle.sequence.specs.Keyed.{Each}
-use Rattle.sequence.proofs.Tests.{by-bool, never}
+use Rattle.sequence.proofs.Tests.{by-bool}
 use Rattle.sound.specs.Sound.{rowed}
 use Rattle.sound.proofs.Lists.{each-map}
 use Rattle.sound.proofs.Order.{most, tag-none}

@@ -10,7 +10,7 @@ use lib.Dec.{eqb, ltb}
 use lib.ListN.{length, getD, drop}
 use Rattle.base.specs.Choice.{pick, both, either}
 use Rattle.base.specs.Check.{Check, ok, no, bind, fault, Passed, pass}
-use Rattle.base.proofs.ChoiceLaws.{by-test}
+use Rattle.base.proofs.ChoiceLaws.{by-test, both-true}
 use Rattle.skeleton.specs.File.{Field}
 use Rattle.skeleton.specs.Place.{between, placeAt, fieldsAt}
 use Rattle.skeleton.specs.RightFrom.{RightFrom}
@@ -138,10 +138,6 @@ pub ruleset stored-ways = (stored-dataset, stored-update)
 
 -- ---- fields that are needed
 
-with-true : (b : Bool) → b ≡ both b true
-with-true true = refl
-with-true false = refl
-
 module _ (k : Kind) (fs : List Field) where
   pub complete-info : k ≡ Info → true ≡ complete (rowsOf k) fs
   unfolding complete rowsOf
@@ -153,11 +149,11 @@ module _ (k : Kind) (fs : List Field) where
 
   pub complete-point : k ≡ Point → (b : Bool) → b ≡ has C2IT fs → b ≡ complete (rowsOf k) fs
   unfolding complete rowsOf
-  complete-point e b x = simp (e, ← x) (with-true b)
+  complete-point e b x = simp (e, ← x) (sym (both-true b))
 
   pub complete-feature : k ≡ Feature → (b : Bool) → b ≡ has FOID fs → b ≡ complete (rowsOf k) fs
   unfolding complete rowsOf
-  complete-feature e b x = simp (e, ← x) (with-true b)
+  complete-feature e b x = simp (e, ← x) (sym (both-true b))
 
 pub ruleset complete-ways = (complete-info, complete-multi, complete-point, complete-feature)
 

@@ -23,12 +23,13 @@ use Rattle.rules.specs.Record.{Rec, Assoc, identOf, foidOf, standing, assocOf, 
 use Rattle.rules.specs.Written.{nums, treeBytes, assocField, identBytes, writtenFields}
 use Rattle.rules.specs.declared.Kind.{Kind}
 use Rattle.rules.specs.declared.Kind.the-variants.{Info, Point, Multi, Feature}
+use Rattle.rules.proofs.CoordinateLaws.{coords-none}
 use Rattle.sequence.specs.Keyed.{Each}
 use Rattle.sound.specs.Sound.{SoundAssoc, SoundFoid, SoundRec}
 use Rattle.sound.proofs.Parts.{standing-ok}
 use Rattle.roundtrip.proofs.Attributes.{attr-tree}
 use Rattle.roundtrip.proofs.Associations.{assoc-again}
-use Rattle.roundtrip.proofs.Coordinates.{coords-again, coords-none}
+use Rattle.roundtrip.proofs.Coordinates.{coords-again}
 use Rattle.roundtrip.proofs.Spatial.{spatialBytes, spatial-many}
 use Rattle.roundtrip.proofs.Idents.{foidBytes, ident-again, foid-again}
 use Rattle.roundtrip.proofs.Room.{Roomy}

@@ -56,8 +56,3 @@ unfolding Each each putAll gather headOf tupleOf
 c2it-has [] e l = absurd (omega arith)
 c2it-has (c ∷ []) e l = rw append-nil (head-back C2it (coordVals c) (e .0) .0)
 c2it-has (c ∷ d ∷ cs) e l = absurd (omega arith)
-
--- no coordinates, no bytes
-pub coords-none : coordsIn [] ≡ []
-unfolding Each each putAll gather
-coords-none = coords-again [] tt

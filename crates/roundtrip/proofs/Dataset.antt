@@ -11,6 +11,7 @@ use Rattle.base.specs.Check.{Check, ok, bind, pass}
 use Rattle.base.specs.Lists.{each}
 use Rattle.base.specs.Keys.{same, among}
 use Rattle.base.proofs.KeysLaws.{same-sound, same-refl}
+use Rattle.base.proofs.OptionLaws.{never}
 use Rattle.skeleton.specs.File.{Field, recordsOf}
 use Rattle.skeleton.specs.Writable.{TagFits, TagsFit, Widths, Writable, AllWritable}
 use Rattle.skeleton.proofs.EmitFileLaws.{writable as writable-fields, file-back}
@@ -26,7 +27,7 @@ use Rattle.rules.specs.declared.Kind.the-variants.{Info, Point, Multi, Feature}
 use Rattle.rules.proofs.OutcomeLaws.{andThen-inv, done-inj}
 use Rattle.rules.proofs.FileLaws.{test-later}
 use Rattle.sequence.specs.Keyed.{Each, Ordered, Once, find}
-use Rattle.sequence.proofs.Tests.{by-bool, never}
+use Rattle.sequence.proofs.Tests.{by-bool}
 use Rattle.sequence.proofs.EachLaws.{each-join}
 use Rattle.updates.specs.Acts.{chart}
 use Rattle.updates.proofs.Steps.{placed}

@@ -8,6 +8,7 @@ use lib.ListN.{length, length-append}
 use lib.Dec.{ltb}
 use Rattle.base.specs.Check.{pass}
 use Rattle.base.specs.Lists.{each}
+use Rattle.base.proofs.CheckLaws.{refused}
 use Rattle.skeleton.specs.File.{Field}
 use Rattle.skeleton.specs.Emit.{sizes, lengthOf}
 use Rattle.skeleton.proofs.EmitFieldsLaws.{sizes-append}
@@ -18,7 +19,7 @@ use Rattle.rules.specs.Tags.{FOID, ATTR, SPAS}
 use Rattle.rules.specs.Record.{Rec, Assoc}
 use Rattle.rules.specs.Written.{listField, treeBytes, assocField, nums, coordTag, partFields, writtenFields, writtenLength, number12}
 use Rattle.sequence.specs.Keyed.{Each}
-use Rattle.sequence.proofs.Tests.{by-bool, refused}
+use Rattle.sequence.proofs.Tests.{by-bool}
 use Rattle.roundtrip.proofs.Coordinates.{coordBytes}
 use Rattle.roundtrip.proofs.Spatial.{spatialBytes}
 use Rattle.roundtrip.proofs.Idents.{foidBytes}

@@ -1,17 +1,18 @@
 -- How many coordinates stand in some bytes. Assumes nothing.
 use mathlib.Core.Path.{_≡_, refl, _∙_}
 use mathlib.Core.Bool.{Bool, true, false}
-use mathlib.Core.List.{List}
+use mathlib.Core.List.{List, []}
 use Prim.Native.Nat.{ℕ, _+_, _*_, _/_, _%_}
 use native.Mathlib.Omega.{arith}
 use lib.Dec.{eqb}
 use lib.ListN.{length}
 use Rattle.base.specs.Choice.{pick}
-use Rattle.base.specs.Walk.{Got}
+use Rattle.base.specs.Lists.{each, empty}
+use Rattle.base.specs.Walk.{Got, walk, steps}
 use Rattle.base.proofs.ListLaws.{each-length}
 use Rattle.fields.specs.Values.{Val}
 use Rattle.fields.specs.Table.{tupleOf}
-use Rattle.fields.specs.Content.{tuples, many, tallied, tally}
+use Rattle.fields.specs.Content.{tuples, tupleStep, many, tallied, tally}
 use Rattle.fields.specs.Places.{allRaw}
 use Rattle.fields.specs.declared.Format.the-variants.{C2il}
 use Rattle.fields.specs.declared.Tally.the-variants.{Whole, Short}
@@ -40,3 +41,8 @@ coords-length b = each-length coordOf (many (tupleOf C2il) b) ∙ c2il-many b
 -- of bytes that are whole tuples
 pub coords-count : (b : List ℕ) (n : ℕ) → length b ≡ 8 * n → length (coordsIn b) ≡ n
 coords-count b n e = coords-length b ∙ omega arith
+
+-- of none
+pub coords-none : coordsIn [] ≡ []
+unfolding coordsIn each many tuples walk steps tupleStep empty
+coords-none = refl

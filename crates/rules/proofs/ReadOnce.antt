@@ -12,6 +12,7 @@ use Rattle.base.specs.Lists.{each}
 use Rattle.base.specs.Keys.{same, among}
 use Rattle.base.specs.Walk.{Got}
 use Rattle.base.proofs.KeysLaws.{same-sound, same-refl}
+use Rattle.base.proofs.ChoiceLaws.{either-true}
 use Rattle.skeleton.specs.File.{Field, recordsOf}
 use Rattle.rules.specs.Tags.{CSID}
 use Rattle.rules.specs.ByTag.{firstTag}
@@ -121,10 +122,6 @@ apart-more r seen recs f a =
       once = o-more (a .absent (keyOf r) (rw (same-refl (keyOf r)) refl)) (a .once);
     }
   where
-    either-true : (b : Bool) → either b true ≡ true
-    either-true true = refl
-    either-true false = refl
-
     skip : (q : List ℕ) → among q (each keyOf seen) ≡ true → (t : Bool) → same (keyOf r) q ≡ t → find q recs ≡ none → pick t (some r) (find q recs) ≡ none
     skip q e true s h = absurd (clash (among q (each keyOf seen)) e (ap (λ (w : List ℕ). among w (each keyOf seen)) (sym (same-sound (keyOf r) q s)) ∙ f))
     skip q e false s h = h

@@ -10,9 +10,10 @@ use lib.ListN.{length}
 use lib.Dec.{ltb}
 use Rattle.base.specs.Keys.{same}
 use Rattle.base.proofs.KeysLaws.{same-sound, same-refl, same-sym}
+use Rattle.base.proofs.OptionLaws.{never}
 use Rattle.sequence.specs.Keyed.{Parts, Each, Has, Under, rank, find, settle, replace, remove, Ordered, Once}
 use Rattle.sequence.specs.Order.{keep}
-use Rattle.sequence.proofs.Tests.{by-bool, never}
+use Rattle.sequence.proofs.Tests.{by-bool}
 
 module _ (P : Parts) where
   open Parts P using (Rec, key, place)

@@ -11,11 +11,12 @@ use Rattle.base.specs.Check.{ok, bind}
 use Rattle.base.specs.Lists.{each, gather}
 use Rattle.base.specs.Keys.{same, among}
 use Rattle.base.proofs.KeysLaws.{same-sound, same-refl, same-sym, same-comm}
+use Rattle.base.proofs.OptionLaws.{never, some-inj}
 use Rattle.sequence.specs.Keyed.{insert, delete, modify, Parts, done, rank, find, settle, replace, remove, step, run, Ordered, Once, Laws}
 use Rattle.sequence.specs.History.{history}
 use Rattle.sequence.specs.Order.{keep, isInsert, isDelete, deleted, ofKind}
 use Rattle.sequence.specs.Stream.{places, last, stands, keptOf, kept, joinedOf, joined, stream, standing}
-use Rattle.sequence.proofs.Tests.{by-bool, both-no, never, some-inj, done-inj, goOn-done}
+use Rattle.sequence.proofs.Tests.{by-bool, both-no, done-inj, goOn-done}
 use Rattle.sequence.proofs.Lists.{find-none, ordered-from}
 use Rattle.sequence.proofs.Local.{Did, did-insert, did-delete, did-modify, did, step-once, run-version}
 use Rattle.sequence.proofs.Result.{step-ordered, run-ordered}

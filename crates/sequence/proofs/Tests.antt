@@ -2,7 +2,6 @@
 use Prim.Native.Nat.{ℕ}
 use mathlib.Core.Path.{_≡_, refl}
 use mathlib.Core.Bool.{Bool, true, false}
-use mathlib.Core.Option.{some, none}
 use native.Mathlib.Omega.{arith}
 use Rattle.base.specs.Choice.{both}
 use Rattle.base.specs.Check.{Check, ok, no, bind}
@@ -18,18 +17,6 @@ by-bool false f g = g refl
 pub both-no : (a b : Bool) → b ≡ false → both a b ≡ false
 both-no true b e = e
 both-no false b e = refl
-
--- something is not nothing
-pub never : {A X : Type 0} {a : A} → some a ≡ none → X
-never e = absurd (let z : _≡_ {A = ℕ} 0 1 = cc in omega arith)
-
--- two that are found alike are equal
-pub some-inj : {A : Type 0} {a b : A} → some a ≡ some b → a ≡ b
-some-inj e = cc
-
--- a refusal is not a value
-pub refused : {A X : Type 0} {x : Fault} {a : A} → no x ≡ ok a → X
-refused e = absurd (let z : _≡_ {A = ℕ} 0 1 = cc in omega arith)
 
 -- a run that stopped is not done
 pub stopped : {A X : Type 0} {j : ℕ} {x : Fault} {a : A} → stop j x ≡ done a → X

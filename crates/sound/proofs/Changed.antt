@@ -9,7 +9,8 @@ use borrow.Author.Tests.{eqb-true, eq-eqb}
 use Rattle.base.specs.Choice.{pick}
 use Rattle.base.specs.Check.{ok, inField, pass}
 use Rattle.base.proofs.ChoiceLaws.{both-hold}
-use Rattle.base.proofs.CheckLaws.{bind-inv, ok-inj, pass-inv}
+use Rattle.base.proofs.CheckLaws.{bind-inv, ok-inj, pass-inv, refused}
+use Rattle.base.proofs.OptionLaws.{never, some-inj}
 use Rattle.skeleton.specs.File.{Field}
 use Rattle.fields.specs.Table.{headOf}
 use Rattle.fields.specs.Valid.{Bytes, passAll}
@@ -29,7 +30,7 @@ use Rattle.rules.specs.declared.Kind.{Kind}
 use Rattle.rules.specs.declared.Kind.the-variants.{Info, Point, Multi, Feature}
 use Rattle.rules.specs.declared.Mode.the-variants.{InUpdate}
 use Rattle.sequence.specs.Keyed.{Each, Under, Has}
-use Rattle.sequence.proofs.Tests.{by-bool, refused, never, some-inj}
+use Rattle.sequence.proofs.Tests.{by-bool}
 use Rattle.updates.specs.Acts.{kindIn, namedBy, chart}
 use Rattle.updates.proofs.Acted.{Acted, acted-insert, acted-modify}
 use Rattle.sound.specs.Sound.{SoundParts, SoundRec, identVals}

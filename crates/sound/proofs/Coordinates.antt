@@ -11,7 +11,7 @@ use Rattle.base.specs.Choice.{pick}
 use Rattle.base.specs.Lists.{each}
 use Rattle.base.specs.Walk.{Got}
 use Rattle.base.proofs.ChoiceLaws.{by-test}
-use Rattle.base.proofs.CheckLaws.{ok-inj}
+use Rattle.base.proofs.CheckLaws.{ok-inj, refused}
 use Rattle.fields.specs.Table.{headOf, tupleOf}
 use Rattle.fields.specs.Values.{Val, values}
 use Rattle.fields.specs.Content.{tuples, many}
@@ -24,7 +24,7 @@ use Rattle.rules.specs.Place.{Place, placed}
 use Rattle.rules.specs.Coordinates.{coordOf, coordsIn}
 use Rattle.rules.specs.Written.{coordVals}
 use Rattle.sequence.specs.Keyed.{Each}
-use Rattle.sequence.proofs.Tests.{by-bool, refused}
+use Rattle.sequence.proofs.Tests.{by-bool}
 use Rattle.sequence.proofs.EachLaws.{each-join}
 use Rattle.updates.proofs.Kept.{of-each}
 use Rattle.sound.specs.Sound.{SoundCoord}

@@ -11,6 +11,7 @@ use Rattle.base.specs.Check.{pass}
 use Rattle.base.specs.Lists.{each, gather}
 use Rattle.base.specs.Keys.{among}
 use Rattle.base.proofs.ListLaws.{each-append}
+use Rattle.base.proofs.CheckLaws.{refused}
 use Rattle.skeleton.specs.File.{Field}
 use Rattle.fields.specs.Table.{tupleOf}
 use Rattle.fields.specs.Content.{many}
@@ -20,7 +21,7 @@ use Rattle.rules.specs.ByTag.{withTag, bodies}
 use Rattle.rules.specs.Associations.{Mark, inasKey, spasKey, fieldMarks, marks, keysOnce, number11}
 use Rattle.rules.proofs.MarkLaws.{spas-marked, markKey}
 use Rattle.sequence.specs.Keyed.{Each}
-use Rattle.sequence.proofs.Tests.{by-bool, refused}
+use Rattle.sequence.proofs.Tests.{by-bool}
 use Rattle.sound.specs.Sound.{Apart}
 use Rattle.sound.proofs.Keys.{Within, w-none, w-keep, w-skip, within-all, within-none, within-join}
 

@@ -8,7 +8,7 @@ use lib.Dec.{eqb}
 use borrow.Author.Tests.{eqb-true}
 use Rattle.base.specs.Check.{ok, inField}
 use Rattle.base.specs.Lists.{each}
-use Rattle.base.proofs.CheckLaws.{bind-inv, ok-inj, passed-inv}
+use Rattle.base.proofs.CheckLaws.{bind-inv, ok-inj, passed-inv, field-inv}
 use Rattle.skeleton.specs.File.{Field}
 use Rattle.fields.specs.Table.{tupleOf}
 use Rattle.fields.specs.Content.{many}
@@ -32,7 +32,7 @@ use Rattle.sequence.proofs.Tests.{by-bool}
 use Rattle.sound.specs.Sound.{Apart, SoundAssoc, SoundCoord, rowed, Counted, SoundTree, SoundCoords, SoundSpatials, SoundParts}
 use Rattle.sound.proofs.Lists.{each-map, each-gathered}
 use Rattle.sound.proofs.Keys.{joined, left}
-use Rattle.sound.proofs.Stand.{Has, field-inv}
+use Rattle.sound.proofs.Stand.{Has}
 use Rattle.sound.proofs.Attributes.{attributes-edited}
 use Rattle.sound.proofs.Associations.{assoc-read}
 use Rattle.sound.proofs.Coordinates.{list-read, point-read, placed-each}

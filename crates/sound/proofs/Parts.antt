@@ -14,6 +14,7 @@ use Rattle.base.specs.Walk.{Got}
 use Rattle.base.proofs.ChoiceLaws.{both-hold}
 use Rattle.base.proofs.CheckLaws.{passed-inv}
 use Rattle.base.proofs.ListLaws.{each-each, each-gather}
+use Rattle.base.proofs.OptionLaws.{never}
 use Rattle.skeleton.specs.File.{Field}
 use Rattle.fields.specs.Table.{headOf, tupleOf}
 use Rattle.fields.specs.Values.{Val}
@@ -41,7 +42,7 @@ use Rattle.rules.specs.declared.Kind.the-variants.{Info, Point, Multi, Feature}
 use Rattle.rules.specs.declared.Mode.{Mode}
 use Rattle.rules.proofs.MarkLaws.{markKey}
 use Rattle.sequence.specs.Keyed.{Each}
-use Rattle.sequence.proofs.Tests.{by-bool, never}
+use Rattle.sequence.proofs.Tests.{by-bool}
 use Rattle.sequence.proofs.EachLaws.{each-join}
 use Rattle.updates.proofs.Kept.{of-each, each-of}
 use Rattle.sound.specs.Sound.{Attributes, r-nil, Apart, SoundAssoc, SoundCoord, SoundSpatial, rowed, Counted, SoundParts, SoundFoid, SoundRec, identVals, Named}

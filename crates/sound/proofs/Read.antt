@@ -10,7 +10,7 @@ use Rattle.base.specs.Check.{ok, no, fault, pass}
 use Rattle.base.specs.Lists.{each}
 use Rattle.base.specs.Keys.{among}
 use Rattle.base.specs.Walk.{Got}
-use Rattle.base.proofs.CheckLaws.{bind-inv, ok-inj, pass-inv}
+use Rattle.base.proofs.CheckLaws.{bind-inv, ok-inj, pass-inv, refused}
 use Rattle.skeleton.specs.File.{Field}
 use Rattle.fields.specs.Valid.{Bytes}
 use Rattle.rules.specs.Tags.{CSID}
@@ -28,7 +28,7 @@ use Rattle.rules.specs.declared.Mode.the-variants.{InDataset}
 use Rattle.rules.proofs.OutcomeLaws.{andThen-inv, at-inv, done-inj}
 use Rattle.rules.proofs.FileLaws.{through-later}
 use Rattle.sequence.specs.Keyed.{Each}
-use Rattle.sequence.proofs.Tests.{by-bool, refused}
+use Rattle.sequence.proofs.Tests.{by-bool}
 use Rattle.updates.specs.Sorted.{Sorted}
 use Rattle.updates.proofs.Read.{is-read}
 use Rattle.updates.proofs.Results.{read-sorted}

@@ -8,7 +8,7 @@ use lib.ListN.{length}
 use lib.Dec.{ltb}
 use Rattle.base.specs.Choice.{pick, either}
 use Rattle.base.specs.Check.{ok, no, bind, fault, pass}
-use Rattle.base.proofs.CheckLaws.{bind-inv, ok-inj, pass-inv}
+use Rattle.base.proofs.CheckLaws.{bind-inv, ok-inj, pass-inv, refused}
 use Rattle.skeleton.specs.File.{Field}
 use Rattle.fields.specs.Table.{headOf, tupleOf}
 use Rattle.fields.specs.Valid.{Bytes}
@@ -28,7 +28,7 @@ use Rattle.rules.specs.declared.Mode.{Mode}
 use Rattle.rules.specs.declared.Mode.the-variants.{InDataset, InUpdate}
 use Rattle.rules.proofs.FilledLaws.{stands-fill}
 use Rattle.sequence.specs.Keyed.{Each}
-use Rattle.sequence.proofs.Tests.{by-bool, refused}
+use Rattle.sequence.proofs.Tests.{by-bool}
 use Rattle.sound.specs.Sound.{rowed}
 use Rattle.sound.proofs.Lists.{each-map}
 use Rattle.sound.proofs.Order.{most, order-rowed, order-once}

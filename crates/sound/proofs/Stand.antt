@@ -4,7 +4,7 @@ use mathlib.Core.Path.{_≡_, refl}
 use mathlib.Core.Bool.{Bool, true}
 use mathlib.Core.List.{List, [], _∷_}
 use Rattle.base.specs.Check.{Check, ok, no, bind, inField, pass}
-use Rattle.base.proofs.CheckLaws.{bind-inv}
+use Rattle.base.proofs.CheckLaws.{bind-inv, refused, field-inv}
 use Rattle.skeleton.specs.File.{Field}
 use Rattle.fields.specs.Table.{headOf, tupleOf}
 use Rattle.fields.specs.Content.{fill}
@@ -14,7 +14,6 @@ use Rattle.rules.specs.Content.{formatOf, stands, allStand}
 use Rattle.rules.specs.Trees.{treeStands, treesStand}
 use Rattle.rules.proofs.FilledLaws.{stands-fill}
 use Rattle.sequence.specs.Keyed.{Each}
-use Rattle.sequence.proofs.Tests.{refused}
 
 -- the subfields of a format fill a body
 abbrev pub Has : Format → List ℕ → Type 0
@@ -42,12 +41,6 @@ pub formed-all : (new : Bool) (i : ℕ) (fs : List Field) → Each (Formed new) 
 unfolding allStand Each bind
 formed-all new i [] e = refl
 formed-all new i (f ∷ fs) e = rw (fill-stands i (formatOf new (f .tag) (f .body)) (f .body) (e .0)) (formed-all new (i + 1) fs (e .1))
-
--- a refusal is named by its field, and nothing else changes
-pub field-inv : {A : Type 0} (i : ℕ) (c : Check A) (a : A) → inField i c ≡ ok a → c ≡ ok a
-unfolding inField
-field-inv i (ok b) a e = e
-field-inv i (no x) a e = refused e
 
 -- each of fields whose trees stand
 pub all-treed : (new : Bool) (i : ℕ) (fs : List Field) → treesStand new i fs ≡ pass → Each (λ f. treeStands new f ≡ pass) fs

@@ -9,6 +9,7 @@ use lib.ListN.{length, getD, take, drop, length-drop}
 use lib.Seq.{getD-drop, drop-drop}
 use borrow.Author.Tests.{eqb-true}
 use Rattle.base.specs.Walk.{Got}
+use Rattle.base.proofs.OptionLaws.{some-inj}
 use mathlib.Core.Logic.{⊎-elim}
 use Rattle.forest.proofs.Numbers.{lt-or-le}
 use Rattle.fields.specs.Bytes.{le, run}
@@ -20,7 +21,7 @@ use Rattle.fields.specs.Content.{tuples, many}
 use Rattle.fields.specs.Places.{endingAt}
 use Rattle.fields.specs.declared.Sub.{Sub}
 use Rattle.fields.specs.declared.Sub.the-variants.{B11, Raw, Text}
-use Rattle.fields.proofs.SizeLaws.{isNum, some-inj, num-size, num-some, text-some, sizes-cons}
+use Rattle.fields.proofs.SizeLaws.{isNum, num-size, num-some, text-some, sizes-cons}
 use Rattle.fields.proofs.TupleLaws.{tuples-end, first-tuple}
 use Rattle.fields.proofs.ValueLaws.{num-value}
 use Rattle.tree.specs.Source.{two, past}

@@ -9,7 +9,7 @@ use Rattle.base.specs.Choice.{both}
 use Rattle.base.specs.Check.{Check, ok, pass}
 use Rattle.base.specs.Lists.{each}
 use Rattle.base.specs.Keys.{same}
-use Rattle.base.proofs.CheckLaws.{bind-inv, ok-inj}
+use Rattle.base.proofs.CheckLaws.{bind-inv, ok-inj, refused}
 use Rattle.base.proofs.ChoiceLaws.{neither}
 use Rattle.skeleton.specs.File.{Field}
 use Rattle.rules.specs.Record.{Rec}
@@ -24,7 +24,7 @@ use Rattle.rules.proofs.OutcomeLaws.{andThen-inv, at-inv, done-inj}
 use Rattle.rules.proofs.Follows.{number8-inv, general-inv, raises}
 use Rattle.sequence.specs.History.{history, version}
 use Rattle.sequence.specs.Order.{keep, isDelete, deleted}
-use Rattle.sequence.proofs.Tests.{by-bool, refused}
+use Rattle.sequence.proofs.Tests.{by-bool}
 use Rattle.updates.specs.Acts.{kindIn, actOf, doneBy, changedBy, chart}
 use Rattle.updates.specs.Accepted.{rverOf, times, Accepted}
 use Rattle.updates.proofs.Acted.{Acted, acted-insert, acted-delete, acted-modify, acted, acted-new}

@@ -9,7 +9,7 @@ use borrow.Author.Tests.{eqb-true}
 use lib.Dec.{eqb}
 use Rattle.base.specs.Check.{ok, pass}
 use Rattle.base.proofs.ChoiceLaws.{both-hold}
-use Rattle.base.proofs.CheckLaws.{bind-inv, pass-inv, ok-inj}
+use Rattle.base.proofs.CheckLaws.{bind-inv, pass-inv, ok-inj, refused}
 use Rattle.skeleton.specs.File.{Field}
 use Rattle.rules.specs.ByTag.{front}
 use Rattle.rules.specs.Coordinates.{sent}
@@ -19,7 +19,7 @@ use Rattle.rules.specs.Modify.{actFields}
 use Rattle.rules.specs.Change.{follows, sameFoid, fitting, revised, inserted, deleted, modified, change}
 use Rattle.rules.specs.declared.Kind.{Kind}
 use Rattle.sequence.specs.Keyed.{Under, Goes, brings, takes, alters, Laws}
-use Rattle.sequence.proofs.Tests.{by-bool, refused}
+use Rattle.sequence.proofs.Tests.{by-bool}
 use Rattle.updates.specs.Accepted.{rverOf}
 use Rattle.updates.specs.Acts.{kindIn, namedBy, actOf, doneBy, changedBy, chart}
 

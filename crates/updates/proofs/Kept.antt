@@ -5,7 +5,7 @@ use mathlib.Core.Option.{Option, some, none}
 use mathlib.Core.List.{List, [], _∷_}
 use Rattle.base.specs.Check.{ok, Passed, pass}
 use Rattle.base.specs.Lists.{each}
-use Rattle.base.proofs.CheckLaws.{bind-inv}
+use Rattle.base.proofs.CheckLaws.{bind-inv, refused}
 use Rattle.skeleton.specs.File.{Field}
 use Rattle.rules.specs.Record.{Rec}
 use Rattle.rules.specs.General.{number8, merged}
@@ -17,7 +17,6 @@ use Rattle.rules.specs.declared.Kind.{Kind}
 use Rattle.rules.proofs.OutcomeLaws.{andThen-inv, at-inv}
 use Rattle.rules.proofs.Follows.{general-inv}
 use Rattle.sequence.specs.Keyed.{Each, Has, Under}
-use Rattle.sequence.proofs.Tests.{refused}
 use Rattle.sequence.proofs.Result.{run-each}
 use Rattle.updates.specs.Acts.{kindIn, namedBy, changedBy, chart}
 use Rattle.updates.proofs.Acted.{Acted, acted-insert, acted-modify, acted, lawful}

@@ -10,7 +10,7 @@ use lib.Dec.{eqb, ltb}
 use Rattle.base.specs.Choice.{pick}
 use Rattle.base.specs.Check.{ok, no, bind, fault, pass, passed}
 use Rattle.base.specs.Lists.{each}
-use Rattle.base.proofs.CheckLaws.{bind-inv, ok-inj}
+use Rattle.base.proofs.CheckLaws.{bind-inv, ok-inj, refused}
 use Rattle.skeleton.specs.File.{Field}
 use Rattle.rules.specs.Tags.{CSID}
 use Rattle.rules.specs.ByTag.{firstTag, front}
@@ -29,7 +29,7 @@ use Rattle.rules.specs.declared.Mode.{Mode}
 use Rattle.rules.specs.declared.Mode.the-variants.{InDataset, InUpdate}
 use Rattle.rules.proofs.OutcomeLaws.{andThen-inv, at-inv, done-inj}
 use Rattle.sequence.specs.Keyed.{Each}
-use Rattle.sequence.proofs.Tests.{by-bool, refused}
+use Rattle.sequence.proofs.Tests.{by-bool}
 use Rattle.sequence.proofs.EachLaws.{each-join}
 use Rattle.updates.specs.Acts.{kindIn}
 use Rattle.updates.proofs.Read.{is-read, is-sent}
