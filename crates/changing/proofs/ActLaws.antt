@@ -4,21 +4,23 @@ use mathlib.Core.Path.{_≡_, refl, sym, ap, _∙_, subst}
 use mathlib.Core.Bool.{Bool, true, false}
 use mathlib.Core.Option.{Option, some, none}
 use mathlib.Core.List.{List}
-use native.Mathlib.Omega.{arith}
 use borrow.Author.Tests.{eq-eqb, ne-eqb, lt-ltb, le-ltb}
 use lib.Dec.{eqb}
+use lib.ListN.{length}
 use Rattle.base.specs.Choice.{pick, both}
 use Rattle.base.specs.Check.{Check, ok, no, bind, fault, pass}
 use Rattle.base.specs.Lists.{gather}
 use Rattle.skeleton.specs.File.{Field}
 use Rattle.rules.specs.ByTag.{front}
-use Rattle.rules.specs.Record.{Rec, Ident, identOf, recOf, foidOf}
+use Rattle.rules.specs.Record.{Rec, Ident, identOf, keyNamed, recOf, foidOf}
 use Rattle.rules.specs.Written.{writtenFields, writtenLength, number12}
 use Rattle.rules.specs.Change.{follows, sameFoid, fitting, inserted, deleted, modified, change}
 use Rattle.rules.specs.declared.Kind.{Kind}
+use Rattle.sequence.specs.Keyed.{Under}
+use Rattle.updates.specs.Acts.{chart}
 use Rattle.items.specs.Items.{source}
 use Rattle.version.specs.Held.{Held, foidBodies}
-use Rattle.version.specs.Present.{HeldAs, ChangedTo}
+use Rattle.version.specs.Present.{HeldAs, ChangedTo, FlagsKept}
 use Rattle.version.specs.declared.Version.{Version}
 use Rattle.version.specs.declared.Present.{Present}
 use Rattle.version.specs.declared.Present.the-variants.{Absent, Here}
@@ -30,6 +32,10 @@ use Rattle.changing.specs.declared.identity.Said.{Said}
 use Rattle.changing.specs.declared.foid.Foids.{Foids}
 use Rattle.changing.specs.declared.foid.Foids.the-variants.{Same, Other}
 use Rattle.changing.proofs.SameLaws.{foidTest, same-rule}
+
+-- a workspace that was lent keeps its length
+pub still-wide : (w o : List ℕ) → length o ≡ length w → 400000 ≤ length w → 400000 ≤ length o
+still-wide w o e l = subst (λ (n : ℕ). 400000 ≤ n) (sym e) l
 
 -- ---- `fits`
 
@@ -75,18 +81,18 @@ unfolding source
 source-new d u = refl
 
 module _ (k : Kind) (fs : List Field) (s : Said) (x : Says k fs s) (d u w : List ℕ) (p : Present) where
-  pub insert-present : (v : Version) → p ≡ Here v → (o : Option Rec) → HeldAs d u w p o → ChangedTo d u w (inserted k fs o) (Refused 7 1 0)
+  pub insert-present : (v : Version) → p ≡ Here v → ((o : Option Rec) → HeldAs d u w p o → ChangedTo d u w (inserted k fs o) (Refused 7 1 0)) × FlagsKept w w
   unfolding ChangedTo inserted
-  insert-present v e o a = let t = here-stands d u w p o v e a in rw (t .is) refl
+  insert-present v e = (λ o a. let t = here-stands d u w p o v e a in rw (t .is) refl, refl)
 
-  pub insert-late : p ≡ Absent → (s .rver ≡ 1 → ⊥) → (o : Option Rec) → HeldAs d u w p o → ChangedTo d u w (inserted k fs o) (Refused 10 1 0)
+  pub insert-late : p ≡ Absent → (s .rver ≡ 1 → ⊥) → ((o : Option Rec) → HeldAs d u w p o → ChangedTo d u w (inserted k fs o) (Refused 10 1 0)) × FlagsKept w w
   unfolding ChangedTo inserted
-  insert-late e n o a = rw (absent-none d u w p o e a, ← x .rver, ne-eqb (s .rver) 1 n) refl
+  insert-late e n = (λ o a. rw (absent-none d u w p o e a, ← x .rver, ne-eqb (s .rver) 1 n) refl, refl)
 
-  pub insert-made : p ≡ Absent → s .rver ≡ 1 → (w' : List ℕ) (c : Changed) → ChangedTo d u w' (fitting (recOf k fs)) c
-      → (o : Option Rec) → HeldAs d u w p o → ChangedTo d u w' (inserted k fs o) c
+  pub insert-made : p ≡ Absent → s .rver ≡ 1 → (w' : List ℕ) (c : Changed) → ChangedTo d u w' (fitting (recOf k fs)) c → FlagsKept w w'
+      → ((o : Option Rec) → HeldAs d u w p o → ChangedTo d u w' (inserted k fs o) c) × FlagsKept w w'
   unfolding inserted
-  insert-made e n w' c y o a = rw (absent-none d u w p o e a, ← x .rver, n) y
+  insert-made e n w' c y f = (λ o a. rw (absent-none d u w p o e a, ← x .rver, n) y, f)
 
 -- ---- `follows`
 
@@ -134,48 +140,57 @@ module _ (s : Said) (p : Present) (k : Kind) (fs : List Field) (d u w : List ℕ
 -- ---- `modify`
 
 module _ (k : Kind) (fs : List Field) (s : Said) (x : Says k fs s) (d u w : List ℕ) (p : Present) where
-  pub modify-absent : p ≡ Absent → (o : Option Rec) → HeldAs d u w p o → ChangedTo d u w (modified k fs o) (Refused 9 1 0)
+  pub modify-absent : p ≡ Absent → ((o : Option Rec) → HeldAs d u w p o → ChangedTo d u w (modified k fs o) (Refused 9 1 0)) × FlagsKept w w
   unfolding ChangedTo modified
-  modify-absent e o a = rw (absent-none d u w p o e a) refl
+  modify-absent e = (λ o a. rw (absent-none d u w p o e a) refl, refl)
 
   module _ (v : Version) (e : p ≡ Here v) (t : Bool) (is : t ≡ both (eqb (s .rver) (v .rver + 1)) (eqb (s .code) (v .code))) where
-    pub modify-not : t ≡ false → (o : Option Rec) → HeldAs d u w p o → ChangedTo d u w (modified k fs o) (Refused 10 1 0)
+    pub modify-not : t ≡ false → ((o : Option Rec) → HeldAs d u w p o → ChangedTo d u w (modified k fs o) (Refused 10 1 0)) × FlagsKept w w
     unfolding ChangedTo modified bind
-    modify-not y o a =
-        let z = here-stands d u w p o v e a in
-        rw (z .is, follows-not k fs s x d u w v (z .old) (z .held) t is y) refl
+    modify-not y = (
+      λ o a. let z = here-stands d u w p o v e a in rw (z .is, follows-not k fs s x d u w v (z .old) (z .held) t is y) refl,
+      refl,
+    )
 
     module _ (y : t ≡ true) (f : Foids) (ef : f ≡ sameFrom (gather foidOf (foidBodies d u v)) 1 fs) where
       foid-tested : (o : Option Rec) (z : Stands d u w p o v) → sameFoid 1 fs (z .old) ≡ foidTest f
       foid-tested o z = same-rule 1 fs (z .old) ∙ ap foidTest (ap (λ (b : List ℕ). sameFrom b 1 fs) (z .held .foid) ∙ sym ef)
 
-      pub modify-other : (i : ℕ) → f ≡ Other i → (o : Option Rec) → HeldAs d u w p o → ChangedTo d u w (modified k fs o) (Refused 10 i 0)
+      pub modify-other : (i : ℕ) → f ≡ Other i → ((o : Option Rec) → HeldAs d u w p o → ChangedTo d u w (modified k fs o) (Refused 10 i 0)) × FlagsKept w w
       unfolding ChangedTo modified bind
-      modify-other i g o a =
-          let z = here-stands d u w p o v e a in
-          rw (z .is, follows-pass k fs s x d u w v (z .old) (z .held) t is y, foid-tested o z, g) refl
+      modify-other i g = (
+        λ o a. let z = here-stands d u w p o v e a in
+            rw (z .is, follows-pass k fs s x d u w v (z .old) (z .held) t is y, foid-tested o z, g) refl,
+        refl,
+      )
 
-      pub modify-made : f ≡ Same → (w' : List ℕ) (c : Changed) → ((r : Rec) → Held d u w v r → ChangedTo d u w' (reworked (s .rver) fs r) c)
-          → (o : Option Rec) → HeldAs d u w p o → ChangedTo d u w' (modified k fs o) c
+      pub modify-made : f ≡ Same → (w' : List ℕ) (c : Changed) → ((r : Rec) → Held d u w v r → ChangedTo d u w' (reworked (s .rver) fs r) c) × FlagsKept w w'
+          → ((o : Option Rec) → HeldAs d u w p o → ChangedTo d u w' (modified k fs o) c) × FlagsKept w w'
       unfolding modified reworked bind
-      modify-made g w' c made o a =
-          let z = here-stands d u w p o v e a in
-          rw (z .is, follows-pass k fs s x d u w v (z .old) (z .held) t is y, foid-tested o z, g, ← x .rver) (made (z .old) (z .held))
+      modify-made g w' c made = (
+        λ o a. let z = here-stands d u w p o v e a in
+            rw (z .is, follows-pass k fs s x d u w v (z .old) (z .held) t is y, foid-tested o z, g, ← x .rver) (made .0 (z .old) (z .held)),
+        made .1,
+      )
 
 -- ---- `change`
 
-pub changed-as : (d u w : List ℕ) (c : Changed) (a b : Check (Option Rec)) → a ≡ b → ChangedTo d u w b c → ChangedTo d u w a c
-changed-as d u w c a b e x = subst (λ (t : Check (Option Rec)). ChangedTo d u w t c) (sym e) x
+module _ (k : Kind) (fs : List Field) (s : Said) (x : Says k fs s) (d u w o : List ℕ) (p : Present) (c : Changed) where
+  -- what an update record makes of what stands under its key, where it is what `act` makes of it
+  changed-by : (act : Option Rec → Check (Option Rec)) → ((r : Option Rec) → change k fs r ≡ act r)
+      → ((r : Option Rec) → HeldAs d u w p r → ChangedTo d u o (act r) c) × FlagsKept w o
+      → ((r : Option Rec) → HeldAs d u w p r → Under chart (keyNamed k fs) r → ChangedTo d u o (change k fs r) c) × FlagsKept w o
+  changed-by act e y = (λ r a n. subst (λ (t : Check (Option Rec)). ChangedTo d u o t c) (sym (e r)) (y .0 r a), y .1)
 
-module _ (k : Kind) (fs : List Field) (s : Said) (x : Says k fs s) (o : Option Rec) where
-  pub change-insert : s .ruin ≡ 1 → change k fs o ≡ inserted k fs o
-  unfolding change
-  change-insert z = rw (← x .ruin, z) refl
+  pub change-insert : s .ruin ≡ 1 → ((r : Option Rec) → HeldAs d u w p r → ChangedTo d u o (inserted k fs r) c) × FlagsKept w o
+      → ((r : Option Rec) → HeldAs d u w p r → Under chart (keyNamed k fs) r → ChangedTo d u o (change k fs r) c) × FlagsKept w o
+  change-insert z y = changed-by (inserted k fs) (λ r. unfold change in rw (← x .ruin, z) refl) y
 
-  pub change-delete : s .ruin ≡ 2 → change k fs o ≡ deleted k fs o
-  unfolding change
-  change-delete z = rw (← x .ruin, z) refl
+  pub change-delete : s .ruin ≡ 2 → ((r : Option Rec) → HeldAs d u w p r → ChangedTo d u o (deleted k fs r) c) × FlagsKept w o
+      → ((r : Option Rec) → HeldAs d u w p r → Under chart (keyNamed k fs) r → ChangedTo d u o (change k fs r) c) × FlagsKept w o
+  change-delete z y = changed-by (deleted k fs) (λ r. unfold change in rw (← x .ruin, z) refl) y
 
-  pub change-modify : (s .ruin ≡ 1 → ⊥) → (s .ruin ≡ 2 → ⊥) → change k fs o ≡ modified k fs o
-  unfolding change
-  change-modify a b = rw (← x .ruin, ne-eqb (s .ruin) 1 a, ne-eqb (s .ruin) 2 b) refl
+  pub change-modify : (s .ruin ≡ 1 → ⊥) → (s .ruin ≡ 2 → ⊥) → ((r : Option Rec) → HeldAs d u w p r → ChangedTo d u o (modified k fs r) c) × FlagsKept w o
+      → ((r : Option Rec) → HeldAs d u w p r → Under chart (keyNamed k fs) r → ChangedTo d u o (change k fs r) c) × FlagsKept w o
+  change-modify a b y =
+      changed-by (modified k fs) (λ r. unfold change in rw (← x .ruin, ne-eqb (s .ruin) 1 a, ne-eqb (s .ruin) 2 b) refl) y

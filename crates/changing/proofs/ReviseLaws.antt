@@ -22,7 +22,7 @@ use Rattle.updates.specs.Acts.{chart}
 use Rattle.sound.proofs.Changed.{key-names}
 use Rattle.emission.proofs.SmallLaws.{small-attr, small-inas, small-coord, small-spas}
 use Rattle.version.specs.Held.{All, RightFoid, foidBodies, HeldParts, Held}
-use Rattle.version.specs.Present.{HeldAs, ChangedTo}
+use Rattle.version.specs.Present.{HeldAs, ChangedTo, FlagsKept}
 use Rattle.version.specs.declared.Version.{Version}
 use Rattle.version.specs.declared.Present.{Present}
 use Rattle.version.specs.declared.Present.the-variants.{Here}
@@ -80,18 +80,19 @@ held-revised d u w o v e n r q h s p =
 
 -- ---- `revise`
 
-module _ (d u w : List ℕ) (v : Version) (fs : List Field) (o : List ℕ) (a : Acts) (acted : ActedBy d u w v (actFields (sent fs) 1 fs) o a) where
-  pub revise-stops : (n i j : ℕ) → a ≡ Stopped n i j → (rver : ℕ) (r : Rec) → Held d u w v r → ChangedTo d u o (reworked rver fs r) (Refused n i j)
+module _ (d u w : List ℕ) (v : Version) (fs : List Field) (o : List ℕ) (a : Acts) (acted : ActedBy d u w v (actFields (sent fs) 1 fs) o a × FlagsKept w o) where
+  pub revise-stops : (n i j : ℕ) → a ≡ Stopped n i j → (rver : ℕ)
+      → ((r : Rec) → Held d u w v r → ChangedTo d u o (reworked rver fs r) (Refused n i j)) × FlagsKept w o
   unfolding ActedBy ChangedTo reworked bind
-  revise-stops n i j e rver r h =
-      let stops : ActedBy d u w v (actFields (sent fs) 1 fs) o (Stopped n i j) = subst (ActedBy d u w v (actFields (sent fs) 1 fs) o) e acted in
-      rw (stops (r .parts) (h .parts)) refl
+  revise-stops n i j e rver =
+      let stops : ActedBy d u w v (actFields (sent fs) 1 fs) o (Stopped n i j) = subst (ActedBy d u w v (actFields (sent fs) 1 fs) o) e (acted .0) in
+      (λ r h. rw (stops (r .parts) (h .parts)) refl, acted .1)
 
   module _ (b : Version) (e : a ≡ Done b) (rver : ℕ) where
     made : (r : Rec) → Held d u w v r → (q : Parts) × (actFields (sent fs) 1 fs (r .parts) ≡ ok q) × Held d u o (rverNow b rver) (revised rver q r)
     unfolding ActedBy
     made r h =
-        let (all, same) : ActedBy d u w v (actFields (sent fs) 1 fs) o (Done b) = subst (ActedBy d u w v (actFields (sent fs) 1 fs) o) e acted in
+        let (all, same) : ActedBy d u w v (actFields (sent fs) 1 fs) o (Done b) = subst (ActedBy d u w v (actFields (sent fs) 1 fs) o) e (acted .0) in
         let (q, x, y) = all (r .parts) (h .parts) in
         (q, x, held-revised d u w o v b rver r q h same y)
 
@@ -99,9 +100,9 @@ module _ (d u w : List ℕ) (v : Version) (fs : List Field) (o : List ℕ) (a : 
     revise-holds g = let (q, x, y) = made (g .0) (g .1) in (revised rver q (g .0), y)
 
     pub revise-made : (c : Changed) → ((r : Rec) → Held d u o (rverNow b rver) r → ChangedTo d u o (fitting r) c)
-        → (r : Rec) → Held d u w v r → ChangedTo d u o (reworked rver fs r) c
+        → ((r : Rec) → Held d u w v r → ChangedTo d u o (reworked rver fs r) c) × FlagsKept w o
     unfolding reworked bind
-    revise-made c f r h = let (q, x, y) = made r h in rw x (f (revised rver q r) y)
+    revise-made c f = (λ r h. let (q, x, y) = made r h in rw x (f (revised rver q r) y), acted .1)
 
 -- ---- what `modify` stands on
 

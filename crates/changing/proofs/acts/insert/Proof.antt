@@ -1,9 +1,10 @@
 -- `insert` meets its contract. Assumes nothing.
-use Rattle.changing.proofs.ActLaws.{source-new, insert-late, insert-present, insert-made}
+use Rattle.changing.proofs.ActLaws.{still-wide, source-new, insert-late, insert-present, insert-made}
 use Rattle.changing.proofs.PassedLaws.{ruin-one}
-use mathlib.Core.Path.{refl}
+use Prim.Native.Nat.{_+_}
+use Rattle.skeleton.specs.Place.{between, fieldsAt}
+use Rattle.rules.specs.Record.{recOf}
 use Rattle.stock.specs.Stored.{inserted as inserts}
-use native.Mathlib.Omega.{arith}
 use borrow.Author.Needs.{needs}
 use Rattle.changing.proofs.acts.insert.Statement.{statement}
 use Rattle.changing.proofs.acts.insert.Tie as tie
@@ -15,22 +16,22 @@ enum-told-2 : tie.Need-enum-told-2
 enum-told-2 c = search needs
 
 returns : tie.Need-returns
-returns c = (insert-late _ _ _ (c .before .before .before .before .before .before .before .pre .1) _ _ _ _ (c .before .before .enum-told2 .given .1) (c .if1 .taken), refl)
+returns c = let t = c .before .before .before .before .before .before .before in insert-late (t .args .k) (fieldsAt (between (t .args .u .now) (t .args .at) (t .args .at + t .args .len)) (t .args .h) 24) (t .args .s) (t .pre .1) (t .args .d .now) (t .args .u .now) (t .args .work .now) (t .args .p) (c .before .before .enum-told2 .given .1) (c .if1 .taken)
 
 load-record-requires : tie.Need-load-record-requires
-load-record-requires c κs = let g = c .before .before .before .before .before .before .before .before .pre in (g .0 .there, g .0 .new, g .0 .wide, inserts (g .0 .passed) (ruin-one _ _ (g .0 .passed) _ (g .1) (g .2)))
+load-record-requires c κs = let t = c .before .before .before .before .before .before .before .before in let g = t .pre .0 in (g .there, g .new, g .wide, inserts (g .passed) (ruin-one (t .args .k) (fieldsAt (between (t .args .u .now) (t .args .at) (t .args .at + t .args .len)) (t .args .h) 24) (g .passed) (t .args .s) (t .pre .1) (t .pre .2)))
 
 fits-requires : tie.Need-fits-requires
-fits-requires c κs = let g = c .before .before .before .before .before .before .before .before .before .before .before .before .pre in let l = c .before .before .before .load-record in ((g .0 .old, g .0 .new, omega (arith, l .kept .1 .1 .1 .1 .1 .1 .0, g .0 .wide)), (_, l .ensures .0 _ _ (source-new _ _)))
+fits-requires c κs = let t = c .before .before .before .before .before .before .before .before .before .before .before .before in let l = c .before .before .before .load-record in ((t .pre .0 .old, t .pre .0 .new, still-wide (t .args .work .now) (l .last .1 .1 .1 .1 .1 .1 .0) (l .kept .1 .1 .1 .1 .1 .1 .0) (t .pre .0 .wide)), (recOf (t .args .k) (fieldsAt (between (t .args .u .now) (t .args .at) (t .args .at + t .args .len)) (t .args .h) 24), l .ensures .0 (t .args .d .now) (t .args .u .now) (source-new (t .args .d .now) (t .args .u .now))))
 
 returns-2 : tie.Need-returns-2
-returns-2 c = (insert-present _ _ _ (c .before .before .before .before .before .pre .1) _ _ _ _ _ (c .enum-told .given .1), refl)
+returns-2 c = let t = c .before .before .before .before .before in insert-present (t .args .k) (fieldsAt (between (t .args .u .now) (t .args .at) (t .args .at + t .args .len)) (t .args .h) 24) (t .args .s) (t .pre .1) (t .args .d .now) (t .args .u .now) (t .args .work .now) (t .args .p) _ (c .enum-told .given .1)
 
 same-length : tie.Need-same-length
 same-length c = search needs
 
 returns-3 : tie.Need-returns-3
-returns-3 c = let l = c .before .before .before .before .load-record in (insert-made _ _ _ (c .before .before .before .before .before .before .before .before .before .before .before .before .before .pre .1) _ _ _ _ (c .before .before .before .before .before .before .before .before .enum-told2 .given .1) (c .before .before .before .before .before .before .if1 .left) _ _ (c .fits2 .ensures _ (l .ensures .0 _ _ (source-new _ _))), l .ensures .1)
+returns-3 c = let t = c .before .before .before .before .before .before .before .before .before .before .before .before .before in let l = c .before .before .before .before .load-record in insert-made (t .args .k) (fieldsAt (between (t .args .u .now) (t .args .at) (t .args .at + t .args .len)) (t .args .h) 24) (t .args .s) (t .pre .1) (t .args .d .now) (t .args .u .now) (t .args .work .now) (t .args .p) (c .before .before .before .before .before .before .before .before .enum-told2 .given .1) (c .before .before .before .before .before .before .if1 .left) (l .last .1 .1 .1 .1 .1 .1 .0) (c .fits2 .result) (c .fits2 .ensures (recOf (t .args .k) (fieldsAt (between (t .args .u .now) (t .args .at) (t .args .at + t .args .len)) (t .args .h) 24)) (l .ensures .0 (t .args .d .now) (t .args .u .now) (source-new (t .args .d .now) (t .args .u .now)))) (l .ensures .1)
 
 pub insert-spec : {M : Type 1} → statement M
 insert-spec =

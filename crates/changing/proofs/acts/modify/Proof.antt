@@ -2,8 +2,8 @@
 use Rattle.changing.proofs.PassedLaws.{passed-foids}
 use Rattle.changing.proofs.ActLaws.{modify-absent, modify-not, modify-other, modify-made}
 use Rattle.changing.proofs.ReviseLaws.{modify-held, modify-right, modify-modifies, modify-small}
-use mathlib.Core.Path.{refl}
-use native.Mathlib.Omega.{arith}
+use Prim.Native.Nat.{_+_}
+use Rattle.skeleton.specs.Place.{between, fieldsAt}
 use borrow.Author.Needs.{needs}
 use Rattle.changing.proofs.acts.modify.Statement.{statement}
 use Rattle.changing.proofs.acts.modify.Tie as tie
@@ -18,31 +18,31 @@ follows-requires : tie.Need-follows-requires
 follows-requires c κs = search needs
 
 same-foid-requires : tie.Need-same-foid-requires
-same-foid-requires c κs = let g = c .before .before .before .before .before .before .before .before .pre in (g .0 .0 .there, g .0 .0 .old, g .0 .0 .new, passed-foids _ _ (g .0 .0 .passed), modify-right _ _ _ _ _ _ _ _ _ _ (g .0) (g .1) (c .before .before .before .p .given .1))
+same-foid-requires c κs = let t = c .before .before .before .before .before .before .before .before in let g = t .pre .0 .0 in (g .there, g .old, g .new, passed-foids (t .args .k) (fieldsAt (between (t .args .u .now) (t .args .at) (t .args .at + t .args .len)) (t .args .h) 24) (g .passed), modify-right (t .args .d .now) (t .args .u .now) (t .args .work .now) (t .args .at) (t .args .len) (t .args .h) (t .args .k) (t .args .s) (t .args .p) _ (t .pre .0) (t .pre .1) (c .before .before .before .p .given .1))
 
 enum-known-i : tie.Need-enum-known-i
 enum-known-i c = search needs
 
 returns : tie.Need-returns
-returns c = (modify-other _ _ _ (c .before .before .before .before .before .before .before .before .before .before .before .before .pre .0 .1) _ _ _ _ _ (c .before .before .before .before .before .before .before .p .given .1) _ (c .before .before .before .before .before .follows .ensures) (c .before .before .before .before .if1 .taken) _ (c .before .before .before .same-foid .ensures) _ (c .before .i .given .1), refl)
+returns c = let t = c .before .before .before .before .before .before .before .before .before .before .before .before in modify-other (t .args .k) (fieldsAt (between (t .args .u .now) (t .args .at) (t .args .at + t .args .len)) (t .args .h) 24) (t .args .s) (t .pre .0 .1) (t .args .d .now) (t .args .u .now) (t .args .work .now) (t .args .p) _ (c .before .before .before .before .before .before .before .p .given .1) (c .before .before .before .before .before .follows .result) (c .before .before .before .before .before .follows .ensures) (c .before .before .before .before .if1 .taken) (c .before .before .before .same-foid .result) (c .before .before .before .same-foid .ensures) _ (c .before .i .given .1)
 
 enum-told-2 : tie.Need-enum-told-2
 enum-told-2 c = search needs
 
 revise-requires : tie.Need-revise-requires
-revise-requires c κs = let g = c .before .before .before .before .before .before .before .before .before .before .before .before .pre in let e = c .before .before .before .before .before .before .before .p .given .1 in ((modify-modifies _ _ _ _ _ _ _ _ _ _ (g .0) (g .1) e, g .0 .0 .old, g .0 .0 .new, g .0 .0 .wide, modify-small _ _ _ _ _ _ _ _ _ _ (g .0) (g .1) e), modify-held _ _ _ _ _ _ _ _ _ _ (g .0) (g .1) e)
+revise-requires c κs = let t = c .before .before .before .before .before .before .before .before .before .before .before .before in let g = t .pre .0 .0 in let e = c .before .before .before .before .before .before .before .p .given .1 in ((modify-modifies (t .args .d .now) (t .args .u .now) (t .args .work .now) (t .args .at) (t .args .len) (t .args .h) (t .args .k) (t .args .s) (t .args .p) _ (t .pre .0) (t .pre .1) e, g .old, g .new, g .wide, modify-small (t .args .d .now) (t .args .u .now) (t .args .work .now) (t .args .at) (t .args .len) (t .args .h) (t .args .k) (t .args .s) (t .args .p) _ (t .pre .0) (t .pre .1) e), modify-held (t .args .d .now) (t .args .u .now) (t .args .work .now) (t .args .at) (t .args .len) (t .args .h) (t .args .k) (t .args .s) (t .args .p) _ (t .pre .0) (t .pre .1) e)
 
 same-length : tie.Need-same-length
 same-length c = search needs
 
 returns-2 : tie.Need-returns-2
-returns-2 c = let l = c .before .before .revise in (modify-made _ _ _ (c .before .before .before .before .before .before .before .before .before .before .before .before .before .before .before .pre .0 .1) _ _ _ _ _ (c .before .before .before .before .before .before .before .before .before .before .p .given .1) _ (c .before .before .before .before .before .before .before .before .follows .ensures) (c .before .before .before .before .before .before .before .if1 .taken) _ (c .before .before .before .before .before .before .same-foid .ensures) (c .before .before .before .before .enum-told2 .given .1) _ _ (l .ensures .0), l .ensures .1)
+returns-2 c = let t = c .before .before .before .before .before .before .before .before .before .before .before .before .before .before .before in let l = c .before .before .revise in modify-made (t .args .k) (fieldsAt (between (t .args .u .now) (t .args .at) (t .args .at + t .args .len)) (t .args .h) 24) (t .args .s) (t .pre .0 .1) (t .args .d .now) (t .args .u .now) (t .args .work .now) (t .args .p) _ (c .before .before .before .before .before .before .before .before .before .before .p .given .1) (c .before .before .before .before .before .before .before .before .follows .result) (c .before .before .before .before .before .before .before .before .follows .ensures) (c .before .before .before .before .before .before .before .if1 .taken) (c .before .before .before .before .before .before .same-foid .result) (c .before .before .before .before .before .before .same-foid .ensures) (c .before .before .before .before .enum-told2 .given .1) (l .last .1 .1 .1 .1 .1 .1 .1 .0) (l .result) (l .ensures)
 
 returns-3 : tie.Need-returns-3
-returns-3 c = (modify-absent _ _ _ (c .before .before .before .before .before .pre .0 .1) _ _ _ _ (c .enum-told .given .1), refl)
+returns-3 c = let t = c .before .before .before .before .before in modify-absent (t .args .k) (fieldsAt (between (t .args .u .now) (t .args .at) (t .args .at + t .args .len)) (t .args .h) 24) (t .args .s) (t .pre .0 .1) (t .args .d .now) (t .args .u .now) (t .args .work .now) (t .args .p) (c .enum-told .given .1)
 
 returns-4 : tie.Need-returns-4
-returns-4 c = (modify-not _ _ _ (c .before .before .before .before .before .before .before .before .pre .0 .1) _ _ _ _ _ (c .before .before .before .p .given .1) _ (c .before .follows .ensures) (c .if1 .left), refl)
+returns-4 c = let t = c .before .before .before .before .before .before .before .before in modify-not (t .args .k) (fieldsAt (between (t .args .u .now) (t .args .at) (t .args .at + t .args .len)) (t .args .h) 24) (t .args .s) (t .pre .0 .1) (t .args .d .now) (t .args .u .now) (t .args .work .now) (t .args .p) _ (c .before .before .before .p .given .1) (c .before .follows .result) (c .before .follows .ensures) (c .if1 .left)
 
 pub modify-spec : {M : Type 1} → statement M
 modify-spec =
