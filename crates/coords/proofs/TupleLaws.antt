@@ -9,7 +9,7 @@ use lib.ListN.{length, take, drop, length-take, length-drop, take-append-drop}
 use Rattle.base.specs.Lists.{each}
 use Rattle.base.proofs.ListLaws.{each-append, each-take, each-drop}
 use Rattle.fields.specs.Table.{headOf, tupleOf}
-use Rattle.fields.specs.Content.{many, fill}
+use Rattle.fields.specs.Content.{many, fill, tuples}
 use Rattle.fields.specs.Places.{endingAt, allRaw}
 use Rattle.fields.specs.declared.Format.the-variants.{C2il}
 use Rattle.fields.proofs.EvenLaws.{raw-fill, even-length, raw-take, raw-drop}

@@ -19,7 +19,6 @@ use Rattle.rules.specs.File.{datasetTest, updateTest, through, ending, taken, S
 use Rattle.rules.specs.declared.Mode.the-variants.{InUpdate}
 use Rattle.rules.proofs.OutcomeLaws.{andThen-inv, at-inv, done-inj}
 use Rattle.sequence.proofs.Tests.{by-bool}
-use Rattle.sequence.proofs.Tests as tests
 
 -- a refusal is not done
 pub refuses : {A X : Type 0} {file n : ℕ} {a : A} {x : Fault} → refused file n x ≡ done a → X

@@ -9,7 +9,8 @@ use Rattle.base.specs.Choice.{pick}
 use Rattle.base.specs.Check.{ok, no, bind, fault, Passed, pass}
 use Rattle.base.specs.Lists.{each}
 use Rattle.base.specs.Keys.{among}
-use Rattle.base.proofs.CheckLaws.{bind-inv, ok-inj, refused}
+use Rattle.base.proofs.CheckLaws.{bind-inv, ok-inj}
+use Rattle.base.proofs.CheckLaws as checks
 use Rattle.skeleton.specs.File.{Field}
 use Rattle.rules.specs.Tags.{CSID}
 use Rattle.rules.specs.ByTag.{firstTag}
@@ -33,15 +34,15 @@ use Rattle.updates.proofs.Steps.{placed}
 -- a kind that passes 4 has a rank that is not below the last one's
 number4-rank : (least : ℕ) (fs : List Field) (k : Kind) → number4 InDataset least fs ≡ ok k → least ≤ rank k
 unfolding number4
-number4-rank least [] k e = refused e
+number4-rank least [] k e = checks.refused e
 number4-rank least (f ∷ fs) k e = go (kindOf (f .tag)) e
   where
     go : (m : Option Kind)
         → onKind m (λ k. pick (ltb (rank k) least) (no (fault 4 1 0)) (bind (fieldsStand InDataset k (f .body) fs) (λ _. ok k))) ≡ ok k → least ≤ rank k
-    go none x = refused x
+    go none x = checks.refused x
     go (some j) x =
         by-bool (ltb (rank j) least)
-        (λ h. refused (rw h at x))
+        (λ h. checks.refused (rw h at x))
         (λ h. let (t, y, z) = bind-inv (fieldsStand InDataset j (f .body) fs) (λ _. ok j) k (rw h at x) in
         let w : j ≡ k = ok-inj j k z in
         rw (← w) (ltb-false (rank j) least h))
@@ -54,7 +55,7 @@ record-rank least keys fs r e =
     let (t, c, d) = bind-inv (number5 InDataset k fs) _ r b in
     let (s, g, h) = bind-inv (number6 InDataset k fs) _ r d in
     by-bool (among (keyOf (recOf k fs)) keys)
-    (λ m. refused (rw m at h))
+    (λ m. checks.refused (rw m at h))
     (λ m. let (w, x, y) = bind-inv (number7 fs) (λ _. ok (recOf k fs)) r (rw m at h) in
     rw (← ok-inj (recOf k fs) r y) (number4-rank least fs k a))
 
