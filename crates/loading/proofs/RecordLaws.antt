@@ -6,7 +6,7 @@ use mathlib.Core.Option.{some}
 use mathlib.Core.List.{List, [], _∷_}
 use native.Mathlib.Omega.{arith}
 use borrow.Author.Tests.{eq-eqb}
-use lib.ListN.{length}
+use lib.ListN.{length, drop}
 use lib.Dec.{eqb}
 use Rattle.skeleton.specs.Emit.{size, sizes}
 use Rattle.skeleton.specs.File.{Field}
@@ -186,9 +186,12 @@ module _ (b : List ℕ) (at len : ℕ) (h : Shape) (k : Kind) (w : List ℕ)
             })
 
         pub record-held : (x : ℕ) (o : List ℕ) (r : Version) → TookAll b x (fieldsAt (between b at (at + len)) h next) w v o r
-            → (d u : List ℕ) → source x d u ≡ b → Held d u o r (recOf k (fieldsAt (between b at (at + len)) h 24))
-        record-held x o r t d u z =
-            let i : Ident = identOf k (between whole-record start end) in
-            let start-held : Held d u w v (blank k i) = subst (λ (a : Version). Held d u w a (blank k i)) (sym ev) (blank-held d u w k i) in
-            let rows = each-map later (λ f q. q .row) (facts .fits) in
-            subst (Held d u o r) (taken-record k ident (facts .named) later (facts .whole) rows ∙ ap (recOf k) (sym all-are)) (t .held d u (blank k i) z start-held)
+            → ((d u : List ℕ) → source x d u ≡ b → Held d u o r (recOf k (fieldsAt (between b at (at + len)) h 24))) × (drop 386000 o ≡ drop 386000 w)
+        record-held x o r t = (held, t .others)
+          where
+            held : (d u : List ℕ) → source x d u ≡ b → Held d u o r (recOf k (fieldsAt (between b at (at + len)) h 24))
+            held d u z =
+                let i : Ident = identOf k (between whole-record start end) in
+                let start-held : Held d u w v (blank k i) = subst (λ (a : Version). Held d u w a (blank k i)) (sym ev) (blank-held d u w k i) in
+                let rows = each-map later (λ f q. q .row) (facts .fits) in
+                subst (Held d u o r) (taken-record k ident (facts .named) later (facts .whole) rows ∙ ap (recOf k) (sym all-are)) (t .held d u (blank k i) z start-held)

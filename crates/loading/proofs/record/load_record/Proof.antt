@@ -36,10 +36,10 @@ part-open-version-end : tie.Need-part-open-version-end
 part-open-version-end c = record-inside _ _ _ _ _ (c .before .before .before .before .before .before .before .args .work .now) (c .before .before .before .before .before .before .before .pre)
 
 open-version-requires : tie.Need-open-version-requires
-open-version-requires c κs = ident-ready _ _ _ _ _ (c .before .before .before .before .before .before .before .before .args .work .now) (c .before .before .before .before .before .before .before .before .pre) (λ i. omega (arith, c .before .before .before .before .before .before .before .shared-slice-known .given i)) _ (c .before .before .before .before .place-at .ensures) _ _ _ _ (c .before .before .start .given .1)
+open-version-requires c κs = let s = c .before .before .before .before .before .before .before .before in ident-ready (s .args .b .now) (s .args .at) (s .args .len) (s .args .h) (s .args .k) (s .args .work .now) (s .pre) (λ i. omega (arith, c .before .before .before .before .before .before .before .shared-slice-known .given i)) (c .before .before .before .before .place-at .result) (c .before .before .before .before .place-at .ensures) _ _ _ _ (c .before .before .start .given .1)
 
 load-fields-requires : tie.Need-load-fields-requires
-load-fields-requires c κs = (record-bounded _ _ _ _ _ (c .before .before .before .before .before .before .before .before .before .before .args .work .now) (c .before .before .before .before .before .before .before .before .before .before .pre), later-ready _ _ _ _ _ (c .before .before .before .before .before .before .before .before .before .before .args .work .now) (c .before .before .before .before .before .before .before .before .before .before .pre) (λ i. omega (arith, c .before .before .before .before .before .before .before .before .before .shared-slice-known .given i)) _ (c .before .before .before .before .before .before .place-at .ensures) _ _ _ _ (c .before .before .before .before .start .given .1) _ (c .before .open-version .ensures))
+load-fields-requires c κs = let s = c .before .before .before .before .before .before .before .before .before .before in (record-bounded (s .args .b .now) (s .args .at) (s .args .len) (s .args .h) (s .args .k) (s .args .work .now) (s .pre), later-ready (s .args .b .now) (s .args .at) (s .args .len) (s .args .h) (s .args .k) (s .args .work .now) (s .pre) (λ i. omega (arith, c .before .before .before .before .before .before .before .before .before .shared-slice-known .given i)) (c .before .before .before .before .before .before .place-at .result) (c .before .before .before .before .before .before .place-at .ensures) _ _ _ _ (c .before .before .before .before .start .given .1) (c .before .open-version .result) (c .before .open-version .ensures))
 
 enum-told : tie.Need-enum-told
 enum-told c = search needs
@@ -48,7 +48,7 @@ same-length : tie.Need-same-length
 same-length c = search needs
 
 returns : tie.Need-returns
-returns c = (record-held _ _ _ _ _ (c .before .before .before .before .before .before .before .before .before .before .before .before .before .args .work .now) (c .before .before .before .before .before .before .before .before .before .before .before .before .before .pre) (λ i. omega (arith, c .before .before .before .before .before .before .before .before .before .before .before .before .shared-slice-known .given i)) _ (c .before .before .before .before .before .before .before .before .before .place-at .ensures) _ _ _ _ (c .before .before .before .before .before .before .before .start .given .1) _ (c .before .before .before .before .open-version .ensures) _ _ _ (c .before .before .load-fields .ensures), c .before .before .load-fields .ensures .others)
+returns c = let s = c .before .before .before .before .before .before .before .before .before .before .before .before .before in let l = c .before .before .load-fields in record-held (s .args .b .now) (s .args .at) (s .args .len) (s .args .h) (s .args .k) (s .args .work .now) (s .pre) (λ i. omega (arith, c .before .before .before .before .before .before .before .before .before .before .before .before .shared-slice-known .given i)) (c .before .before .before .before .before .before .before .before .before .place-at .result) (c .before .before .before .before .before .before .before .before .before .place-at .ensures) _ _ _ _ (c .before .before .before .before .before .before .before .start .given .1) (c .before .before .before .before .open-version .result) (c .before .before .before .before .open-version .ensures) (s .args .x) (l .last .1 .1 .1 .1 .1 .1 .1 .0) (l .result) (l .ensures)
 
 returns-2 : tie.Need-returns-2
 returns-2 c = (λ d u z. record-some _ _ _ _ _ (c .before .before .before .before .before .before .args .work .now) (c .before .before .before .before .before .before .pre) (λ i. omega (arith, c .before .before .before .before .before .shared-slice-known .given i)) _ (c .before .before .place-at .ensures) (c .enum-told .given .1), record-some _ _ _ _ _ (c .before .before .before .before .before .before .args .work .now) (c .before .before .before .before .before .before .pre) (λ i. omega (arith, c .before .before .before .before .before .shared-slice-known .given i)) _ (c .before .before .place-at .ensures) (c .enum-told .given .1))
