@@ -9,7 +9,7 @@ use borrow.Author.Tests.{eqb-true, eq-eqb}
 use Rattle.base.specs.Choice.{pick}
 use Rattle.base.specs.Check.{ok, inField, pass}
 use Rattle.base.proofs.ChoiceLaws.{both-hold}
-use Rattle.base.proofs.CheckLaws.{bind-inv, ok-inj, pass-inv, refused}
+use Rattle.base.proofs.CheckLaws.{bind-inv, ok-inj, pass-inv, refused, field-inv}
 use Rattle.base.proofs.OptionLaws.{never, some-inj}
 use Rattle.skeleton.specs.File.{Field}
 use Rattle.fields.specs.Table.{headOf}
@@ -35,7 +35,6 @@ use Rattle.updates.specs.Acts.{kindIn, namedBy, chart}
 use Rattle.updates.proofs.Acted.{Acted, acted-insert, acted-modify}
 use Rattle.sound.specs.Sound.{SoundParts, SoundRec, identVals}
 use Rattle.sound.proofs.Bodies.{each-body, bodies-skip}
-use Rattle.sound.proofs.Stand.{field-inv}
 use Rattle.sound.proofs.Idents.{identNums, ident-read}
 use Rattle.sound.proofs.Records.{Stood, Through, through, ruin-byte}
 use Rattle.sound.proofs.Parts.{record-sound}
