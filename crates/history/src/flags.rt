@@ -2,6 +2,7 @@
 use keys::bits::flag;
 use keys::bits::raise;
 use memory::clearing::zero_part;
+use version::areas::part;
 ghost use mathlib.Core.Path.{_≡_};
 ghost use mathlib.Core.List.{[], _++_};
 ghost use Prim.Native.Nat.{_-_, _≤_};
@@ -11,15 +12,7 @@ ghost use Rattle.keys.specs.Bits.{flagOf, raised};
 ghost use Rattle.version.specs.Areas.{flagArea};
 ghost use Rattle.history.specs.Flags.{keyFlag, Flags, Marked};
 
-// The bytes from `from` to `to`. The ends are not numbers here, which a proof about a part of a slice would count.
-fn part(s: &[u8], from: usize, to: usize) -> &[u8]
-    requires { ⌜ (from ≤ to) × (to ≤ length (now s)) ⌝ }
-    ensures { λ r. ⌜ now r ≡ take (to - from) (drop from (now (s .entry))) ⌝ }
-{
-    &s[from..to]
-}
-
-// Raises flag i of those in the bytes from `from` to `to`, which are not numbers here either.
+// Raises flag i of those in the bytes from `from` to `to`, which are not numbers here, as in `part`.
 fn raise_in(s: &mut [u8], from: usize, to: usize, i: usize)
     requires { ⌜ (from ≤ to) × (to ≤ length (now s)) ⌝ }
     ensures { λ _. ⌜ now (s .exit) ≡ take from (now (s .entry)) ++ (raised (take (to - from) (drop from (now (s .entry)))) i ++ drop (to - from) (drop from (now (s .entry)))) ⌝ }
