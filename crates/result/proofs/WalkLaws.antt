@@ -29,7 +29,6 @@ use Rattle.keys.specs.Look.{Sound}
 use Rattle.keys.proofs.FirstLaws.{first-key}
 use Rattle.stock.specs.Stock.{recIn, stockFrom, Stock}
 use Rattle.stock.proofs.StockLaws.{stock-over, stock-here, stock-more, stock-next}
-use Rattle.incoming.specs.Fitting.{Rest}
 use Rattle.incoming.proofs.FittingLaws.{rest-more}
 use Rattle.history.proofs.FindingLaws.{said}
 use Rattle.history.proofs.HereLaws.{known-stored}
