@@ -17,12 +17,15 @@ use Rattle.updates.proofs.Results.{read-sorted}
 use Rattle.sound.specs.Sound.{SoundRec}
 use Rattle.sound.proofs.Read.{read-sound}
 use Rattle.keys.specs.Look.{Sound}
-use Rattle.keys.specs.Table.{Tails}
+use Rattle.keys.specs.Listed.{keysFrom}
+use Rattle.keys.specs.Table.{Tails, Laid}
 use Rattle.keys.proofs.TableLaws.{tails-same}
 use Rattle.stock.specs.Stock.{stockFrom}
+use Rattle.version.specs.Areas.{flagArea}
 use Rattle.updater.specs.Stages.{sentFrom, Fits, Begun, Acted, Built}
 use Rattle.history.specs.Ready.{Short, Ready}
 use Rattle.history.specs.Judged.{judgedBy, AllJudged}
+use Rattle.history.specs.Flags.{Flags}
 use Rattle.history.specs.declared.judging.Judged.{Judged}
 use Rattle.history.specs.declared.judging.Judged.the-variants.{Fine, Stopped}
 use Rattle.result.specs.Composed.{ComposedBy}
@@ -87,6 +90,12 @@ module _ (f u : List ℕ) (ds us front : ℕ) (k : Begun f u ds us front) where
   module _ (w : List ℕ) (j : Judged) (a : AllJudged f ds u us w j) where
     pub fine-verdicts : j ≡ Fine → verdicts (stockFrom f ds) (sentFrom u us) ≡ done tt
     fine-verdicts x = judged-fine (verdicts (stockFrom f ds) (sentFrom u us)) (sym x ∙ a .came)
+
+    -- what `finish` stands on, in a workspace as long as it was before the verdicts
+    pub fine-finish : j ≡ Fine → (t : List ℕ) (n : ℕ) (map : List ℕ) → Laid f ds t n map → (before : List ℕ) → length w ≡ length before → 400000 ≤ length before
+        → (Begun f u ds us front × Laid f ds t n map × (400000 ≤ length w)) × ((verdicts (stockFrom f ds) (sentFrom u us) ≡ done tt) × Flags (keysFrom u us) (flagArea w))
+    fine-finish x t n map laid before same big =
+        ((k, laid, subst (λ (l : ℕ). 400000 ≤ l) (sym same) big), (fine-verdicts x, a .flags x))
 
     pub wrong-acted : (n m i t : ℕ) → j ≡ Stopped n m i t → (room size : ℕ) → 400000 ≤ size → (o o′ : List ℕ) (b : Answer) → b ≡ refusing n 2 m → Acted f u ds us front room size b o o′
     wrong-acted n m i t x room size big o o′ b s =

@@ -1,6 +1,6 @@
-use Rattle.updater.proofs.EntryLaws.{begun-sound, begun-table, begun-ready, fine-verdicts, wrong-acted}
+use Rattle.updater.proofs.EntryLaws.{begun-sound, begun-table, begun-ready, fine-finish, wrong-acted}
 use Rattle.updater.proofs.ActLaws.{acted-size}
-use native.Mathlib.Omega.{arith}
+use lib.ListN.{length}
 use borrow.Author.Needs.{needs}
 use Rattle.updater.proofs.act.Statement.{statement}
 use Rattle.updater.proofs.act.Tie as tie
@@ -27,7 +27,7 @@ slice-aggregate-spread-2 : tie.Need-slice-aggregate-spread-2
 slice-aggregate-spread-2 c = search needs
 
 spread-requires : tie.Need-spread-requires
-spread-requires c κs = let s = c .before .before .before .before .before .before in (search needs, begun-sound _ _ _ _ _ (s .pre .0), begun-table _ _ _ _ _ (s .pre .0) 4096)
+spread-requires c κs = let s = c .before .before .before .before .before .before in (search needs, begun-sound (s .args .f .now) (s .args .u .now) (s .args .ds) (s .args .us) (s .args .front) (s .pre .0), begun-table (s .args .f .now) (s .args .u .now) (s .args .ds) (s .args .us) (s .args .front) (s .pre .0) 4096)
 
 slice-aggregate-judge : tie.Need-slice-aggregate-judge
 slice-aggregate-judge c = search needs
@@ -36,7 +36,7 @@ slice-aggregate-judge-2 : tie.Need-slice-aggregate-judge-2
 slice-aggregate-judge-2 c = search needs
 
 judge-requires : tie.Need-judge-requires
-judge-requires c κs = let s = c .before .before .before .before .before .before .before .before .before .before .before .before in (begun-ready _ _ _ _ _ (s .pre .0), c .before .before .before .before .before .spread .ensures, s .pre .1)
+judge-requires c κs = let s = c .before .before .before .before .before .before .before .before .before .before .before .before in (begun-ready (s .args .f .now) (s .args .u .now) (s .args .ds) (s .args .us) (s .args .front) (s .pre .0), c .before .before .before .before .before .spread .ensures, s .pre .1)
 
 enum-told : tie.Need-enum-told
 enum-told c = search needs
@@ -48,7 +48,7 @@ slice-aggregate-finish-2 : tie.Need-slice-aggregate-finish-2
 slice-aggregate-finish-2 c = search needs
 
 finish-requires : tie.Need-finish-requires
-finish-requires c κs = let s = c .before .before .before .before .before .before .before .before .before .before .before .before .before .before .before .before .before .before .before .before .before in let j = c .before .before .before .before .before .before .before .before .judge in let e = c .before .before .before .before .enum-told .given .1 in ((s .pre .0, c .before .before .before .before .before .before .before .before .before .before .before .before .before .before .spread .ensures, omega (arith, j .kept .1 .1 .1 .1 .1 .1 .1 .0, s .pre .1)), (fine-verdicts _ _ _ _ _ (s .pre .0) _ _ (j .ensures) e, j .ensures .flags e))
+finish-requires c κs = let s = c .before .before .before .before .before .before .before .before .before .before .before .before .before .before .before .before .before .before .before .before .before in let p = c .before .before .before .before .before .before .before .before .before .before .before .before .before .before .spread in let j = c .before .before .before .before .before .before .before .before .judge in fine-finish (s .args .f .now) (s .args .u .now) (s .args .ds) (s .args .us) (s .args .front) (s .pre .0) (j .last .1 .1 .1 .1 .1 .1 .1 .0) (j .result) (j .ensures) (c .before .before .before .before .enum-told .given .1) (p .last .1 .1 .1 .0) (p .result) (p .last .1 .1 .1 .1 .0) (p .ensures) (s .args .work .now) (j .kept .1 .1 .1 .1 .1 .1 .1 .0) (s .pre .1)
 
 enum-known-k : tie.Need-enum-known-k
 enum-known-k c = search needs
@@ -63,13 +63,13 @@ same-length-2 : tie.Need-same-length-2
 same-length-2 c = search needs
 
 returns : tie.Need-returns
-returns c = acted-size _ _ _ _ _ _ _ _ _ _ _ (c .before .before .before .before .finish .ensures) (c .before .before .before .before .before .before .before .before .before .before .before .before .before .judge .kept .1 .1 .1 .1 .1 .1 .1 .0)
+returns c = let s = c .before .before .before .before .before .before .before .before .before .before .before .before .before .before .before .before .before .before .before .before .before .before .before .before .before .before in let j = c .before .before .before .before .before .before .before .before .before .before .before .before .before .judge in let l = c .before .before .before .before .finish in acted-size (s .args .f .now) (s .args .u .now) (s .args .ds) (s .args .us) (s .args .front) (length (s .args .out .now)) (length (j .last .1 .1 .1 .1 .1 .1 .1 .0)) (length (s .args .work .now)) (l .result) (s .args .out .now) (l .last .1 .1 .1 .1 .1 .1 .1 .1 .0) (l .ensures) (j .kept .1 .1 .1 .1 .1 .1 .1 .0)
 
 same-length-3 : tie.Need-same-length-3
 same-length-3 c = search needs
 
 returns-2 : tie.Need-returns-2
-returns-2 c = let s = c .before .before .before .before .before .before .before .before .before .before .before .before .before .before .before .before .before .before .before in wrong-acted _ _ _ _ _ (s .pre .0) _ _ (c .before .before .before .before .before .before .judge .ensures) _ _ _ _ (c .before .before .k .given .1) _ _ (s .pre .1) _ _ _ (c .refuse .ensures)
+returns-2 c = let s = c .before .before .before .before .before .before .before .before .before .before .before .before .before .before .before .before .before .before .before in let j = c .before .before .before .before .before .before .judge in wrong-acted (s .args .f .now) (s .args .u .now) (s .args .ds) (s .args .us) (s .args .front) (s .pre .0) (j .last .1 .1 .1 .1 .1 .1 .1 .0) (j .result) (j .ensures) _ _ _ _ (c .before .before .k .given .1) (length (s .args .out .now)) (length (s .args .work .now)) (s .pre .1) (s .args .out .now) (s .args .out .now) (c .refuse .result) (c .refuse .ensures)
 
 pub act-spec : {M : Type 1} → statement M
 act-spec =
