@@ -88,7 +88,7 @@ module _ (f u : List ℕ) (ds us front : ℕ) (k : Begun f u ds us front) where
   begun-ordered = subst (λ (l : List Rec). Ordered chart 1 l) (k .opens .records) ((read-sorted f (k .fits .dataset) (k .fits .isRead)) .ordered)
 
   module _ (w : List ℕ) (j : Judged) (a : AllJudged f ds u us w j) where
-    pub fine-verdicts : j ≡ Fine → verdicts (stockFrom f ds) (sentFrom u us) ≡ done tt
+    fine-verdicts : j ≡ Fine → verdicts (stockFrom f ds) (sentFrom u us) ≡ done tt
     fine-verdicts x = judged-fine (verdicts (stockFrom f ds) (sentFrom u us)) (sym x ∙ a .came)
 
     -- what `finish` stands on, in a workspace as long as it was before the verdicts
