@@ -7,7 +7,7 @@ use mathlib.Core.List.{List, [], _∷_}
 use native.Mathlib.Omega.{arith}
 use borrow.Author.Tests.{ne-eqb}
 use lib.ListN.{length}
-use Rattle.base.specs.Check.{ok, pass, passed}
+use Rattle.base.specs.Check.{ok, pass}
 use Rattle.base.proofs.CheckLaws.{bind-inv, refused}
 use Rattle.base.proofs.OptionLaws.{never}
 use Rattle.skeleton.specs.File.{Field}

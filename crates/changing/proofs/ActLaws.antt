@@ -8,7 +8,7 @@ use borrow.Author.Tests.{eq-eqb, ne-eqb, lt-ltb, le-ltb}
 use lib.Dec.{eqb}
 use lib.ListN.{length}
 use Rattle.base.specs.Choice.{pick, both}
-use Rattle.base.specs.Check.{Check, ok, no, bind, fault, pass}
+use Rattle.base.specs.Check.{Check, no, bind, fault, pass}
 use Rattle.base.specs.Lists.{gather}
 use Rattle.skeleton.specs.File.{Field}
 use Rattle.rules.specs.ByTag.{front}

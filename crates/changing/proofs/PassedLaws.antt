@@ -2,11 +2,10 @@
 use Prim.Native.Nat.{ℕ, _+_, _^_, _≤_, _<_}
 use mathlib.Core.Path.{_≡_, refl, sym, ap, _∙_, subst}
 use mathlib.Core.Bool.{Bool, true}
-use mathlib.Core.Option.{none}
 use mathlib.Core.List.{List, [], _∷_}
 use native.Mathlib.Omega.{arith}
 use lib.ListN.{length}
-use Rattle.base.specs.Check.{ok, pass}
+use Rattle.base.specs.Check.{ok}
 use Rattle.base.proofs.CheckLaws.{bind-inv, refused}
 use Rattle.base.proofs.OptionLaws.{never}
 use Rattle.skeleton.specs.File.{Field}
@@ -21,7 +20,6 @@ use Rattle.skeleton.proofs.PlaceLaws.{place-runs, place-in, fields-more, fields
 use Rattle.skeleton.proofs.RecordLaws.{right}
 use Rattle.fields.specs.Table.{headOf, tupleOf}
 use Rattle.fields.specs.Valid.{allows}
-use Rattle.fields.specs.Values.{values, numAt}
 use Rattle.fields.specs.declared.Format.the-variants.{Irid, Prid, Mrid, Frid}
 use Rattle.fields.proofs.ValueLaws.{head-allowed}
 use Rattle.fields.proofs.SizeLaws.{in-range}
@@ -31,7 +29,6 @@ use Rattle.rules.specs.Kind.{kindOf, coded}
 use Rattle.rules.specs.Grammar.{ruinByte, asStored, number4}
 use Rattle.rules.specs.Content.{identFormat, formatOf, insertOnly, stands, allStand, number5}
 use Rattle.rules.specs.Record.{Ident, identOf, updateRecord}
-use Rattle.rules.specs.Written.{fieldAs}
 use Rattle.rules.specs.declared.Kind.{Kind}
 use Rattle.rules.specs.declared.Kind.the-variants.{Info, Point, Multi, Feature}
 use Rattle.rules.specs.declared.Mode.the-variants.{InUpdate}

@@ -4,7 +4,7 @@ use mathlib.Core.Path.{_≡_, refl, sym, ap, _∙_, subst}
 use mathlib.Core.Option.{Option, some as there}
 use mathlib.Core.List.{List}
 use native.Mathlib.Omega.{arith}
-use Rattle.base.specs.Check.{ok, bind, pass}
+use Rattle.base.specs.Check.{ok, bind}
 use Rattle.base.specs.Lists.{gather}
 use Rattle.skeleton.specs.File.{Field}
 use Rattle.skeleton.specs.Place.{between, fieldsAt}
@@ -15,7 +15,6 @@ use Rattle.rules.specs.Coordinates.{sent}
 use Rattle.rules.specs.Record.{Rec, Parts, foidOf, keyNamed, updateRecord}
 use Rattle.rules.specs.Modify.{actFields}
 use Rattle.rules.specs.Change.{fitting, revised}
-use Rattle.rules.specs.Written.{writtenFields, number12}
 use Rattle.rules.specs.declared.Kind.{Kind}
 use Rattle.sequence.specs.Keyed.{Under}
 use Rattle.updates.specs.Acts.{chart}
@@ -34,7 +33,7 @@ use Rattle.acting.specs.declared.Acts.{Acts}
 use Rattle.acting.specs.declared.Acts.the-variants.{Refused as Stopped, Now as Done}
 use Rattle.changing.specs.Given.{Given, Says, reworked}
 use Rattle.changing.specs.declared.identity.Said.{Said}
-use Rattle.changing.proofs.PassedLaws.{ruin-three, passed-foids}
+use Rattle.changing.proofs.PassedLaws.{ruin-three}
 use Rattle.changing.proofs.ActLaws.{Stands, here-stands}
 
 -- a version with an RVER

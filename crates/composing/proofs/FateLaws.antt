@@ -5,7 +5,7 @@ use mathlib.Core.Bool.{Bool, true, false, not, true≢false}
 use mathlib.Core.Option.{Option, some, none}
 use mathlib.Core.List.{List, [], _∷_}
 use Rattle.base.specs.Choice.{both}
-use Rattle.base.specs.Check.{Check, ok, no}
+use Rattle.base.specs.Check.{Check, ok}
 use Rattle.base.specs.Keys.{same}
 use Rattle.base.proofs.CheckLaws.{bind-inv, ok-inj}
 use Rattle.base.proofs.KeysLaws.{same-sound}

@@ -2,13 +2,13 @@
 use Prim.Native.Nat.{ℕ}
 use mathlib.Core.Path.{_≡_, refl, sym, ap, subst, _∙_}
 use mathlib.Core.Bool.{Bool, true, false, not}
-use mathlib.Core.Option.{Option, some, none}
+use mathlib.Core.Option.{Option, some}
 use mathlib.Core.List.{List, [], _∷_}
 use native.Mathlib.Omega.{arith}
 use borrow.Author.Tests.{eqb-true}
 use lib.Dec.{eqb}
 use Rattle.base.specs.Choice.{pick}
-use Rattle.base.specs.Check.{ok, no, bind}
+use Rattle.base.specs.Check.{ok, bind}
 use Rattle.base.specs.Keys.{same}
 use Rattle.base.specs.Lists.{each}
 use Rattle.base.proofs.CheckLaws.{bind-inv, ok-inj}

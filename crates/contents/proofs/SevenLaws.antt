@@ -20,7 +20,7 @@ use Rattle.rules.specs.ByTag.{firstTag}
 use Rattle.rules.specs.Kind.{tagOf, kindOf, rank}
 use Rattle.rules.specs.Grammar.{ruinByte, asStored, fieldsStand, onKind, number4}
 use Rattle.rules.specs.Content.{number5}
-use Rattle.rules.specs.Associations.{fieldMarks, marks, keysOnce, number7}
+use Rattle.rules.specs.Associations.{fieldMarks, marks, number7}
 use Rattle.rules.specs.declared.Kind.{Kind}
 use Rattle.rules.specs.declared.Kind.the-variants.{Info, Point, Multi, Feature}
 use Rattle.rules.specs.declared.Mode.{Mode}

@@ -1,15 +1,13 @@
 -- Laws of tuples put at a place. Assumes nothing.
 use Prim.Native.Nat.{ℕ, _+_, _-_, _*_, _/_, _%_, _^_, _≤_, _<_}
 use mathlib.Core.Path.{_≡_, refl, sym, ap, ap₂, _∙_}
-use mathlib.Core.Bool.{Bool, true, false}
+use mathlib.Core.Bool.{Bool}
 use mathlib.Core.List.{List, [], _∷_, _++_, append-assoc}
 use native.Mathlib.Omega.{arith}
 use borrow.Author.Tests.{eq-eqb, ne-eqb, le-leb, lt-leb}
-use lib.Dec.{eqb, leb}
 use lib.ListN.{length, take, drop, length-take, length-drop, length-append, take-append-drop}
 use lib.Seq.{take-at, drop-at, drop-drop}
-use Rattle.base.specs.Choice.{pick}
-use Rattle.base.specs.Check.{ok, refuse}
+use Rattle.base.specs.Check.{ok}
 use Rattle.base.specs.Lists.{each, gather}
 use Rattle.skeleton.specs.Emit.{sizes}
 use Rattle.skeleton.specs.File.{Field}

@@ -1,15 +1,14 @@
 -- Coordinate tuples in bytes. Assumes nothing.
 use Prim.Native.Nat.{ℕ, _+_, _-_, _*_, _/_, _%_, _≤_}
 use mathlib.Core.Path.{_≡_, refl, sym, ap, ap₂, _∙_}
-use mathlib.Core.Bool.{true}
 use mathlib.Core.List.{List, [], _++_, append-assoc}
 use native.Mathlib.Nat.{add-zero}
 use native.Mathlib.Omega.{arith}
-use lib.ListN.{length, take, drop, length-take, length-drop, take-append-drop}
+use lib.ListN.{length, take, drop, length-take, length-drop}
 use Rattle.base.specs.Lists.{each}
 use Rattle.base.proofs.ListLaws.{each-append, each-take, each-drop}
-use Rattle.fields.specs.Table.{headOf, tupleOf}
-use Rattle.fields.specs.Content.{many, fill, tuples}
+use Rattle.fields.specs.Table.{tupleOf}
+use Rattle.fields.specs.Content.{many, tuples}
 use Rattle.fields.specs.Places.{endingAt, allRaw}
 use Rattle.fields.specs.declared.Format.the-variants.{C2il}
 use Rattle.fields.proofs.EvenLaws.{raw-fill, even-length, raw-take, raw-drop}

@@ -1,12 +1,10 @@
 -- Every refusal of a file's own records is at that file: of a dataset, 1. Assumes nothing.
-use mathlib.Core.Path.{_≡_, refl, sym, _∙_, ap}
-use mathlib.Core.Bool.{Bool, true, false}
+use mathlib.Core.Path.{_≡_, refl}
+use mathlib.Core.Bool.{Bool}
 use mathlib.Core.List.{List, [], _∷_, _++_}
-use Prim.Native.Nat.{ℕ, _+_, _≤_}
+use Prim.Native.Nat.{ℕ, _+_}
 use native.Mathlib.Omega.{arith}
-use lib.ListN.{length}
 use lib.Dec.{eqb, leb}
-use Rattle.base.specs.Choice.{pick}
 use Rattle.base.specs.Check.{Check, ok, no, fault, Passed}
 use Rattle.base.specs.Walk.{Got}
 use Rattle.base.specs.declared.Fault.{Fault}

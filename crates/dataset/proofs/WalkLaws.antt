@@ -1,18 +1,18 @@
 -- Laws of the walk over the records after the third. Assumes nothing.
 use mathlib.Core.Path.{_≡_, refl, sym, _∙_, ap}
 use mathlib.Core.Bool.{Bool, true, false}
-use mathlib.Core.List.{List, [], _∷_}
+use mathlib.Core.List.{List}
 use Prim.Native.Nat.{ℕ, _+_, _-_, _^_, _≤_, _<_}
 use native.Mathlib.Omega.{arith}
-use lib.ListN.{length, drop, replicate, length-drop}
+use lib.ListN.{length, replicate, length-drop}
 use Rattle.memory.specs.Hold.{zeros}
-use Rattle.base.specs.Check.{Check, ok, no, bind, fault, Passed, pass}
+use Rattle.base.specs.Check.{Check, ok, fault, Passed}
 use Rattle.base.specs.Lists.{each}
 use Rattle.base.specs.Verdict.{verdictOf}
 use Rattle.base.specs.declared.Verdict.{Verdict}
 use Rattle.base.specs.declared.Verdict.the-variants.{Passed as Through, Refused as Failed}
 use Rattle.base.proofs.CheckLaws.{passed-is}
-use Rattle.skeleton.specs.File.{Field, recordsFrom}
+use Rattle.skeleton.specs.File.{Field}
 use Rattle.skeleton.specs.Place.{between, fieldsAt}
 use Rattle.skeleton.specs.Record.{recordAt}
 use Rattle.skeleton.specs.RightFrom.{RightFrom}
@@ -23,11 +23,6 @@ use Rattle.skeleton.specs.declared.leader.Head.the-variants.{Good, Refused}
 use Rattle.skeleton.proofs.FileLaws.{records-over}
 use Rattle.skeleton.proofs.RecordLaws.{record-in, record-falls, record-bounded}
 use Rattle.skeleton.proofs.RightLaws.{right-start}
-use Rattle.rules.specs.ByTag.{firstTag}
-use Rattle.rules.specs.Kind.{tagOf}
-use Rattle.rules.specs.Grammar.{number4}
-use Rattle.rules.specs.Content.{number5}
-use Rattle.rules.specs.Trees.{number6}
 use Rattle.rules.specs.Associations.{number7}
 use Rattle.rules.specs.Outcome.{Outcome, done, refused}
 use Rattle.rules.specs.declared.Kind.{Kind}
@@ -36,11 +31,11 @@ use Rattle.records.specs.Graded.{graded}
 use Rattle.records.specs.declared.grammar.Tags.{Tags}
 use Rattle.records.specs.declared.grammar.Tags.the-variants.{Right, Wrong}
 use Rattle.keys.specs.Key.{keyAt}
-use Rattle.keys.specs.Listed.{keysFrom, seenFrom}
+use Rattle.keys.specs.Listed.{keysFrom}
 use Rattle.keys.specs.Look.{Known}
 use Rattle.keys.specs.Map.{kindIn}
 use Rattle.keys.specs.Once.{largerOf, Once, Comes, Told}
-use Rattle.keys.specs.Standing.{fourToSix, outcomeFrom, Standing}
+use Rattle.keys.specs.Standing.{fourToSix, Standing}
 use Rattle.keys.proofs.PassedLaws.{placed-five, placed-tag}
 use Rattle.keys.proofs.StandingLaws.{once-start, standing-start, standing-over, standing-refused, standing-before, standing-comes, standing-kind, standing-seven, standing-within, standing-more}
 use Rattle.dataset.specs.Numbers.{fourToSixIn}

@@ -2,10 +2,8 @@
 use Prim.Native.Nat.{ℕ, _+_}
 use mathlib.Core.Path.{_≡_}
 use mathlib.Core.List.{List, []}
-use lib.ListN.{length}
 use Rattle.base.specs.Check.{fault}
 use Rattle.rules.specs.Outcome.{Outcome, done, refused}
-use Rattle.keys.specs.Listed.{keysFrom}
 use Rattle.keys.specs.Once.{largerOf, Once}
 use Rattle.keys.specs.Standing.{outcomeFrom, Standing}
 use Rattle.dataset.specs.declared.walk.Admitted.{Admitted}

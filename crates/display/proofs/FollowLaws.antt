@@ -1,15 +1,14 @@
 -- Demand 3 of the displays that run: what the calls of `begin` and `hand` say is what it speaks of. Assumes nothing.
 use Prim.Native.Nat.{ℕ}
-use mathlib.Core.Path.{_≡_, refl, sym, ap, subst, _∙_}
+use mathlib.Core.Path.{_≡_, ap, _∙_}
 use mathlib.Core.Logic.{_↔_}
 use mathlib.Core.List.{List, [], _∷_}
 use lib.ListN.{length}
-use lib.Dec.{eqb}
 use Rattle.fields.specs.Valid.{Bytes}
-use Rattle.rules.specs.Written.{Dataset, writtenBytes, count}
-use Rattle.rules.specs.Outcome.{Outcome, done, refused, andThen}
-use Rattle.rules.specs.Answers.{Written, notTooLong, readOutcome, roomFor, outputOf, writeOutcome, write, update}
-use Rattle.displays.specs.Display.{Handed as File, taken, after, shown, numberShown}
+use Rattle.rules.specs.Written.{Dataset}
+use Rattle.rules.specs.Outcome.{Outcome}
+use Rattle.rules.specs.Answers.{Written}
+use Rattle.displays.specs.Display.{Handed as File, after, shown, numberShown}
 use Rattle.displays.specs.Publisher.{Publisher, start, Cable}
 use Rattle.displays.specs.Demand.{chart, InStep, Demand3}
 use Rattle.demand.proofs.Trip.{demand-three}

@@ -4,7 +4,6 @@ use mathlib.Core.List.{List, [], _∷_, _++_}
 use Prim.Native.Nat.{ℕ, _+_, _-_, _*_, _≤_, _<_}
 use native.Mathlib.Omega.{arith}
 use lib.ListN.{length}
-use Rattle.base.specs.Check.{no}
 use Rattle.memory.specs.Put.{put}
 use Rattle.memory.specs.Splice.{opened}
 use Rattle.memory.proofs.PutLaws.{getD-put-below, getD-put-above}

@@ -14,10 +14,10 @@ use Rattle.memory.specs.Put.{put}
 use Rattle.memory.specs.Splice.{opened}
 use Rattle.forest.specs.Forest.{valued}
 use Rattle.forest.specs.Acts.{insert, delete, modify, Acts, act}
-use Rattle.forest.specs.Flat.{Item, item, after, editFlat}
+use Rattle.forest.specs.Flat.{Item, after, editFlat}
 use Rattle.forest.proofs.Numbers.{eq-or-ne}
 use Rattle.rules.specs.Trees.{instructionOf}
-use Rattle.items.specs.Items.{u16, textFrom, source, its, refBytes, itemBytes}
+use Rattle.items.specs.Items.{u16, textFrom, source, refBytes, itemBytes}
 use Rattle.items.proofs.ItemLaws.{same-less, ref-below}
 use Rattle.edits.specs.declared.single.Deed.the-variants.{Not, Gone, Lead}
 use Rattle.edits.specs.Search.{placeOf, twins, spotOf, deeperAt, goneCount, goneOut}

@@ -14,7 +14,7 @@ use Rattle.forest.specs.Acts.{Acts, done}
 use Rattle.forest.proofs.Numbers.{lt-or-le, eq-or-ne}
 use Rattle.tree.specs.Source.{past}
 use Rattle.tree.proofs.CountLaws.{past-above}
-use Rattle.items.specs.Items.{u16, textFrom, its}
+use Rattle.items.specs.Items.{u16, textFrom}
 use Rattle.items.specs.Tuples.{Tuples, tuplesTo}
 use Rattle.items.proofs.TupleLaws.{tuples-next, to-more}
 use Rattle.edits.specs.Read.{actAt, Reading, reading, below, readUpTo, readAt, kidsAt}

@@ -2,14 +2,13 @@
 use mathlib.Core.Path.{_≡_, refl, sym, ap, _∙_}
 use mathlib.Core.List.{List}
 use mathlib.Core.Logic.{⊎-elim}
-use mathlib.Core.Bool.{Bool, true, false, not}
+use mathlib.Core.Bool.{Bool, true, false}
 use Prim.Native.Nat.{ℕ, zero, suc, _+_, _-_, _≤_, _<_}
 use native.Mathlib.Nat.{sub-eq-zero-of-le}
 use native.Mathlib.Omega.{arith}
 use lib.Dec.{ltb, eqb}
 use borrow.Author.Tests.{lt-ltb, le-ltb, eq-eqb, ne-eqb}
 use Rattle.base.specs.Choice.{pick}
-use Rattle.forest.specs.Flat as F
 use Rattle.forest.proofs.Numbers.{lt-or-le, eq-or-ne}
 use Rattle.items.specs.Items.{depthOf, codeOf, twinAt}
 use Rattle.items.proofs.ItemLaws.{twin-depth, twin-code, twin-once}

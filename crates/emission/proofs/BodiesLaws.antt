@@ -1,31 +1,28 @@
 -- Laws of the bodies that cells refer to. Assumes nothing.
-use Prim.Native.Nat.{ℕ, zero, suc, _+_, _-_, _*_, _^_, _≤_, _<_, min}
-use mathlib.Core.Path.{_≡_, refl, sym, ap, ap₂, _∙_}
-use mathlib.Core.Bool.{Bool, true, false}
+use Prim.Native.Nat.{ℕ, suc, _+_, _-_, _*_, _^_, _≤_, _<_, min}
+use mathlib.Core.Path.{_≡_, refl, sym, ap, _∙_}
+use mathlib.Core.Bool.{Bool}
 use mathlib.Core.List.{List, [], _∷_, _++_, append-assoc}
 use native.Mathlib.Nat.{sub-zero, zero-add}
 use native.Mathlib.Omega.{arith}
-use borrow.Author.Tests.{eq-eqb, ne-eqb, eqb-true}
-use lib.Dec.{eqb}
-use lib.ListN.{length, getD, take, drop, length-append, length-take, length-drop, drop-of-length-le}
+use borrow.Author.Tests.{eq-eqb, ne-eqb}
+use lib.ListN.{length, getD, take, drop, length-append, length-take, length-drop}
 use lib.Seq.{take-all}
-use Rattle.base.specs.Choice.{pick}
 use Rattle.base.specs.Lists.{each, gather}
-use Rattle.memory.specs.Put.{part, put}
+use Rattle.memory.specs.Put.{part}
 use Rattle.memory.specs.Wrote.{Wrote}
 use Rattle.memory.proofs.WroteLaws.{then, wrote-none, wrote-length}
 use Rattle.skeleton.specs.File.{Field}
 use Rattle.skeleton.specs.Emit.{sizes, entries, contents}
 use Rattle.skeleton.specs.Place.{between}
-use Rattle.skeleton.proofs.EmitFieldsLaws.{length-entries, length-contents}
+use Rattle.skeleton.proofs.EmitFieldsLaws.{length-contents}
 use Rattle.fields.proofs.TupleLaws.{split}
 use Rattle.rules.specs.Tags.{INAS}
-use Rattle.rules.specs.Written.{fieldWidth, fieldAs}
+use Rattle.rules.specs.Written.{fieldWidth}
 use Rattle.items.specs.Items.{source}
-use Rattle.cells.specs.Cells.{u24, startOf, sliceOf, sizeOf, bodyAt, bodiesFrom, bodiesOf}
+use Rattle.cells.specs.Cells.{u24, bodyAt, bodiesFrom, bodiesOf}
 use Rattle.writing.specs.Parts.{entryBytes}
 use Rattle.writing.proofs.PartsLaws.{wrote-as}
-use Rattle.writing.proofs.WriterLaws.{length-entry}
 use Rattle.emission.specs.Bodies.{bodiesLeft, joined, inasFields}
 use Rattle.emission.proofs.LeftLaws.{Left, left-start, left-done, left-room, left-more}
 

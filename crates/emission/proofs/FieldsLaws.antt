@@ -1,10 +1,10 @@
 -- Laws of the fields of the record that the workspace holds: how many they are, and how many bytes they have. Assumes nothing.
-use Prim.Native.Nat.{ℕ, zero, suc, _+_, _*_, _^_, _≤_, _<_}
+use Prim.Native.Nat.{ℕ, zero, suc, _+_, _*_, _≤_, _<_}
 use mathlib.Core.Path.{_≡_, refl, sym, ap, ap₂, _∙_, subst}
 use mathlib.Core.Bool.{Bool, true, false}
 use mathlib.Core.List.{List, [], _∷_, _++_}
 use native.Mathlib.Omega.{arith}
-use borrow.Author.Tests.{eq-eqb, ne-eqb}
+use borrow.Author.Tests.{ne-eqb}
 use lib.ListN.{length, length-append}
 use Rattle.base.specs.Lists.{each}
 use Rattle.skeleton.specs.File.{Field}
@@ -20,7 +20,7 @@ use Rattle.version.specs.declared.Version.{Version}
 use Rattle.version.proofs.AreaLaws.{list-long, inas-long}
 use Rattle.writing.specs.Found.{Summed}
 use Rattle.writing.specs.declared.measuring.Sum.{Sum}
-use Rattle.emission.specs.Bodies.{joined, inasFields}
+use Rattle.emission.specs.Bodies.{inasFields}
 use Rattle.emission.specs.Fields.{identPart, foidPart, lastFields, versionFields, listSize, listCount, identSize, foidSize, lastSize, lastCount, total, Rooms, Few, Measured, Indexed}
 use Rattle.emission.specs.declared.measuring.Sizes.{Sizes}
 use Rattle.emission.proofs.ListLaws.{size-most, count-most, length-list, sizes-list}

@@ -1,14 +1,13 @@
 -- The record that the workspace holds is written as the fields that are copied. Assumes nothing.
-use Prim.Native.Nat.{ℕ, zero, suc, _+_, _-_, _*_, _%_, _≤_, _<_}
+use Prim.Native.Nat.{ℕ, zero, suc, _+_, _-_, _*_, _%_, _≤_}
 use mathlib.Core.Path.{_≡_, refl, sym, ap, ap₂, _∙_}
 use mathlib.Core.Bool.{Bool, true, false}
 use mathlib.Core.List.{List, [], _∷_, _++_, append-nil, append-assoc}
 use native.Mathlib.Omega.{arith}
 use lib.Dec.{eqb}
 use lib.Seq.{take-all}
-use lib.ListN.{length, getD, take, drop, length-append, length-take, length-drop}
+use lib.ListN.{length, take, length-append, length-take, length-drop}
 use Rattle.base.specs.Choice.{pick}
-use Rattle.base.specs.Check.{passed, pass}
 use Rattle.base.specs.Lists.{each, gather}
 use Rattle.base.proofs.CheckLaws.{passed-inv}
 use Rattle.memory.specs.Digits.{digits, littleEndian}
@@ -18,11 +17,9 @@ use Rattle.skeleton.specs.Place.{between}
 use Rattle.fields.specs.Bytes.{bytes}
 use Rattle.fields.specs.Table.{headOf, tupleOf}
 use Rattle.fields.specs.Values.{put, value, values, puts, putAll}
-use Rattle.fields.specs.Content.{fill}
 use Rattle.fields.specs.Valid.{Bytes}
 use Rattle.fields.specs.Places.{endingAt, allRaw}
 use Rattle.fields.specs.declared.Format.the-variants.{Foid, SpasNew, C2il}
-use Rattle.fields.proofs.ByteLaws.{bytes-drop}
 use Rattle.fields.proofs.SizeLaws.{num-widths}
 use Rattle.fields.proofs.TupleLaws.{first-tuple}
 use Rattle.fields.proofs.EvenLaws.{raw-fill}
@@ -30,7 +27,7 @@ use Rattle.fields.proofs.EncodeLaws.{puts-values}
 use Rattle.fields.proofs.FieldLaws.{fill-list, head-length}
 use Rattle.rules.specs.Tags.{FOID, ATTR, INAS, SPAS}
 use Rattle.rules.specs.Kind.{rcnm, tagOf, coded}
-use Rattle.rules.specs.Content.{formatOf, inasFormat, identFormat}
+use Rattle.rules.specs.Content.{identFormat}
 use Rattle.rules.specs.Coordinates.{Coord, coordsIn}
 use Rattle.rules.specs.Trees.{inasTree}
 use Rattle.rules.specs.Record.{Rec, Parts, Assoc, Spatial, foidOf, assocOf}

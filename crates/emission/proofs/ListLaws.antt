@@ -1,12 +1,10 @@
 -- Laws of fields that are lists, and of fields one after the other. Assumes nothing.
-use Prim.Native.Nat.{ℕ, zero, suc, _+_, _*_, _^_, _≤_, _<_}
-use mathlib.Core.Path.{_≡_, refl, sym, ap, ap₂, _∙_}
+use Prim.Native.Nat.{ℕ, zero, suc, _+_, _*_, _≤_, _<_}
+use mathlib.Core.Path.{_≡_, refl, sym, ap, _∙_}
 use mathlib.Core.List.{List, [], _∷_, _++_, append-nil}
 use native.Mathlib.Omega.{arith}
 use borrow.Author.Tests.{eq-eqb, ne-eqb}
-use lib.Dec.{eqb}
-use lib.ListN.{length, length-append}
-use Rattle.base.specs.Choice.{pick}
+use lib.ListN.{length}
 use Rattle.base.proofs.ListLaws.{none-long}
 use Rattle.memory.specs.Put.{part}
 use Rattle.memory.specs.Wrote.{Wrote}
@@ -20,7 +18,7 @@ use Rattle.forest.specs.Flat.{flat}
 use Rattle.rules.specs.Tags.{ATTR, SPAS}
 use Rattle.rules.specs.Written.{fieldWidth, fieldAs, listField, treeBytes}
 use Rattle.items.specs.Items.{its}
-use Rattle.cells.specs.Cells.{bodiesFrom, bodiesOf}
+use Rattle.cells.specs.Cells.{bodiesOf}
 use Rattle.numbering.specs.Tuples.{Sized, Emitted, sizeOf}
 use Rattle.writing.specs.Parts.{entryBytes}
 use Rattle.writing.proofs.PartsLaws.{wrote-as}

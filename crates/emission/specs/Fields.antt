@@ -10,7 +10,7 @@ use Rattle.memory.specs.Digits.{littleEndian}
 use Rattle.memory.specs.Put.{part}
 use Rattle.memory.specs.Wrote.{Wrote}
 use Rattle.skeleton.specs.File.{Field}
-use Rattle.skeleton.specs.Emit.{sizes, entries, contents, emit}
+use Rattle.skeleton.specs.Emit.{sizes, entries, emit}
 use Rattle.forest.specs.Forest.{Forest}
 use Rattle.forest.specs.Flat.{flat}
 use Rattle.rules.specs.Tags.{FOID, ATTR, SPAS}

@@ -9,7 +9,7 @@ use borrow.Author.Tests.{eqb-true, eq-eqb}
 use lib.Dec.{eqb}
 use lib.ListN.{length, getD}
 use Rattle.base.specs.Choice.{pick}
-use Rattle.base.specs.Check.{no, pass}
+use Rattle.base.specs.Check.{pass}
 use Rattle.base.specs.Lists.{each, gather, empty}
 use Rattle.base.proofs.ListLaws.{none-long}
 use Rattle.skeleton.specs.File.{Field}

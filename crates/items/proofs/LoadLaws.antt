@@ -15,7 +15,7 @@ use Rattle.memory.proofs.PutLaws.{length-put}
 use Rattle.skeleton.specs.Place.{between}
 use Rattle.fields.specs.Table.{headOf, tupleOf}
 use Rattle.fields.specs.Values.{Val}
-use Rattle.fields.specs.Content.{many, fill}
+use Rattle.fields.specs.Content.{fill}
 use Rattle.fields.specs.declared.Format.the-variants.{AttrNew}
 use Rattle.fields.proofs.FieldLaws.{fill-list}
 use Rattle.forest.specs.Forest.{Forest, nil, tree, Tup, occurs, size, tuplesFrom, tuplesOf}

@@ -9,7 +9,6 @@ use lib.ListN.{length, getD, List·getD-eq-default}
 use lib.Dec.{ltb, eqb}
 use Rattle.memory.specs.Hold.{zeros}
 use Rattle.memory.proofs.HoldLaws.{length-zeros, getD-zeros}
-use Rattle.base.specs.Choice.{either}
 use Rattle.base.proofs.ChoiceLaws.{either-true, either-false}
 use Rattle.keys.specs.Listed.{listed}
 use Rattle.keys.specs.Bits.{flagOf, raised}

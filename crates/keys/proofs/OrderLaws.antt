@@ -7,7 +7,6 @@ use native.Mathlib.Omega.{arith}
 use borrow.Author.Tests.{ltb-true}
 use lib.ListN.{length, drop, List·getD-eq-default}
 use lib.Dec.{ltb}
-use Rattle.base.specs.Choice.{pick, both}
 use Rattle.base.proofs.ChoiceLaws.{by-test, both-hold}
 use Rattle.memory.specs.Hold.{zeros}
 use Rattle.keys.specs.Listed.{listed}

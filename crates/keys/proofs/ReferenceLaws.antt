@@ -11,7 +11,7 @@ use Rattle.base.specs.Choice.{pick}
 use Rattle.base.specs.Check.{ok, no, fault, Passed}
 use Rattle.base.specs.Lists.{each}
 use Rattle.base.specs.Keys.{among}
-use Rattle.base.specs.Walk.{Got, before}
+use Rattle.base.specs.Walk.{Got}
 use Rattle.base.specs.declared.Fault.{Fault}
 use Rattle.skeleton.specs.File.{Field, recordsFrom}
 use Rattle.skeleton.specs.Place.{between, fieldsAt}

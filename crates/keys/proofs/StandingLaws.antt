@@ -12,7 +12,7 @@ use Rattle.base.specs.Choice.{pick}
 use Rattle.base.specs.Check.{Check, ok, no, bind, fault}
 use Rattle.base.specs.Lists.{each}
 use Rattle.base.specs.Keys.{among}
-use Rattle.base.specs.Walk.{Got, before}
+use Rattle.base.specs.Walk.{Got}
 use Rattle.base.specs.declared.Fault.{Fault}
 use Rattle.memory.specs.Hold.{zeros}
 use Rattle.skeleton.specs.File.{Field, recordsFrom}

@@ -1,13 +1,13 @@
 -- Laws of what a record's line counts. Assumes nothing.
-use mathlib.Core.Path.{_≡_, refl, sym, ap, ap₂, _∙_}
+use mathlib.Core.Path.{_≡_, refl, sym, ap, _∙_}
 use mathlib.Core.Bool.{Bool, true, false}
-use mathlib.Core.List.{List, [], _∷_, _++_}
+use mathlib.Core.List.{List, [], _∷_}
 use Prim.Native.Nat.{ℕ, _+_, _-_, _*_, _/_, _^_, _≤_, _<_}
 use native.Mathlib.Omega.{arith}
 use borrow.Author.Tests.{eq-eqb, ne-eqb}
 use lib.Dec.{eqb}
 use lib.ListN.{length, getD}
-use Rattle.base.specs.Choice.{pick, either}
+use Rattle.base.specs.Choice.{pick}
 use Rattle.base.specs.Lists.{empty, each}
 use Rattle.base.specs.Walk.{steps, walk}
 use Rattle.fields.specs.Table.{headOf, tupleOf}
@@ -26,7 +26,7 @@ use Rattle.skeleton.proofs.FindLaws.{found-none, found-first, found-runs, found
 use Rattle.skeleton.proofs.BetweenLaws.{length-between}
 use Rattle.rules.specs.Tags.{ATTR, C2IT, C2IL}
 use Rattle.rules.specs.ByTag.{withTag, bodies}
-use Rattle.listing.specs.Said.{whole, entriesOf, entriesIn, isCoordinates, tuplesOf, tuplesIn}
+use Rattle.listing.specs.Said.{entriesOf, entriesIn, isCoordinates, tuplesOf, tuplesIn}
 
 -- ---- entries of an ATTR
 

@@ -1,14 +1,13 @@
 -- Laws of the lines of the listing. Assumes nothing.
-use mathlib.Core.Path.{_≡_, refl, sym, ap, _∙_}
+use mathlib.Core.Path.{_≡_, refl, _∙_}
 use mathlib.Core.List.{List, [], _∷_, _++_, append-assoc}
-use Prim.Native.Nat.{ℕ, _+_, _≤_, _<_}
+use Prim.Native.Nat.{ℕ, _+_, _≤_}
 use native.Mathlib.Omega.{arith}
 use lib.ListN.{length}
 use Rattle.base.specs.Text.{ascii}
 use Rattle.memory.specs.Wrote.{Wrote}
 use Rattle.memory.proofs.WroteLaws.{then}
 use Rattle.skeleton.specs.Digits.{inFewestDigits}
-use Rattle.skeleton.specs.Emit.{tagBytes}
 use Rattle.writing.proofs.PartsLaws.{wrote-as}
 use Rattle.rules.specs.Kind.{tagOf}
 use Rattle.rules.specs.Listing.{line}

@@ -1,8 +1,8 @@
 -- The records of a dataset that is read have passed their numbers. Assumes nothing.
-use mathlib.Core.Path.{_≡_, refl, sym, ap, ap₂, _∙_}
+use mathlib.Core.Path.{_≡_, sym, ap, ap₂, _∙_}
 use mathlib.Core.Bool.{Bool, true, false}
 use mathlib.Core.List.{List, [], _∷_}
-use Prim.Native.Nat.{ℕ, _+_, _≤_, _<_}
+use Prim.Native.Nat.{ℕ, _+_, _≤_}
 use native.Mathlib.Omega.{arith}
 use borrow.Author.Tests.{eq-eqb, lt-leb}
 use lib.ListN.{length}
@@ -19,7 +19,7 @@ use Rattle.rules.specs.Trees.{number6}
 use Rattle.rules.specs.Associations.{number7}
 use Rattle.rules.specs.Record.{Rec, keyOf, recOf, datasetRecord}
 use Rattle.rules.specs.Written.{Dataset}
-use Rattle.rules.specs.Outcome.{Outcome, done, refused, andThen}
+use Rattle.rules.specs.Outcome.{Outcome, done}
 use Rattle.rules.specs.File.{lastRank, datasetTest, through, ending, taken, Stored, storedAs, datasetOf, references, readDataset}
 use Rattle.rules.specs.declared.Kind.{Kind}
 use Rattle.rules.specs.declared.Mode.the-variants.{InDataset}

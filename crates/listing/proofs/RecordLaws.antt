@@ -1,11 +1,10 @@
 -- Laws of the line of one record. Assumes nothing.
-use mathlib.Core.Path.{_≡_, refl, sym, ap, ap₂, _∙_}
-use mathlib.Core.Bool.{Bool, true, false}
+use mathlib.Core.Path.{_≡_, sym, ap, ap₂, _∙_}
+use mathlib.Core.Bool.{Bool, true}
 use mathlib.Core.List.{List, [], _∷_}
-use Prim.Native.Nat.{ℕ, _+_, _≤_, _<_}
+use Prim.Native.Nat.{ℕ, _+_, _≤_}
 use native.Mathlib.Omega.{arith}
-use lib.ListN.{length}
-use Rattle.base.specs.Check.{ok, bind, pass}
+use Rattle.base.specs.Check.{pass}
 use Rattle.base.proofs.CheckLaws.{bind-inv}
 use Rattle.memory.specs.Wrote.{Wrote}
 use Rattle.skeleton.specs.File.{Field}
@@ -15,7 +14,7 @@ use Rattle.skeleton.specs.Place.{between, placeAt, fieldsAt}
 use Rattle.skeleton.specs.declared.directory.Shape.{Shape}
 use Rattle.skeleton.specs.declared.place.Place.{Place}
 use Rattle.skeleton.specs.declared.place.Place.the-variants.{At, Done}
-use Rattle.skeleton.proofs.PlaceLaws.{fields-more, fields-done, place-runs, place-in}
+use Rattle.skeleton.proofs.PlaceLaws.{fields-more, fields-done}
 use Rattle.fields.specs.Table.{headOf, tupleOf}
 use Rattle.fields.specs.Content.{fill}
 use Rattle.fields.proofs.WiderLaws.{irid, prid, mrid, frid, format-wider}

@@ -1,5 +1,5 @@
 -- What the fields of a record that has passed its numbers say is what the rules have of it. Assumes nothing.
-use mathlib.Core.Path.{_≡_, refl, sym, ap, ap₂, _∙_}
+use mathlib.Core.Path.{_≡_, refl, sym, ap, _∙_}
 use mathlib.Core.Bool.{Bool, true, false}
 use mathlib.Core.List.{List, [], _∷_, _++_}
 use Prim.Native.Nat.{ℕ, _+_, _/_}
@@ -18,17 +18,17 @@ use Rattle.base.proofs.ListLaws.{each-length}
 use Rattle.skeleton.specs.File.{Field}
 use Rattle.fields.specs.Sizes.{sizes}
 use Rattle.fields.specs.Table.{headOf, tupleOf}
-use Rattle.fields.specs.Content.{tupleStep, tuples, many, tallyField, fill, content}
+use Rattle.fields.specs.Content.{tupleStep, tuples, many, fill, content}
 use Rattle.fields.specs.declared.Format.the-variants.{AttrNew}
 use Rattle.fields.proofs.FieldLaws.{fill-count}
-use Rattle.forest.specs.Forest.{Forest, nil, Tup, size, tuplesOf as tuplesOfTree}
+use Rattle.forest.specs.Forest.{Forest, Tup, size, tuplesOf as tuplesOfTree}
 use Rattle.forest.specs.Rule.{runUpTo, allTaken, treeOf}
 use Rattle.forest.proofs.TuplesLaws.{tuples-length}
 use Rattle.forest.proofs.TreeLaws.{tree-sound}
 use Rattle.rules.specs.Tags.{ATTR, C2IT, C2IL}
-use Rattle.rules.specs.ByTag.{withTag, bodies, firstTag, front}
+use Rattle.rules.specs.ByTag.{withTag, bodies, firstTag}
 use Rattle.rules.specs.Kind.{kindOf, tagOf}
-use Rattle.rules.specs.Grammar.{ruinByte, asStored}
+use Rattle.rules.specs.Grammar.{asStored}
 use Rattle.rules.specs.Content.{number5}
 use Rattle.rules.specs.Coordinates.{coordsIn}
 use Rattle.rules.specs.Trees.{tupOf, attrTree, treeStands, treesStand, number6}

@@ -1,6 +1,6 @@
 -- Laws of the listing of a whole input. Assumes nothing.
 use mathlib.Core.Path.{_≡_, refl, sym, ap, ap₂, _∙_}
-use mathlib.Core.Bool.{Bool, true, false}
+use mathlib.Core.Bool.{Bool}
 use mathlib.Core.List.{List, [], _∷_, _++_, append-assoc}
 use Prim.Native.Nat.{ℕ, _+_, _-_, _≤_, _<_}
 use native.Mathlib.Omega.{arith}
@@ -8,7 +8,6 @@ use borrow.Author.Tests.{lt-ltb, le-ltb}
 use lib.Dec.{ltb}
 use lib.ListN.{length, take}
 use Rattle.base.specs.Choice.{pick}
-use Rattle.base.specs.Lists.{each}
 use Rattle.base.specs.Text.{ascii}
 use Rattle.base.specs.Walk.{Got}
 use Rattle.memory.specs.Hold.{zeros, hold}
@@ -32,7 +31,7 @@ use Rattle.opening.specs.declared.carried.Opened.the-variants.{Behind, Stopped}
 use Rattle.opening.proofs.CarriedLaws.{behind-is}
 use Rattle.opening.proofs.OpeningLaws.{fromFourth}
 use Rattle.reader.proofs.ReaderLaws.{three-in}
-use Rattle.listing.specs.Said.{PassedFrom, recordIn}
+use Rattle.listing.specs.Said.{PassedFrom}
 use Rattle.listing.specs.Lines.{refusalLine, totalLine, linesFrom}
 use Rattle.listing.specs.Listed.{longest, listed}
 use Rattle.listing.proofs.PassedLaws.{fourth-clean, fourth-passed, fourth-said, read-inv}

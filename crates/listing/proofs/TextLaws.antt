@@ -1,10 +1,9 @@
 -- Laws of writers that lose what has no room. Assumes nothing.
 use mathlib.Core.Path.{_≡_, refl, sym, ap, _∙_}
-use mathlib.Core.List.{List, [], _∷_, _++_}
+use mathlib.Core.List.{List, [], _∷_}
 use Prim.Native.Nat.{ℕ, _+_, _-_, _^_, _≤_, _<_}
 use native.Mathlib.Omega.{arith}
 use lib.ListN.{length, take, getD, set, replicate, length-replicate}
-use Rattle.memory.specs.Put.{part, put}
 use Rattle.memory.specs.Digits.{decimal}
 use Rattle.memory.specs.Wrote.{Wrote}
 use Rattle.memory.proofs.DigitLaws.{length-decimal}

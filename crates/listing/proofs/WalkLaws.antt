@@ -1,13 +1,12 @@
 -- Laws of the lines of the records, one after the other. Assumes nothing.
 use mathlib.Core.Path.{_≡_, refl, sym, ap, _∙_}
-use mathlib.Core.List.{List, [], _∷_, _++_}
+use mathlib.Core.List.{List, [], _++_}
 use Prim.Native.Nat.{ℕ, _+_, _-_, _*_, _^_, _≤_, _<_}
 use native.Mathlib.Nat.{add-zero}
 use native.Mathlib.Omega.{arith}
 use lib.ListN.{length, length-append}
 use Rattle.base.specs.Lists.{each}
 use Rattle.base.specs.Walk.{Got}
-use Rattle.memory.specs.Put.{put}
 use Rattle.memory.specs.Wrote.{Wrote}
 use Rattle.memory.proofs.PutLaws.{put-nil, put-put}
 use Rattle.memory.proofs.WroteLaws.{wrote-length}

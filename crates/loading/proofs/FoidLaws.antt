@@ -19,7 +19,7 @@ use Rattle.rules.specs.Tags.{FOID, ATTR, INAS, SPAS, C2IT, C2IL}
 use Rattle.rules.specs.Content.{formatOf}
 use Rattle.rules.specs.Record.{Rec, foidOf}
 use Rattle.rules.specs.Written.{fieldAs}
-use Rattle.items.specs.Items.{its, source}
+use Rattle.items.specs.Items.{source}
 use Rattle.version.specs.Held.{All, RightFoid, foidBodies, Held}
 use Rattle.version.specs.declared.Version.{Version}
 use Rattle.loading.specs.Taken.{isCoord, takeParts, takeField}

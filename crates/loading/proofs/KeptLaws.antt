@@ -11,7 +11,7 @@ use Rattle.rules.specs.Coordinates.{coordsIn}
 use Rattle.rules.specs.Record.{Rec, Parts, assocOf}
 use Rattle.items.specs.Items.{its}
 use Rattle.cells.specs.Cells.{bodiesOf, spatialIn}
-use Rattle.version.specs.Areas.{area, listArea, inasArea, spasArea}
+use Rattle.version.specs.Areas.{listArea, inasArea, spasArea}
 use Rattle.version.specs.Held.{All, RightInas, RightSpas, foidBodies, HeldParts, Held}
 use Rattle.version.specs.declared.Version.{Version}
 use Rattle.version.proofs.AreaLaws.{lent, lent-same, lent-behind, lent-after}

@@ -22,10 +22,7 @@ use Rattle.skeleton.proofs.ReadLaws.{bytes-between}
 use Rattle.skeleton.proofs.RecordLaws.{right}
 use Rattle.skeleton.proofs.BetweenLaws.{length-between}
 use Rattle.fields.specs.Valid.{Bytes}
-use Rattle.fields.specs.Content.{many}
-use Rattle.fields.specs.Table.{tupleOf}
 use Rattle.fields.specs.declared.Format.the-variants.{C2il}
-use Rattle.fields.proofs.TupleLaws.{tuples-end}
 use Rattle.fields.specs.Values.{Val}
 use Rattle.base.specs.Walk.{Got}
 use Rattle.base.specs.Lists.{each, gather}
@@ -35,7 +32,6 @@ use Rattle.forest.specs.Flat.{flat}
 use Rattle.rules.specs.ByTag.{front}
 use Rattle.rules.specs.Kind.{kindOf}
 use Rattle.rules.specs.Grammar.{ruinByte, asStored, number4}
-use Rattle.rules.specs.Coordinates.{coordOf, coordsIn}
 use Rattle.rules.specs.Record.{Ident, identOf, recOf}
 use Rattle.rules.specs.Written.{fieldAs}
 use Rattle.rules.specs.declared.Kind.{Kind}

@@ -1,14 +1,12 @@
 -- Laws of the general record. Assumes nothing.
-use mathlib.Core.Path.{_≡_, refl, sym, _∙_, ap}
-use mathlib.Core.Bool.{Bool, true, false, not}
-use mathlib.Core.List.{List, [], _∷_}
-use Prim.Native.Nat.{ℕ, _+_, _-_, _≤_, _<_}
+use mathlib.Core.Path.{_≡_, sym, _∙_}
+use mathlib.Core.Bool.{Bool, true, false}
+use mathlib.Core.List.{List}
+use Prim.Native.Nat.{ℕ, _-_, _≤_}
 use native.Mathlib.Omega.{arith}
 use borrow.Author.Tests.{eq-eqb, ne-eqb}
-use lib.Dec.{eqb}
-use lib.ListN.{length, drop}
-use Rattle.base.specs.Choice.{pick}
-use Rattle.base.specs.Check.{ok, no, bind, fault, Passed, pass}
+use lib.ListN.{length}
+use Rattle.base.specs.Check.{bind, Passed}
 use Rattle.base.specs.Verdict.{verdictOf}
 use Rattle.base.specs.declared.Verdict.{Verdict}
 use Rattle.base.specs.declared.Verdict.the-variants.{Passed as Good, Refused}
@@ -29,7 +27,6 @@ use Rattle.rules.specs.Content.{stands}
 use Rattle.rules.specs.General.{generalRecord, generalFormat}
 use Rattle.rules.specs.declared.Mode.{Mode}
 use Rattle.rules.specs.declared.Mode.the-variants.{InDataset, InUpdate}
-use Rattle.records.specs.Rows.{rowsWith}
 use Rattle.records.specs.Order.{shutOut, faultyField, orderFrom}
 use Rattle.records.proofs.RowsLaws.{general-rows}
 use Rattle.records.proofs.GrammarLaws.{Said, order-says, pass-of, no-of}

@@ -5,8 +5,8 @@ use mathlib.Core.List.{List, [], _∷_, _++_}
 use mathlib.Core.Logic.{_⊎_, inl, inr, ⊎-elim}
 use Prim.Native.Nat.{ℕ, _+_, _-_, _≤_, _<_}
 use native.Mathlib.Omega.{arith}
-use borrow.Author.Tests.{eq-eqb, ne-eqb, lt-ltb, le-ltb, le-leb, lt-leb, leb-true, leb-false}
-use lib.Dec.{eqb, leb, ltb}
+use borrow.Author.Tests.{ne-eqb, lt-ltb, le-leb, leb-true, leb-false}
+use lib.Dec.{leb, ltb}
 use lib.ListN.{length}
 use Rattle.base.specs.Choice.{pick, both}
 use Rattle.base.specs.Check.{Check, ok, no, bind, fault, Passed, pass}
@@ -23,7 +23,7 @@ use Rattle.skeleton.proofs.RecordLaws.{refusal-some, right}
 use Rattle.rules.specs.Record.{Rec}
 use Rattle.rules.specs.General.{generalRecord}
 use Rattle.rules.specs.Outcome.{Outcome, done, refused, andThen, at}
-use Rattle.rules.specs.File.{addsNone, datasetTest, updateTest, ending, taken}
+use Rattle.rules.specs.File.{addsNone, datasetTest, ending, taken}
 use Rattle.rules.specs.declared.Mode.the-variants.{InDataset, InUpdate}
 use Rattle.rules.proofs.FileLaws.{taken-over, taken-more}
 use Rattle.rules.proofs.OutcomeLaws.{andThen-assoc, andThen-inv, at-inv, done-inj}

@@ -1,19 +1,17 @@
 -- Laws of the reader. Assumes nothing.
 use mathlib.Core.Path.{_≡_, refl, sym, _∙_, ap}
 use mathlib.Core.Bool.{Bool, true, false}
-use mathlib.Core.List.{List, [], _∷_, _++_}
+use mathlib.Core.List.{List, [], _∷_}
 use Prim.Native.Nat.{ℕ, _+_, _^_, _≤_, _<_}
 use native.Mathlib.Omega.{arith}
 use borrow.Author.Tests.{lt-ltb, le-ltb}
-use lib.Dec.{ltb}
-use lib.ListN.{length, take, drop, getD}
+use lib.ListN.{length, take, drop}
 use Rattle.base.specs.Choice.{pick}
 use Rattle.base.specs.Check.{Check, ok, no, fault, Passed}
 use Rattle.base.specs.Lists.{each}
 use Rattle.base.specs.Keys.{among}
 use Rattle.base.specs.Walk.{Got, before}
 use Rattle.base.specs.declared.Fault.{Fault}
-use Rattle.base.proofs.ChoiceLaws.{by-test}
 use Rattle.skeleton.specs.File.{Field, recordsFrom, recordsOf}
 use Rattle.base.proofs.ListLaws.{each-length}
 use Rattle.skeleton.proofs.FileLaws.{records-all}
@@ -23,17 +21,17 @@ use Rattle.rules.specs.Record.{Rec, keyOf}
 use Rattle.rules.specs.General.{generalRecord}
 use Rattle.rules.specs.Written.{Dataset, count}
 use Rattle.rules.specs.Outcome.{Outcome, done, refused, andThen, at, everyRecord}
-use Rattle.rules.specs.File.{Stored, storedAs, datasetTest, taken, datasetOf, references, readDataset}
+use Rattle.rules.specs.File.{Stored, storedAs, datasetOf, references, readDataset}
 use Rattle.rules.specs.Answers.{refusal, success, notTooLong, readOutcome, readAnswer, read}
 use Rattle.rules.specs.declared.Mode.the-variants.{InDataset}
 use Rattle.rules.proofs.OutcomeLaws.{andThen-inv}
 use Rattle.opening.specs.Carried.{carried, beginsCsid, unread, firstTwo, firstThree, openedBy}
 use Rattle.opening.specs.declared.carried.Opened.{Opened}
 use Rattle.opening.specs.declared.carried.Opened.the-variants.{Behind, Stopped as Shut}
-use Rattle.opening.proofs.CarriedLaws.{there, behind-in, behind-is}
+use Rattle.opening.proofs.CarriedLaws.{behind-in, behind-is}
 use Rattle.opening.proofs.OpeningLaws.{carried-over, fromFourth, opened}
 use Rattle.keys.specs.Listed.{keysFrom}
-use Rattle.keys.specs.Standing.{outcomeFrom, referencesFrom, unread as unreadOf}
+use Rattle.keys.specs.Standing.{outcomeFrom, referencesFrom}
 use Rattle.keys.proofs.ReferenceLaws.{Reads, taken-reads, unread-done, references-start}
 use Rattle.dataset.specs.Walk.{wholeFrom, walkedBy}
 use Rattle.dataset.specs.declared.walk.Walked.{Walked}

@@ -6,9 +6,9 @@ use mathlib.Core.Option.{Option, some, none}
 use Prim.Native.Nat.{ℕ, _+_, _-_, _≤_, _<_}
 use native.Mathlib.Omega.{arith}
 use borrow.Author.Tests.{eq-eqb, ne-eqb, lt-ltb, le-ltb, not-true, not-false}
-use lib.Dec.{eqb, ltb}
-use lib.ListN.{length, getD, drop}
-use Rattle.base.specs.Choice.{pick, both, either}
+use lib.Dec.{eqb}
+use lib.ListN.{length, getD}
+use Rattle.base.specs.Choice.{pick}
 use Rattle.base.specs.Check.{Check, ok, no, bind, fault, Passed, pass}
 use Rattle.base.proofs.ChoiceLaws.{by-test, both-true}
 use Rattle.skeleton.specs.File.{Field}
@@ -27,7 +27,7 @@ use Rattle.rules.specs.declared.Kind.{Kind}
 use Rattle.rules.specs.declared.Kind.the-variants.{Info, Point, Multi, Feature}
 use Rattle.rules.specs.declared.Mode.{Mode}
 use Rattle.rules.specs.declared.Mode.the-variants.{InDataset, InUpdate}
-use Rattle.records.specs.Rows.{rowsWith, tagsOf}
+use Rattle.records.specs.Rows.{tagsOf}
 use Rattle.records.specs.Order.{shutOut, faultyField, orderFrom, instructionsOf}
 use Rattle.records.specs.Graded.{graded, foundKind, ruinPlace}
 use Rattle.records.specs.declared.order.Instructions.{Instructions}

@@ -1,18 +1,17 @@
 -- Laws of the order of fields. Assumes nothing.
-use mathlib.Core.Path.{_≡_, refl, sym, _∙_}
+use mathlib.Core.Path.{_≡_, refl}
 use mathlib.Core.Bool.{Bool, true, false, not}
-use mathlib.Core.List.{List, [], _∷_}
-use mathlib.Core.Option.{none, some}
+use mathlib.Core.List.{List}
+use mathlib.Core.Option.{none}
 use Prim.Native.Nat.{ℕ, _+_, _-_, _^_, _≤_, _<_}
-use native.Mathlib.Numerals.{add-one}
 use native.Mathlib.Omega.{arith}
-use borrow.Author.Tests.{eq-eqb, ne-eqb, not-true, not-false}
+use borrow.Author.Tests.{eq-eqb, ne-eqb}
 use lib.Dec.{eqb}
 use lib.ListN.{length, getD, drop}
-use Rattle.base.specs.Choice.{pick, both, either}
+use Rattle.base.specs.Choice.{both, either}
 use Rattle.base.proofs.ChoiceLaws.{both-false}
 use Rattle.skeleton.specs.Directory.{tagAt}
-use Rattle.skeleton.specs.Place.{placeAt, fieldsAt}
+use Rattle.skeleton.specs.Place.{placeAt}
 use Rattle.skeleton.specs.RightFrom.{RightFrom}
 use Rattle.skeleton.specs.declared.directory.Shape.{Shape}
 use Rattle.skeleton.specs.declared.place.Place.{Place}

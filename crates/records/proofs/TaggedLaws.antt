@@ -1,13 +1,12 @@
 -- Laws of fields found by their tags. Assumes nothing.
-use mathlib.Core.Path.{_≡_, refl, sym, _∙_, ap}
-use mathlib.Core.Bool.{Bool, true, false, not}
+use mathlib.Core.Path.{_≡_, refl, sym, _∙_}
+use mathlib.Core.Bool.{Bool, true, false}
 use mathlib.Core.List.{List, [], _∷_}
 use Prim.Native.Nat.{ℕ, _+_, _-_, _≤_, _<_}
 use native.Mathlib.Omega.{arith}
 use native.Mathlib.Nat.{add-zero}
 use borrow.Author.Tests.{eq-eqb, ne-eqb}
-use lib.Dec.{eqb}
-use lib.ListN.{length, getD, take, drop, length-take, length-drop, List·getD-eq-default}
+use lib.ListN.{length, getD, drop, length-take, List·getD-eq-default}
 use lib.Seq.{getD-take, getD-drop}
 use Rattle.base.specs.Lists.{each, empty}
 use Rattle.skeleton.specs.Directory.{tagAt}
@@ -18,8 +17,8 @@ use Rattle.skeleton.specs.declared.place.Place.{Place}
 use Rattle.skeleton.specs.declared.place.Place.the-variants.{At, Done}
 use Rattle.skeleton.proofs.PlaceLaws.{fields-more, fields-done}
 use Rattle.skeleton.proofs.RightLaws.{Next, right-next, right-done, right-in, right-tag, right-on, right-word, right-falls}
-use Rattle.skeleton.proofs.FindLaws.{found-none, found-first, found-tag, found-runs, found-in}
-use Rattle.rules.specs.ByTag.{withTag, has, bodies, bodyOf}
+use Rattle.skeleton.proofs.FindLaws.{found-none, found-first, found-tag, found-in}
+use Rattle.rules.specs.ByTag.{withTag, has, bodies}
 use Rattle.rules.specs.Grammar.{couiByte}
 use Rattle.rules.proofs.ByTagLaws.{with-from}
 

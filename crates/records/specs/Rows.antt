@@ -1,8 +1,8 @@
 -- The rows of a grammar as code holds them: their tags. Which of them may stand often, and which a record of a dataset needs, the tag says.
-use Prim.Native.Nat.{ℕ, _+_, _-_}
+use Prim.Native.Nat.{ℕ, _+_}
 use mathlib.Core.Bool.{Bool}
 use mathlib.Core.List.{List, [], _∷_}
-use lib.ListN.{length, drop}
+use lib.ListN.{drop}
 use lib.Dec.{eqb}
 use Rattle.base.specs.Choice.{pick, either}
 use Rattle.base.specs.Lists.{each}

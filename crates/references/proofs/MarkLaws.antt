@@ -15,7 +15,7 @@ use Rattle.rules.specs.Associations.{Mark, number11}
 use Rattle.rules.specs.Record.{Rec, keyOf}
 use Rattle.contents.proofs.VerdictLaws.{says-pass, says-no}
 use Rattle.keys.specs.Key.{keyAt}
-use Rattle.keys.specs.Listed.{keysFrom, hasFrom}
+use Rattle.keys.specs.Listed.{hasFrom}
 use Rattle.keys.specs.Look.{Sound}
 use Rattle.keys.specs.Numbered.{Numbered}
 use Rattle.keys.proofs.NamedLaws.{Names}

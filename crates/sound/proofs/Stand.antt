@@ -3,8 +3,8 @@ use Prim.Native.Nat.{ℕ, _+_}
 use mathlib.Core.Path.{_≡_, refl}
 use mathlib.Core.Bool.{Bool, true}
 use mathlib.Core.List.{List, [], _∷_}
-use Rattle.base.specs.Check.{Check, ok, no, bind, inField, pass}
-use Rattle.base.proofs.CheckLaws.{bind-inv, refused, field-inv}
+use Rattle.base.specs.Check.{Check, bind, inField, pass}
+use Rattle.base.proofs.CheckLaws.{bind-inv, field-inv}
 use Rattle.skeleton.specs.File.{Field}
 use Rattle.fields.specs.Table.{headOf, tupleOf}
 use Rattle.fields.specs.Content.{fill}

@@ -1,23 +1,23 @@
 -- The fields of a record fill it, and it has at most 99,999 bytes. Assumes nothing.
-use Prim.Native.Nat.{ℕ, zero, suc, _+_, _-_, _*_, _^_, _≤_, _<_}
-use mathlib.Core.Path.{_≡_, refl, sym, ap, _∙_}
+use Prim.Native.Nat.{ℕ, suc, _+_, _-_, _*_, _^_, _≤_, _<_}
+use mathlib.Core.Path.{_≡_, refl, sym}
 use mathlib.Core.Bool.{Bool, true, false}
 use mathlib.Core.List.{List, [], _∷_}
 use native.Mathlib.Omega.{arith}
 use native.Mathlib.Nat.{mul-le-mul-right, pow-suc, one-le-pow, pow-le-pow-right}
-use borrow.Author.Tests.{leb-true, eqb-true, ltb-false}
+use borrow.Author.Tests.{leb-true, eqb-true}
 use lib.Dec.{leb, eqb, ltb}
-use lib.ListN.{length, length-take, length-drop, take, drop, getD}
+use lib.ListN.{length, length-take, length-drop, drop, getD}
 use Rattle.base.specs.Choice.{pick, both}
 use Rattle.base.specs.Walk.{Got}
 use Rattle.base.proofs.ChoiceLaws.{by-test, both-hold}
 use Rattle.base.proofs.WalkLaws.{by-measure}
 use Rattle.skeleton.specs.Digits.{isDigit, digits, digitsFrom, numberAt, valueOf, window}
-use Rattle.skeleton.specs.Leader.{within, statedOf, leaderOf}
-use Rattle.skeleton.specs.Directory.{entryAt, lies, ended, fieldsFrom, fieldsOf}
+use Rattle.skeleton.specs.Leader.{within, statedOf}
+use Rattle.skeleton.specs.Directory.{entryAt, lies, ended, fieldsFrom}
 use Rattle.skeleton.specs.Emit.{sizes}
 use Rattle.skeleton.specs.File.{Field}
-use Rattle.skeleton.specs.Place.{between, placeAt, placeOf, fieldsAt}
+use Rattle.skeleton.specs.Place.{between, placeAt, fieldsAt}
 use Rattle.skeleton.specs.Record.{recordAt, statedAt}
 use Rattle.skeleton.specs.declared.digits.Number.{Number}
 use Rattle.skeleton.specs.declared.digits.Number.the-variants.{Value, NotDigits}

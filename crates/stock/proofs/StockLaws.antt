@@ -9,12 +9,12 @@ use borrow.Author.Tests.{le-ltb, eqb-true}
 use lib.Dec.{ltb, eqb, leb}
 use lib.ListN.{length}
 use Rattle.base.specs.Choice.{pick}
-use Rattle.base.specs.Check.{Check, ok, no, bind, fault, pass, Passed}
+use Rattle.base.specs.Check.{Check, ok, no, bind, fault, Passed}
 use Rattle.base.specs.Lists.{each}
 use Rattle.base.specs.Keys.{among}
-use Rattle.base.specs.Walk.{Got, before}
+use Rattle.base.specs.Walk.{Got}
 use Rattle.base.proofs.CheckLaws.{bind-inv, ok-inj}
-use Rattle.skeleton.specs.File.{Field, recordsFrom, recordsOf}
+use Rattle.skeleton.specs.File.{Field, recordsFrom}
 use Rattle.skeleton.specs.Place.{between, fieldsAt}
 use Rattle.skeleton.specs.Record.{recordAt}
 use Rattle.skeleton.specs.declared.leader.Head.{Head}
@@ -27,7 +27,7 @@ use Rattle.rules.specs.Content.{number5}
 use Rattle.rules.specs.Trees.{number6}
 use Rattle.rules.specs.Associations.{number7}
 use Rattle.rules.specs.Record.{Rec, recOf, keyOf, datasetRecord}
-use Rattle.rules.specs.Outcome.{Outcome, done, refused, andThen}
+use Rattle.rules.specs.Outcome.{Outcome, done, refused}
 use Rattle.rules.specs.File.{lastRank, datasetTest, through, taken, ending}
 use Rattle.rules.specs.declared.Kind.{Kind}
 use Rattle.rules.specs.declared.Mode.the-variants.{InDataset}

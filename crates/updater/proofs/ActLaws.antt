@@ -5,7 +5,7 @@ use mathlib.Core.Bool.{Bool, true, false}
 use mathlib.Core.List.{List, [], _∷_, _++_}
 use native.Mathlib.Omega.{arith}
 use borrow.Author.Tests.{lt-ltb, le-ltb}
-use lib.ListN.{length, take, drop, length-append}
+use lib.ListN.{length, length-append}
 use lib.Dec.{ltb}
 use Rattle.base.specs.Choice.{pick}
 use Rattle.base.specs.Check.{ok, fault}
@@ -25,7 +25,7 @@ use Rattle.rules.specs.Written.{Dataset, writtenFields, fieldWidth, written, wr
 use Rattle.rules.specs.Outcome.{Outcome, done, refused, andThen, at}
 use Rattle.rules.specs.File.{Sent, sentAs}
 use Rattle.rules.specs.Update.{general}
-use Rattle.rules.specs.Answers.{Written, refusal, success, notTooLong, outputOf, updateOutcome, update}
+use Rattle.rules.specs.Answers.{Written, success, notTooLong, outputOf, update}
 use Rattle.rules.specs.declared.Answer.{Answer}
 use Rattle.rules.proofs.OutcomeLaws.{andThen-inv, done-inj}
 use Rattle.numbers.proofs.Answers.{zero-is-done}

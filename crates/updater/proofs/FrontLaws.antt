@@ -6,7 +6,6 @@ use mathlib.Core.List.{List, _++_}
 use native.Mathlib.Omega.{arith}
 use borrow.Author.Tests.{lt-ltb, le-ltb}
 use lib.ListN.{length, length-take, length-drop}
-use lib.Dec.{ltb}
 use Rattle.base.specs.Choice.{pick}
 use Rattle.base.specs.Check.{no, bind, fault, pass}
 use Rattle.memory.specs.Wrote.{Wrote}
@@ -18,13 +17,13 @@ use Rattle.skeleton.specs.Record.{recordAt}
 use Rattle.skeleton.specs.Shape.{Bounded}
 use Rattle.skeleton.specs.declared.leader.Head.{Head}
 use Rattle.skeleton.specs.declared.leader.Head.the-variants.{Good, Refused}
-use Rattle.skeleton.proofs.RecordLaws.{right, record-word}
+use Rattle.skeleton.proofs.RecordLaws.{record-word}
 use Rattle.rules.specs.General.{number8, merged}
 use Rattle.rules.specs.Written.{fieldWidth, writtenLength, number12}
 use Rattle.rules.specs.Update.{general}
 use Rattle.writing.specs.House.{inHouseForm}
 use Rattle.writing.proofs.HouseLaws.{house-carried}
-use Rattle.updater.specs.Pieces.{There, Cut, Lies, fieldsIn}
+use Rattle.updater.specs.Pieces.{There, Cut, Lies}
 use Rattle.updater.specs.Told.{generalBy}
 use Rattle.updater.specs.declared.front.Piece.{Piece}
 use Rattle.updater.specs.declared.front.Follows.the-variants.{Long, Refused as Stopped}

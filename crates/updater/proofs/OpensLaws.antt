@@ -1,9 +1,9 @@
 -- Where the first records of a dataset and of an update stand. Assumes nothing.
-use Prim.Native.Nat.{ℕ, _+_, _-_, _^_, _≤_, _<_}
+use Prim.Native.Nat.{ℕ, _+_, _-_, _≤_, _<_}
 use mathlib.Core.Path.{_≡_, refl, sym, ap, _∙_}
 use mathlib.Core.List.{List, [], _∷_}
 use native.Mathlib.Omega.{arith}
-use lib.ListN.{length, getD, drop}
+use lib.ListN.{length, getD}
 use Rattle.base.specs.Walk.{Got, before}
 use Rattle.skeleton.specs.File.{Field, recordsFrom, recordsOf}
 use Rattle.skeleton.specs.Place.{between, fieldsAt}
@@ -12,7 +12,7 @@ use Rattle.skeleton.specs.declared.directory.Shape.{Shape}
 use Rattle.skeleton.specs.declared.leader.Head.{Head}
 use Rattle.skeleton.specs.declared.leader.Head.the-variants.{Good, Refused}
 use Rattle.skeleton.proofs.FileLaws.{records-all}
-use Rattle.skeleton.proofs.RecordLaws.{right, record-word}
+use Rattle.skeleton.proofs.RecordLaws.{right}
 use Rattle.rules.specs.General.{generalRecord}
 use Rattle.rules.specs.Record.{Rec}
 use Rattle.rules.specs.Written.{Dataset}
@@ -24,7 +24,6 @@ use Rattle.opening.specs.Carried.{carried, beginsCsid, unread, firstTwo, firstT
 use Rattle.opening.proofs.CarriedLaws.{behind-in}
 use Rattle.opening.proofs.OpeningLaws.{Over, carried-over, fromFourth, opened}
 use Rattle.keys.proofs.ReferenceLaws.{taken-reads, reads-sound}
-use Rattle.stock.specs.Stock.{stockFrom}
 use Rattle.stock.proofs.StockLaws.{taken-stock}
 use Rattle.incoming.specs.Fitting.{Fitting}
 use Rattle.updater.specs.Pieces.{There, Cut, Lies, fieldsIn, Run}

@@ -11,10 +11,10 @@ use Rattle.base.specs.Choice.{pick}
 use Rattle.base.specs.Check.{no, ok, fault, pass}
 use Rattle.base.specs.Lists.{each}
 use Rattle.skeleton.specs.File.{Field}
-use Rattle.rules.specs.General.{generalRecord, merged}
+use Rattle.rules.specs.General.{generalRecord}
 use Rattle.rules.specs.Record.{Rec}
 use Rattle.rules.specs.Written.{Dataset, writtenFields, writtenLength, number12, written}
-use Rattle.rules.specs.Outcome.{done, andThen, at, everyRecord}
+use Rattle.rules.specs.Outcome.{done, at, everyRecord}
 use Rattle.rules.specs.File.{writable}
 use Rattle.rules.specs.Update.{general}
 use Rattle.rules.specs.declared.Mode.the-variants.{InDataset, InUpdate}

@@ -1,14 +1,14 @@
 -- From each way out of the updater to the rules' outcome, up to the general records. Assumes nothing.
-use Prim.Native.Nat.{ℕ, _+_, _≤_, _<_}
+use Prim.Native.Nat.{ℕ, _≤_, _<_}
 use mathlib.Core.Path.{_≡_, refl, sym, ap, _∙_, subst}
 use mathlib.Core.Bool.{Bool, true, false}
-use mathlib.Core.List.{List, []}
+use mathlib.Core.List.{List}
 use native.Mathlib.Omega.{arith}
 use borrow.Author.Tests.{lt-ltb, le-ltb, ltb-false}
-use lib.ListN.{length, take}
+use lib.ListN.{length}
 use lib.Dec.{ltb}
 use Rattle.base.specs.Choice.{pick}
-use Rattle.base.specs.Check.{Check, ok, no, bind, fault, pass}
+use Rattle.base.specs.Check.{Check, ok, no, fault, pass}
 use Rattle.base.specs.Walk.{Got}
 use Rattle.base.specs.declared.Fault.{Fault}
 use Rattle.base.proofs.CheckLaws.{bind-inv, ok-inj}
@@ -19,11 +19,10 @@ use Rattle.rules.specs.Written.{Dataset, written, writtenLength, number12}
 use Rattle.rules.specs.Outcome.{Outcome, done, refused, andThen, at}
 use Rattle.rules.specs.File.{Sent, sentAs, readDataset, writable, readUpdate}
 use Rattle.rules.specs.Update.{general}
-use Rattle.rules.specs.Answers.{Written, refusal, success, notTooLong, enoughWork, readOutcome, readAnswer, read, outputOf, updateOutcome, update}
+use Rattle.rules.specs.Answers.{Written, refusal, success, notTooLong, enoughWork, readOutcome, readAnswer, read, outputOf, update}
 use Rattle.rules.specs.declared.Answer.{Answer}
 use Rattle.numbers.specs.Zero.{Done}
 use Rattle.numbers.proofs.Answers.{zero-is-done}
-use Rattle.sequence.proofs.Tests.{by-bool}
 use Rattle.updates.specs.Streamed.{streamedTo, streamedOutcome}
 use Rattle.updates.proofs.Read.{refuses}
 use Rattle.updates.proofs.Streams.{streams}

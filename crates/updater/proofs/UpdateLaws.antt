@@ -1,12 +1,12 @@
 -- The output and the workspace at the end. Assumes nothing.
 use Prim.Native.Nat.{ℕ, _-_, _≤_}
 use mathlib.Core.Path.{_≡_, refl, sym, ap, _∙_}
-use mathlib.Core.List.{List, _++_}
+use mathlib.Core.List.{List}
 use native.Mathlib.Omega.{arith}
 use lib.ListN.{length, take, length-take}
 use Rattle.memory.specs.Hold.{zeros, hold}
 use Rattle.rules.specs.Outcome.{Outcome, done, refused}
-use Rattle.rules.specs.Answers.{Output, Written, refusal, success, outputOf, updateOutcome, update, workAfter}
+use Rattle.rules.specs.Answers.{Output, Written, success, outputOf, updateOutcome, update, workAfter}
 use Rattle.rules.specs.declared.Answer.{Answer}
 use Rattle.numbers.specs.Zero.{Done}
 use Rattle.numbers.proofs.Answers.{zero-is-done}

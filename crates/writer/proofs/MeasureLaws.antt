@@ -8,7 +8,7 @@ use borrow.Author.Tests.{lt-ltb, le-ltb}
 use lib.ListN.{length, length-take, length-drop}
 use lib.Dec.{ltb}
 use Rattle.base.specs.Choice.{pick}
-use Rattle.base.specs.Check.{no, fault}
+use Rattle.base.specs.Check.{fault}
 use Rattle.skeleton.specs.File.{Field}
 use Rattle.skeleton.specs.Emit.{lengthOf, emits}
 use Rattle.skeleton.specs.Place.{between, fieldsAt}

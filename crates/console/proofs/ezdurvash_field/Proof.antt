@@ -1,13 +1,8 @@
 -- `ezdurvash_field` meets its contract. Assumes nothing.
 use Rattle.console.proofs.FieldLaws.{field-found, field-none}
-use native.Mathlib.Omega.{arith}
 use borrow.Author.Needs.{needs}
 use Rattle.console.proofs.ezdurvash_field.Statement.{statement}
 use Rattle.console.proofs.ezdurvash_field.Tie as tie
-use Rattle.console.proofs.ezdurvash_field.Reads as reads
-use Rattle.console.proofs.ezdurvash_field.Lts as lts
-use Rattle.console.proofs.put_field.Reads as put-field-reads
-use Rattle.fieldwise.proofs.file.field_of_record.Reads as field-of-record-reads
 
 field-of-record-requires : tie.Need-field-of-record-requires
 field-of-record-requires c κs = search needs

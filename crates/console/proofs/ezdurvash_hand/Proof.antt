@@ -1,13 +1,8 @@
 -- `ezdurvash_hand` meets its contract. Assumes nothing.
 use Rattle.console.proofs.ShownLaws.{hands-so}
-use native.Mathlib.Omega.{arith}
 use borrow.Author.Needs.{needs}
 use Rattle.console.proofs.ezdurvash_hand.Statement.{statement}
 use Rattle.console.proofs.ezdurvash_hand.Tie as tie
-use Rattle.console.proofs.ezdurvash_hand.Reads as reads
-use Rattle.console.proofs.ezdurvash_hand.Lts as lts
-use Rattle.console.proofs.put_answer.Reads as put-answer-reads
-use Rattle.display.proofs.hand.Reads as hand-reads
 
 hand-requires : tie.Need-hand-requires
 hand-requires c κs = search needs

@@ -1,12 +1,7 @@
 use Rattle.console.proofs.NumberedLaws.{numbers-ways}
-use native.Mathlib.Omega.{arith}
 use borrow.Author.Needs.{needs}
 use Rattle.console.proofs.ezdurvash_read.Statement.{statement}
 use Rattle.console.proofs.ezdurvash_read.Tie as tie
-use Rattle.console.proofs.ezdurvash_read.Reads as reads
-use Rattle.console.proofs.ezdurvash_read.Lts as lts
-use Rattle.console.proofs.put_answer.Reads as put-answer-reads
-use Rattle.reader.proofs.read.Reads as read-reads
 
 read-requires : tie.Need-read-requires
 read-requires c κs = search needs

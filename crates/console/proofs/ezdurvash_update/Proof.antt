@@ -1,13 +1,8 @@
 -- `ezdurvash_update` meets its contract. Assumes nothing.
 use Rattle.console.proofs.NumberedLaws.{numbers-same}
-use native.Mathlib.Omega.{arith}
 use borrow.Author.Needs.{needs}
 use Rattle.console.proofs.ezdurvash_update.Statement.{statement}
 use Rattle.console.proofs.ezdurvash_update.Tie as tie
-use Rattle.console.proofs.ezdurvash_update.Reads as reads
-use Rattle.console.proofs.ezdurvash_update.Lts as lts
-use Rattle.console.proofs.put_answer.Reads as put-answer-reads
-use Rattle.updater.proofs.update.Reads as update-reads
 
 update-requires : tie.Need-update-requires
 update-requires c κs = search needs

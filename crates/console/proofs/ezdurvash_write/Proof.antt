@@ -1,12 +1,7 @@
 use Rattle.console.proofs.NumberedLaws.{numbers-ways}
-use native.Mathlib.Omega.{arith}
 use borrow.Author.Needs.{needs}
 use Rattle.console.proofs.ezdurvash_write.Statement.{statement}
 use Rattle.console.proofs.ezdurvash_write.Tie as tie
-use Rattle.console.proofs.ezdurvash_write.Reads as reads
-use Rattle.console.proofs.ezdurvash_write.Lts as lts
-use Rattle.console.proofs.put_answer.Reads as put-answer-reads
-use Rattle.writer.proofs.write.Reads as write-reads
 
 write-requires : tie.Need-write-requires
 write-requires c κs = search needs

@@ -4,8 +4,6 @@ use native.Mathlib.Omega.{arith}
 use borrow.Author.Needs.{needs}
 use Rattle.console.proofs.put_answer.Statement.{statement}
 use Rattle.console.proofs.put_answer.Tie as tie
-use Rattle.console.proofs.put_answer.Reads as reads
-use Rattle.console.proofs.put_answer.Lts as lts
 
 returns : tie.Need-returns
 returns c = search numbers-ways

@@ -5,8 +5,6 @@ use native.Mathlib.Omega.{arith}
 use borrow.Author.Needs.{needs}
 use Rattle.console.proofs.put_field.Statement.{statement}
 use Rattle.console.proofs.put_field.Tie as tie
-use Rattle.console.proofs.put_field.Reads as reads
-use Rattle.console.proofs.put_field.Lts as lts
 
 returns : tie.Need-returns
 returns c = search three-left

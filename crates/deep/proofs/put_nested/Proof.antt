@@ -4,9 +4,6 @@ use lib.ListN.{length}
 use borrow.Author.Needs.{needs}
 use Rattle.deep.proofs.put_nested.Statement.{statement}
 use Rattle.deep.proofs.put_nested.Tie as tie
-use Rattle.deep.proofs.put_nested.Reads as reads
-use Rattle.deep.proofs.put_nested.Lts as lts
-use Rattle.deep.proofs.put_tuple.Reads as put-tuple-reads
 
 abbrev Inv-loop : tie.InvT-loop
 Inv-loop b₀ n k₀ b k = length b ≡ length b₀

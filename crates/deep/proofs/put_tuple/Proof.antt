@@ -3,8 +3,6 @@ use native.Mathlib.Omega.{arith}
 use borrow.Author.Needs.{needs}
 use Rattle.deep.proofs.put_tuple.Statement.{statement}
 use Rattle.deep.proofs.put_tuple.Tie as tie
-use Rattle.deep.proofs.put_tuple.Reads as reads
-use Rattle.deep.proofs.put_tuple.Lts as lts
 
 mul-at : tie.Need-mul-at
 mul-at c = search needs

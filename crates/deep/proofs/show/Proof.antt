@@ -3,12 +3,6 @@ use native.Mathlib.Omega.{arith}
 use borrow.Author.Needs.{needs}
 use Rattle.deep.proofs.show.Statement.{statement}
 use Rattle.deep.proofs.show.Tie as tie
-use Rattle.deep.proofs.show.Reads as reads
-use Rattle.deep.proofs.show.Lts as lts
-use Rattle.deep.proofs.acts_of.Reads as acts-of-reads
-use Rattle.deep.proofs.tree_of.Reads as tree-of-reads
-use Rattle.io.proofs.print_decimal.Reads as print-decimal-reads
-use Rattle.io.proofs.write_all.Reads as write-all-reads
 
 slice-aggregate-tree-of : tie.Need-slice-aggregate-tree-of
 slice-aggregate-tree-of c = simp length-take (omega arith)

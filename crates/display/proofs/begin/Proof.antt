@@ -1,12 +1,8 @@
 -- `begin` meets its contract. Assumes nothing.
 use Rattle.display.proofs.PoolLaws.{begun}
-use native.Mathlib.Omega.{arith}
 use borrow.Author.Needs.{needs}
 use Rattle.display.proofs.begin.Statement.{statement}
 use Rattle.display.proofs.begin.Tie as tie
-use Rattle.display.proofs.begin.Reads as reads
-use Rattle.display.proofs.begin.Lts as lts
-use Rattle.writer.proofs.write.Reads as write-reads
 
 write-requires : tie.Need-write-requires
 write-requires c κs = search needs

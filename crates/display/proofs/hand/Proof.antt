@@ -1,13 +1,8 @@
 -- `hand` meets its contract. Assumes nothing.
 use Rattle.display.proofs.PoolLaws.{followed-first, followed-second}
-use native.Mathlib.Omega.{arith}
 use borrow.Author.Needs.{needs}
 use Rattle.display.proofs.hand.Statement.{statement}
 use Rattle.display.proofs.hand.Tie as tie
-use Rattle.display.proofs.hand.Reads as reads
-use Rattle.display.proofs.hand.Lts as lts
-use Rattle.display.proofs.hand_over.Reads as hand-over-reads
-use Rattle.display.proofs.next_chart.Reads as next-chart-reads
 
 hand-over-requires : tie.Need-hand-over-requires
 hand-over-requires c κs = search needs

@@ -1,13 +1,8 @@
 -- `hand_over` meets its contract. Assumes nothing.
 use Rattle.display.proofs.PoolLaws.{held-inside, handed-front}
-use native.Mathlib.Omega.{arith}
 use borrow.Author.Needs.{needs}
 use Rattle.display.proofs.hand_over.Statement.{statement}
 use Rattle.display.proofs.hand_over.Tie as tie
-use Rattle.display.proofs.hand_over.Reads as reads
-use Rattle.display.proofs.hand_over.Lts as lts
-use Rattle.display.proofs.held.Reads as held-reads
-use Rattle.updater.proofs.update.Reads as update-reads
 
 held-requires : tie.Need-held-requires
 held-requires c κs = search needs

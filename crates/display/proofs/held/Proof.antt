@@ -1,11 +1,7 @@
 -- `held` meets its contract. Assumes nothing.
 use Rattle.display.proofs.PoolLaws.{held-short, held-long}
-use borrow.Author.Needs.{needs}
-use native.Mathlib.Omega.{arith}
 use Rattle.display.proofs.held.Statement.{statement}
 use Rattle.display.proofs.held.Tie as tie
-use Rattle.display.proofs.held.Reads as reads
-use Rattle.display.proofs.held.Lts as lts
 
 returns : tie.Need-returns
 returns c = search held-short

@@ -1,11 +1,7 @@
 -- `next_chart` meets its contract. Assumes nothing.
 use Rattle.display.proofs.PoolLaws.{chart-stays, chart-moves}
-use borrow.Author.Needs.{needs}
-use native.Mathlib.Omega.{arith}
 use Rattle.display.proofs.next_chart.Statement.{statement}
 use Rattle.display.proofs.next_chart.Tie as tie
-use Rattle.display.proofs.next_chart.Reads as reads
-use Rattle.display.proofs.next_chart.Lts as lts
 
 returns : tie.Need-returns
 returns c = chart-stays _ _ (c .if1 .taken)

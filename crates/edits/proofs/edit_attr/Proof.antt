@@ -3,9 +3,6 @@ use native.Mathlib.Omega.{arith}
 use borrow.Author.Needs.{needs}
 use Rattle.edits.proofs.edit_attr.Statement.{statement}
 use Rattle.edits.proofs.edit_attr.Tie as tie
-use Rattle.edits.proofs.edit_attr.Reads as reads
-use Rattle.edits.proofs.edit_attr.Lts as lts
-use Rattle.edits.proofs.acting.acts.Reads as acts-reads
 
 acts-requires : tie.Need-acts-requires
 acts-requires c κs =

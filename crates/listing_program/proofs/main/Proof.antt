@@ -1,13 +1,7 @@
 use Rattle.listing_program.proofs.ProgramLaws.{text-fits, text-long}
-use native.Mathlib.Omega.{arith}
 use borrow.Author.Needs.{needs}
 use Rattle.listing_program.proofs.main.Statement.{statement}
 use Rattle.listing_program.proofs.main.Tie as tie
-use Rattle.listing_program.proofs.main.Reads as reads
-use Rattle.listing_program.proofs.main.Lts as lts
-use Rattle.io.proofs.read_full.Reads as read-full-reads
-use Rattle.io.proofs.write_all.Reads as write-all-reads
-use Rattle.listing.proofs.list.Reads as list-reads
 
 slice-aggregate-read-full : tie.Need-slice-aggregate-read-full
 slice-aggregate-read-full c = search needs

@@ -1,12 +1,7 @@
 use Rattle.reader.proofs.ReaderLaws.{after-ways}
-use native.Mathlib.Omega.{arith}
 use borrow.Author.Needs.{needs}
 use Rattle.reader.proofs.after_three.Statement.{statement}
 use Rattle.reader.proofs.after_three.Tie as tie
-use Rattle.reader.proofs.after_three.Reads as reads
-use Rattle.reader.proofs.after_three.Lts as lts
-use Rattle.dataset.proofs.walk.later_records.Reads as later-records-reads
-use Rattle.references.proofs.dataset.loose.Reads as loose-reads
 
 slice-aggregate-later-records : tie.Need-slice-aggregate-later-records
 slice-aggregate-later-records c = search needs

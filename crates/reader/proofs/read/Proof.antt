@@ -1,12 +1,7 @@
 use Rattle.reader.proofs.ReaderLaws.{read-ways}
-use native.Mathlib.Omega.{arith}
 use borrow.Author.Needs.{needs}
 use Rattle.reader.proofs.read.Statement.{statement}
 use Rattle.reader.proofs.read.Tie as tie
-use Rattle.reader.proofs.read.Reads as reads
-use Rattle.reader.proofs.read.Lts as lts
-use Rattle.opening.proofs.carried.first_three.Reads as first-three-reads
-use Rattle.reader.proofs.after_three.Reads as after-three-reads
 
 returns : tie.Need-returns
 returns c = search read-ways

@@ -6,9 +6,6 @@ use Prim.Native.Nat.{_-_}
 use lib.ListN.{length}
 use Rattle.result.proofs.compose.Statement.{statement}
 use Rattle.result.proofs.compose.Tie as tie
-use Rattle.result.proofs.compose.Reads as reads
-use Rattle.result.proofs.compose.Lts as lts
-use Rattle.result.proofs.walk.walk_kind.Reads as walk-kind-reads
 
 abbrev Inv-loop : tie.InvT-loop
 Inv-loop d ds t n map u us work₀ out₀ at q₀ g₀ work out q g = Kinds d ds u us t n map q g at out₀ work out × (length work ≡ length work₀) × (length out ≡ length out₀)

@@ -2,9 +2,6 @@ use Rattle.tree.proofs.FieldLaws.{attr-whole, attr-tree}
 use mathlib.Core.Path.{_∙_}
 use Rattle.tree.proofs.attr_tree.Statement.{statement}
 use Rattle.tree.proofs.attr_tree.Tie as tie
-use Rattle.tree.proofs.attr_tree.Reads as reads
-use Rattle.tree.proofs.attr_tree.Lts as lts
-use Rattle.tree.proofs.walk.check.Reads as check-reads
 
 check-requires : tie.Need-check-requires
 check-requires c κs = attr-whole _ (c .before .pre)

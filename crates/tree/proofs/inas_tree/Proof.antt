@@ -3,9 +3,6 @@ use mathlib.Core.Path.{_∙_}
 use borrow.Author.Needs.{needs}
 use Rattle.tree.proofs.inas_tree.Statement.{statement}
 use Rattle.tree.proofs.inas_tree.Tie as tie
-use Rattle.tree.proofs.inas_tree.Reads as reads
-use Rattle.tree.proofs.inas_tree.Lts as lts
-use Rattle.tree.proofs.walk.check.Reads as check-reads
 
 sub-check : tie.Need-sub-check
 sub-check c = inas-long _ (c .before .pre)

@@ -4,12 +4,6 @@ use lib.ListN.{length}
 use borrow.Author.Needs.{needs}
 use Rattle.updater.proofs.act.Statement.{statement}
 use Rattle.updater.proofs.act.Tie as tie
-use Rattle.updater.proofs.act.Reads as reads
-use Rattle.updater.proofs.act.Lts as lts
-use Rattle.keys.proofs.table.spread.Reads as spread-reads
-use Rattle.updater.proofs.finish.Reads as finish-reads
-use Rattle.updater.proofs.refuse.Reads as refuse-reads
-use Rattle.history.proofs.judging.judge.Reads as judge-reads
 
 cast-table : tie.Need-cast-table
 cast-table c = search needs

@@ -1,17 +1,8 @@
 use Rattle.updater.proofs.PlacedLaws.{there-first, there-old, there-third, there-sent, there-new}
 use Rattle.updater.proofs.ApplyLaws.{general-lies, front-lies, front-begun, front-stands, front-whole, front-not, general-refused}
-use native.Mathlib.Omega.{arith}
 use borrow.Author.Needs.{needs}
 use Rattle.updater.proofs.apply.Statement.{statement}
 use Rattle.updater.proofs.apply.Tie as tie
-use Rattle.updater.proofs.apply.Reads as reads
-use Rattle.updater.proofs.apply.Lts as lts
-use Rattle.updater.proofs.act.Reads as act-reads
-use Rattle.updater.proofs.front.found.Reads as found-reads
-use Rattle.updater.proofs.front.front_length.Reads as front-length-reads
-use Rattle.updater.proofs.front.general.Reads as general-reads
-use Rattle.updater.proofs.front.put_front.Reads as put-front-reads
-use Rattle.updater.proofs.refuse.Reads as refuse-reads
 
 found-requires : tie.Need-found-requires
 found-requires c κs = let s = c .before .before .before .before in there-first _ _ _ (s .pre .0)

@@ -1,14 +1,8 @@
 use Rattle.updater.proofs.EntryLaws.{built-15, built-14, built-14-update}
 use Rattle.updater.proofs.StageLaws.{unread, is-legible}
 use borrow.Author.Needs.{needs}
-use native.Mathlib.Omega.{arith}
 use Rattle.updater.proofs.build.Statement.{statement}
 use Rattle.updater.proofs.build.Tie as tie
-use Rattle.updater.proofs.build.Reads as reads
-use Rattle.updater.proofs.build.Lts as lts
-use Rattle.reader.proofs.read.Reads as read-reads
-use Rattle.updater.proofs.prepare.Reads as prepare-reads
-use Rattle.updater.proofs.refuse.Reads as refuse-reads
 
 refuse-requires : tie.Need-refuse-requires
 refuse-requires c κs = search needs

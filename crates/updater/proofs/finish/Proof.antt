@@ -3,10 +3,6 @@ use borrow.Author.Needs.{needs}
 use native.Mathlib.Omega.{arith}
 use Rattle.updater.proofs.finish.Statement.{statement}
 use Rattle.updater.proofs.finish.Tie as tie
-use Rattle.updater.proofs.finish.Reads as reads
-use Rattle.updater.proofs.finish.Lts as lts
-use Rattle.result.proofs.compose.Reads as compose-reads
-use Rattle.updater.proofs.refuse.Reads as refuse-reads
 
 compose-requires : tie.Need-compose-requires
 compose-requires c κs =

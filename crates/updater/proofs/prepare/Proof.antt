@@ -3,12 +3,6 @@ use native.Mathlib.Omega.{arith}
 use borrow.Author.Needs.{needs}
 use Rattle.updater.proofs.prepare.Statement.{statement}
 use Rattle.updater.proofs.prepare.Tie as tie
-use Rattle.updater.proofs.prepare.Reads as reads
-use Rattle.updater.proofs.prepare.Lts as lts
-use Rattle.incoming.proofs.walk.check_update.Reads as check-update-reads
-use Rattle.updater.proofs.apply.Reads as apply-reads
-use Rattle.updater.proofs.refuse.Reads as refuse-reads
-use Rattle.writer.proofs.measure.Reads as measure-reads
 
 measure-requires : tie.Need-measure-requires
 measure-requires c κs = search needs

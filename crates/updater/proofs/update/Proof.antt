@@ -1,13 +1,7 @@
 use Rattle.updater.proofs.UpdateLaws.{ended-in, left-refused, left-done}
-use native.Mathlib.Omega.{arith}
 use borrow.Author.Needs.{needs}
 use Rattle.updater.proofs.update.Statement.{statement}
 use Rattle.updater.proofs.update.Tie as tie
-use Rattle.updater.proofs.update.Reads as reads
-use Rattle.updater.proofs.update.Lts as lts
-use Rattle.memory.proofs.zero.Reads as zero-reads
-use Rattle.memory.proofs.zero_from.Reads as zero-from-reads
-use Rattle.updater.proofs.build.Reads as build-reads
 
 build-requires : tie.Need-build-requires
 build-requires c κs = search needs

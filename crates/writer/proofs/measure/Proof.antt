@@ -2,13 +2,8 @@ use Prim.Native.Nat.{_-_}
 use lib.ListN.{length}
 use Rattle.writer.proofs.MeasureLaws.{MeasuresAt, measure-turn}
 use borrow.Author.Needs.{needs}
-use native.Mathlib.Omega.{arith}
 use Rattle.writer.proofs.measure.Statement.{statement}
 use Rattle.writer.proofs.measure.Tie as tie
-use Rattle.writer.proofs.measure.Reads as reads
-use Rattle.writer.proofs.measure.Lts as lts
-use Rattle.skeleton.proofs.file.record_at.Reads as record-at-reads
-use Rattle.writing.proofs.written_length.Reads as written-length-reads
 
 abbrev Inv-loop : tie.InvT-loop
 Inv-loop f p₀ n₀ total₀ p n total = MeasuresAt f p n total

@@ -1,13 +1,7 @@
 use Rattle.writer.proofs.WriteLaws.{out-ways, out-long, out-short, out-done}
-use native.Mathlib.Omega.{arith}
 use borrow.Author.Needs.{needs}
 use Rattle.writer.proofs.put_out.Statement.{statement}
 use Rattle.writer.proofs.put_out.Tie as tie
-use Rattle.writer.proofs.put_out.Reads as reads
-use Rattle.writer.proofs.put_out.Lts as lts
-use Rattle.memory.proofs.zero_from.Reads as zero-from-reads
-use Rattle.writer.proofs.put_records.Reads as put-records-reads
-use Rattle.writer.proofs.refuse.Reads as refuse-reads
 
 refuse-requires : tie.Need-refuse-requires
 refuse-requires c κs = search needs

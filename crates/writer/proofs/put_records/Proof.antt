@@ -2,13 +2,8 @@ use Prim.Native.Nat.{_-_}
 use lib.ListN.{length}
 use Rattle.writer.proofs.PutLaws.{PutsAt, put-turn}
 use borrow.Author.Needs.{needs}
-use native.Mathlib.Omega.{arith}
 use Rattle.writer.proofs.put_records.Statement.{statement}
 use Rattle.writer.proofs.put_records.Tie as tie
-use Rattle.writer.proofs.put_records.Reads as reads
-use Rattle.writer.proofs.put_records.Lts as lts
-use Rattle.skeleton.proofs.file.record_at.Reads as record-at-reads
-use Rattle.writing.proofs.write_record.Reads as write-record-reads
 
 abbrev Inv-loop : tie.InvT-loop
 Inv-loop f out₀ p₀ n₀ q₀ out p n q = PutsAt f out₀ out p n q

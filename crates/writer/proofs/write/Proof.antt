@@ -3,12 +3,6 @@ use native.Mathlib.Omega.{arith}
 use borrow.Author.Needs.{needs}
 use Rattle.writer.proofs.write.Statement.{statement}
 use Rattle.writer.proofs.write.Tie as tie
-use Rattle.writer.proofs.write.Reads as reads
-use Rattle.writer.proofs.write.Lts as lts
-use Rattle.reader.proofs.read.Reads as read-reads
-use Rattle.writer.proofs.measure.Reads as measure-reads
-use Rattle.writer.proofs.put_out.Reads as put-out-reads
-use Rattle.writer.proofs.refuse.Reads as refuse-reads
 
 read-requires : tie.Need-read-requires
 read-requires c κs = search needs

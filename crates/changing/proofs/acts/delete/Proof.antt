@@ -1,6 +1,5 @@
 -- `delete` meets its contract. Assumes nothing.
 use Rattle.changing.proofs.ActLaws.{delete-made, delete-absent, delete-not}
-use native.Mathlib.Omega.{arith}
 use borrow.Author.Needs.{needs}
 use Rattle.changing.proofs.acts.delete.Statement.{statement}
 use Rattle.changing.proofs.acts.delete.Tie as tie

@@ -1,6 +1,5 @@
 -- `fits` meets its contract. Assumes nothing.
 use Rattle.changing.proofs.ActLaws.{too-long, long-fits}
-use native.Mathlib.Omega.{arith}
 use borrow.Author.Needs.{needs}
 use Rattle.changing.proofs.acts.fits.Statement.{statement}
 use Rattle.changing.proofs.acts.fits.Tie as tie

@@ -1,7 +1,5 @@
 -- `agrees` meets its contract. Assumes nothing.
 use Rattle.changing.proofs.SameLaws.{agrees-foid, agrees-other}
-use borrow.Author.Needs.{needs}
-use native.Mathlib.Omega.{arith}
 use Rattle.changing.proofs.foid.agrees.Statement.{statement}
 use Rattle.changing.proofs.foid.agrees.Tie as tie
 

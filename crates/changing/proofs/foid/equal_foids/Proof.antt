@@ -1,6 +1,5 @@
 -- `equal_foids` meets its contract. Assumes nothing.
 use Rattle.changing.proofs.FoidLaws.{equal-room-a, equal-room-b, same-fids, other-fidn, other-agen}
-use borrow.Author.Needs.{needs}
 use native.Mathlib.Omega.{arith}
 use Rattle.changing.proofs.foid.equal_foids.Statement.{statement}
 use Rattle.changing.proofs.foid.equal_foids.Tie as tie

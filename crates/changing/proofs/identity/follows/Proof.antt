@@ -1,6 +1,5 @@
 -- `follows` meets its contract. Assumes nothing.
 use Rattle.changing.proofs.ActLaws.{both-first, first-not}
-use native.Mathlib.Omega.{arith}
 use borrow.Author.Needs.{needs}
 use Rattle.changing.proofs.identity.follows.Statement.{statement}
 use Rattle.changing.proofs.identity.follows.Tie as tie

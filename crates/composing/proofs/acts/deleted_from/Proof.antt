@@ -6,14 +6,8 @@ use Rattle.keys.specs.Look.{Sound}
 use Rattle.composing.specs.Acts.{deletedFrom}
 use Rattle.base.specs.Choice.{either}
 use borrow.Author.Needs.{needs}
-use native.Mathlib.Omega.{arith}
 use Rattle.composing.proofs.acts.deleted_from.Statement.{statement}
 use Rattle.composing.proofs.acts.deleted_from.Tie as tie
-use Rattle.composing.proofs.acts.deleted_from.Reads as reads
-use Rattle.composing.proofs.acts.deleted_from.Lts as lts
-use Rattle.composing.proofs.acts.deletes.Reads as deletes-reads
-use Rattle.keys.proofs.look.key_at.Reads as key-at-reads
-use Rattle.skeleton.proofs.file.stated_at.Reads as stated-at-reads
 
 abbrev Inv-loop : tie.InvT-loop
 Inv-loop u us key p₀ gone₀ p gone = Sound u p × (either gone (deletedFrom u p key) ≡ deletedFrom u us key)

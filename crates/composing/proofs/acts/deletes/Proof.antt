@@ -1,11 +1,7 @@
 use Rattle.composing.proofs.ActsLaws.{names-ways}
 use borrow.Author.Needs.{needs}
-use native.Mathlib.Omega.{arith}
 use Rattle.composing.proofs.acts.deletes.Statement.{statement}
 use Rattle.composing.proofs.acts.deletes.Tie as tie
-use Rattle.composing.proofs.acts.deletes.Reads as reads
-use Rattle.composing.proofs.acts.deletes.Lts as lts
-use Rattle.composing.proofs.acts.ruin.Reads as ruin-reads
 
 returns : tie.Need-returns
 returns c = search names-ways

@@ -5,14 +5,8 @@ use mathlib.Core.Path.{_≡_, refl}
 use Rattle.keys.specs.Look.{Sound}
 use Rattle.composing.specs.Acts.{fateFrom}
 use borrow.Author.Needs.{needs}
-use native.Mathlib.Omega.{arith}
 use Rattle.composing.proofs.acts.fate.Statement.{statement}
 use Rattle.composing.proofs.acts.fate.Tie as tie
-use Rattle.composing.proofs.acts.fate.Reads as reads
-use Rattle.composing.proofs.acts.fate.Lts as lts
-use Rattle.composing.proofs.acts.leaves.Reads as leaves-reads
-use Rattle.keys.proofs.look.key_at.Reads as key-at-reads
-use Rattle.skeleton.proofs.file.stated_at.Reads as stated-at-reads
 
 abbrev Inv-loop : tie.InvT-loop
 Inv-loop u us key before p₀ stands₀ p stands = Sound u p × (fateFrom u p key stands ≡ fateFrom u us key before)

@@ -1,11 +1,7 @@
 use Rattle.composing.proofs.ActsLaws.{names-ways}
-use native.Mathlib.Omega.{arith}
 use borrow.Author.Needs.{needs}
 use Rattle.composing.proofs.acts.leaves.Statement.{statement}
 use Rattle.composing.proofs.acts.leaves.Tie as tie
-use Rattle.composing.proofs.acts.leaves.Reads as reads
-use Rattle.composing.proofs.acts.leaves.Lts as lts
-use Rattle.composing.proofs.acts.ruin.Reads as ruin-reads
 
 ruin-requires : tie.Need-ruin-requires
 ruin-requires c κs = search needs

@@ -1,13 +1,7 @@
 use Rattle.composing.proofs.ActsLaws.{ruin-ways}
-use native.Mathlib.Omega.{arith}
 use borrow.Author.Needs.{needs}
 use Rattle.composing.proofs.acts.ruin.Statement.{statement}
 use Rattle.composing.proofs.acts.ruin.Tie as tie
-use Rattle.composing.proofs.acts.ruin.Reads as reads
-use Rattle.composing.proofs.acts.ruin.Lts as lts
-use Rattle.keys.proofs.look.kind_of.Reads as kind-of-reads
-use Rattle.records.proofs.grammar.ruin_byte.Reads as ruin-byte-reads
-use Rattle.skeleton.proofs.place.place_at.Reads as place-at-reads
 
 place-at-requires : tie.Need-place-at-requires
 place-at-requires c κs = search needs

@@ -1,12 +1,7 @@
 use Rattle.composing.proofs.EmittedLaws.{emitted-ways}
 use borrow.Author.Needs.{needs}
-use native.Mathlib.Omega.{arith}
 use Rattle.composing.proofs.carrying.carry.Statement.{statement}
 use Rattle.composing.proofs.carrying.carry.Tie as tie
-use Rattle.composing.proofs.carrying.carry.Reads as reads
-use Rattle.composing.proofs.carrying.carry.Lts as lts
-use Rattle.writing.proofs.measuring.written_length.Reads as written-length-reads
-use Rattle.writing.proofs.writer.write_record.Reads as write-record-reads
 
 written-length-requires : tie.Need-written-length-requires
 written-length-requires c κs = search needs

@@ -1,11 +1,7 @@
 use Rattle.composing.proofs.HeldLaws.{area-ways}
 use borrow.Author.Needs.{needs}
-use native.Mathlib.Omega.{arith}
 use Rattle.composing.proofs.held.area_stands.Statement.{statement}
 use Rattle.composing.proofs.held.area_stands.Tie as tie
-use Rattle.composing.proofs.held.area_stands.Reads as reads
-use Rattle.composing.proofs.held.area_stands.Lts as lts
-use Rattle.composing.proofs.held.cells_stand.Reads as cells-stand-reads
 
 sub-cells-stand : tie.Need-sub-cells-stand
 sub-cells-stand c = search needs

@@ -1,12 +1,7 @@
 use Rattle.composing.proofs.HeldLaws.{cell-ways}
-use native.Mathlib.Omega.{arith}
 use borrow.Author.Needs.{needs}
 use Rattle.composing.proofs.held.cell_key.Statement.{statement}
 use Rattle.composing.proofs.held.cell_key.Tie as tie
-use Rattle.composing.proofs.held.cell_key.Reads as reads
-use Rattle.composing.proofs.held.cell_key.Lts as lts
-use Rattle.cells.proofs.cell.u24_at.Reads as u24-at-reads
-use Rattle.keys.proofs.look.key_at.Reads as key-at-reads
 
 mul-u24-at : tie.Need-mul-u24-at
 mul-u24-at c = search needs

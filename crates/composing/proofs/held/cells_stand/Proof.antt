@@ -4,10 +4,6 @@ use borrow.Author.Needs.{needs}
 use native.Mathlib.Omega.{arith}
 use Rattle.composing.proofs.held.cells_stand.Statement.{statement}
 use Rattle.composing.proofs.held.cells_stand.Tie as tie
-use Rattle.composing.proofs.held.cells_stand.Reads as reads
-use Rattle.composing.proofs.held.cells_stand.Lts as lts
-use Rattle.composing.proofs.held.cell_key.Reads as cell-key-reads
-use Rattle.composing.proofs.standing.stands.Reads as stands-reads
 
 abbrev Inv-loop : tie.InvT-loop
 Inv-loop d ds t n map u us flags c m i₀ i = Left d ds u us flags c m i

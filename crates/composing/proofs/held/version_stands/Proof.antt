@@ -1,11 +1,7 @@
 use Rattle.composing.proofs.HeldLaws.{held-ways}
 use borrow.Author.Needs.{needs}
-use native.Mathlib.Omega.{arith}
 use Rattle.composing.proofs.held.version_stands.Statement.{statement}
 use Rattle.composing.proofs.held.version_stands.Tie as tie
-use Rattle.composing.proofs.held.version_stands.Reads as reads
-use Rattle.composing.proofs.held.version_stands.Lts as lts
-use Rattle.composing.proofs.held.area_stands.Reads as area-stands-reads
 
 area-stands-requires : tie.Need-area-stands-requires
 area-stands-requires c κs = search needs

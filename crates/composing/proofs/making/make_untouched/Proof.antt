@@ -1,12 +1,7 @@
 use Rattle.composing.proofs.MadeLaws.{carries-ways}
 use borrow.Author.Needs.{needs}
-use native.Mathlib.Omega.{arith}
 use Rattle.composing.proofs.making.make_untouched.Statement.{statement}
 use Rattle.composing.proofs.making.make_untouched.Tie as tie
-use Rattle.composing.proofs.making.make_untouched.Reads as reads
-use Rattle.composing.proofs.making.make_untouched.Lts as lts
-use Rattle.composing.proofs.naming.fields_stand.Reads as fields-stand-reads
-use Rattle.composing.proofs.carrying.carry.Reads as carry-reads
 
 fields-stand-requires : tie.Need-fields-stand-requires
 fields-stand-requires c κs = search needs

@@ -1,12 +1,7 @@
 use Rattle.composing.proofs.NamingLaws.{field-ways}
 use borrow.Author.Needs.{needs}
-use native.Mathlib.Omega.{arith}
 use Rattle.composing.proofs.naming.field_stands.Statement.{statement}
 use Rattle.composing.proofs.naming.field_stands.Tie as tie
-use Rattle.composing.proofs.naming.field_stands.Reads as reads
-use Rattle.composing.proofs.naming.field_stands.Lts as lts
-use Rattle.composing.proofs.naming.inas_stands.Reads as inas-stands-reads
-use Rattle.composing.proofs.naming.spas_stand.Reads as spas-stand-reads
 
 inas-stands-requires : tie.Need-inas-stands-requires
 inas-stands-requires c κs = (search needs, search field-ways)

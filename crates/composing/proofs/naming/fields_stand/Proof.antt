@@ -9,13 +9,8 @@ use mathlib.Core.Bool.{true}
 use mathlib.Core.Path.{_≡_}
 use Prim.Native.Nat.{_-_}
 use borrow.Author.Needs.{needs}
-use native.Mathlib.Omega.{arith}
 use Rattle.composing.proofs.naming.fields_stand.Statement.{statement}
 use Rattle.composing.proofs.naming.fields_stand.Tie as tie
-use Rattle.composing.proofs.naming.fields_stand.Reads as reads
-use Rattle.composing.proofs.naming.fields_stand.Lts as lts
-use Rattle.composing.proofs.naming.field_stands.Reads as field-stands-reads
-use Rattle.skeleton.proofs.place.place_at.Reads as place-at-reads
 
 abbrev Inv-loop : tie.InvT-loop
 Inv-loop d ds t n map u us flags r h q₀ q = (allReadable (fieldsAt r h q) ≡ true) × Alike d ds u us flags (gather keysIn (fieldsAt r h q)) (gather keysIn (fieldsAt r h 24))

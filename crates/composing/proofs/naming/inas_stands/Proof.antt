@@ -1,12 +1,7 @@
 use Rattle.composing.proofs.NamingLaws.{inas-ways}
 use borrow.Author.Needs.{needs}
-use native.Mathlib.Omega.{arith}
 use Rattle.composing.proofs.naming.inas_stands.Statement.{statement}
 use Rattle.composing.proofs.naming.inas_stands.Tie as tie
-use Rattle.composing.proofs.naming.inas_stands.Reads as reads
-use Rattle.composing.proofs.naming.inas_stands.Lts as lts
-use Rattle.composing.proofs.standing.stands.Reads as stands-reads
-use Rattle.keys.proofs.look.key_at.Reads as key-at-reads
 
 key-at-requires : tie.Need-key-at-requires
 key-at-requires c κs = search needs

@@ -11,10 +11,6 @@ use borrow.Author.Needs.{needs}
 use native.Mathlib.Omega.{arith}
 use Rattle.composing.proofs.naming.spas_stand.Statement.{statement}
 use Rattle.composing.proofs.naming.spas_stand.Tie as tie
-use Rattle.composing.proofs.naming.spas_stand.Reads as reads
-use Rattle.composing.proofs.naming.spas_stand.Lts as lts
-use Rattle.composing.proofs.standing.stands.Reads as stands-reads
-use Rattle.keys.proofs.look.key_at.Reads as key-at-reads
 
 abbrev Inv-loop : tie.InvT-loop
 Inv-loop d ds t n map u us flags b at₀ at = (at ≤ length b) × (endingAt (tupleOf Spas) b at ≡ 0) × Alike d ds u us flags (spasKeys (drop at b)) (spasKeys b)

@@ -1,13 +1,6 @@
 use Rattle.composing.proofs.StandingLaws.{stands-ways}
-use borrow.Author.Needs.{needs}
-use native.Mathlib.Omega.{arith}
 use Rattle.composing.proofs.standing.stands.Statement.{statement}
 use Rattle.composing.proofs.standing.stands.Tie as tie
-use Rattle.composing.proofs.standing.stands.Reads as reads
-use Rattle.composing.proofs.standing.stands.Lts as lts
-use Rattle.composing.proofs.acts.fate.Reads as fate-reads
-use Rattle.keys.proofs.bits.flag.Reads as flag-reads
-use Rattle.keys.proofs.present.has.Reads as has-reads
 
 has-requires : tie.Need-has-requires
 has-requires c κs = search stands-ways

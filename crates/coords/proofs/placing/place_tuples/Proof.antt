@@ -1,12 +1,7 @@
 use Rattle.coords.proofs.PlacingLaws.{cocc-ways}
-use native.Mathlib.Omega.{arith}
 use borrow.Author.Needs.{needs}
 use Rattle.coords.proofs.placing.place_tuples.Statement.{statement}
 use Rattle.coords.proofs.placing.place_tuples.Tie as tie
-use Rattle.coords.proofs.placing.place_tuples.Reads as reads
-use Rattle.coords.proofs.placing.place_tuples.Lts as lts
-use Rattle.coords.proofs.placing.put_sent.Reads as put-sent-reads
-use Rattle.coords.proofs.tuples.cut_tuples.Reads as cut-tuples-reads
 
 sub-i : tie.Need-sub-i
 sub-i c = search needs

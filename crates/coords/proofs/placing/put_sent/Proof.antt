@@ -1,4 +1,4 @@
-use Prim.Native.Nat.{_-_, _*_, _≤_}
+use Prim.Native.Nat.{_-_}
 use mathlib.Core.Path.{_≡_, refl, _∙_}
 use mathlib.Core.List.{_++_}
 use lib.ListN.{length, take, drop}
@@ -7,14 +7,8 @@ use Rattle.rules.specs.Coordinates.{sent}
 use Rattle.coords.specs.Tuples.{tuplesOf}
 use Rattle.coords.specs.Placing.{Putting}
 use Rattle.coords.proofs.PlacingLaws.{putting-ways}
-use borrow.Author.Needs.{needs}
-use native.Mathlib.Omega.{arith}
 use Rattle.coords.proofs.placing.put_sent.Statement.{statement}
 use Rattle.coords.proofs.placing.put_sent.Tie as tie
-use Rattle.coords.proofs.placing.put_sent.Reads as reads
-use Rattle.coords.proofs.placing.put_sent.Lts as lts
-use Rattle.coords.proofs.tuples.put_tuples.Reads as put-tuples-reads
-use Rattle.skeleton.proofs.place.place_at.Reads as place-at-reads
 
 abbrev Inv-loop : tie.InvT-loop
 Inv-loop r h l₀ n i q₀ m₀ j₀ l q m j =

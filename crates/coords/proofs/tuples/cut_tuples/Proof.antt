@@ -4,9 +4,6 @@ use native.Mathlib.Omega.{arith}
 use borrow.Author.Needs.{needs}
 use Rattle.coords.proofs.tuples.cut_tuples.Statement.{statement}
 use Rattle.coords.proofs.tuples.cut_tuples.Tie as tie
-use Rattle.coords.proofs.tuples.cut_tuples.Reads as reads
-use Rattle.coords.proofs.tuples.cut_tuples.Lts as lts
-use Rattle.memory.proofs.close_gap.Reads as close-gap-reads
 
 mul-close-gap : tie.Need-mul-close-gap
 mul-close-gap c = search needs

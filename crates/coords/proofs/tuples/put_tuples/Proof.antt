@@ -4,9 +4,6 @@ use native.Mathlib.Omega.{arith}
 use borrow.Author.Needs.{needs}
 use Rattle.coords.proofs.tuples.put_tuples.Statement.{statement}
 use Rattle.coords.proofs.tuples.put_tuples.Tie as tie
-use Rattle.coords.proofs.tuples.put_tuples.Reads as reads
-use Rattle.coords.proofs.tuples.put_tuples.Lts as lts
-use Rattle.memory.proofs.splice.Reads as splice-reads
 
 sub-m : tie.Need-sub-m
 sub-m c = search needs

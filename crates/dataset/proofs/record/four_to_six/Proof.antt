@@ -1,12 +1,7 @@
 use Rattle.dataset.proofs.RecordLaws.{four-ways}
-use native.Mathlib.Omega.{arith}
 use borrow.Author.Needs.{needs}
 use Rattle.dataset.proofs.record.four_to_six.Statement.{statement}
 use Rattle.dataset.proofs.record.four_to_six.Tie as tie
-use Rattle.dataset.proofs.record.four_to_six.Reads as reads
-use Rattle.dataset.proofs.record.four_to_six.Lts as lts
-use Rattle.dataset.proofs.record.five_and_six.Reads as five-and-six-reads
-use Rattle.records.proofs.grammar.check_tags.Reads as check-tags-reads
 
 check-tags-requires : tie.Need-check-tags-requires
 check-tags-requires c κs = search needs

@@ -1,12 +1,7 @@
 use Rattle.dataset.proofs.WalkLaws.{admit-ways}
-use native.Mathlib.Omega.{arith}
 use borrow.Author.Needs.{needs}
 use Rattle.dataset.proofs.walk.admit.Statement.{statement}
 use Rattle.dataset.proofs.walk.admit.Tie as tie
-use Rattle.dataset.proofs.walk.admit.Reads as reads
-use Rattle.dataset.proofs.walk.admit.Lts as lts
-use Rattle.dataset.proofs.record.four_to_six.Reads as four-to-six-reads
-use Rattle.dataset.proofs.walk.seventh.Reads as seventh-reads
 
 add-e : tie.Need-add-e
 add-e c = search admit-ways

@@ -9,11 +9,6 @@ use borrow.Author.Needs.{needs}
 use native.Mathlib.Omega.{arith}
 use Rattle.dataset.proofs.walk.each_record.Statement.{statement}
 use Rattle.dataset.proofs.walk.each_record.Tie as tie
-use Rattle.dataset.proofs.walk.each_record.Reads as reads
-use Rattle.dataset.proofs.walk.each_record.Lts as lts
-use Rattle.dataset.proofs.walk.admit.Reads as admit-reads
-use Rattle.keys.proofs.once.larger.Reads as larger-reads
-use Rattle.skeleton.proofs.file.record_at.Reads as record-at-reads
 
 abbrev Inv-loop : tie.InvT-loop
 Inv-loop f start t₀ p₀ m₀ top₀ t p m top =

@@ -1,12 +1,7 @@
 use Rattle.dataset.proofs.WalkLaws.{walk-emptied}
-use native.Mathlib.Omega.{arith}
 use borrow.Author.Needs.{needs}
 use Rattle.dataset.proofs.walk.later_records.Statement.{statement}
 use Rattle.dataset.proofs.walk.later_records.Tie as tie
-use Rattle.dataset.proofs.walk.later_records.Reads as reads
-use Rattle.dataset.proofs.walk.later_records.Lts as lts
-use Rattle.dataset.proofs.walk.each_record.Reads as each-record-reads
-use Rattle.memory.proofs.zero.Reads as zero-reads
 
 zero-requires : tie.Need-zero-requires
 zero-requires c κs = search needs

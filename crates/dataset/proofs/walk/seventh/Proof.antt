@@ -1,13 +1,7 @@
 use Rattle.dataset.proofs.WalkLaws.{seventh-ways}
-use native.Mathlib.Omega.{arith}
 use borrow.Author.Needs.{needs}
 use Rattle.dataset.proofs.walk.seventh.Statement.{statement}
 use Rattle.dataset.proofs.walk.seventh.Tie as tie
-use Rattle.dataset.proofs.walk.seventh.Reads as reads
-use Rattle.dataset.proofs.walk.seventh.Lts as lts
-use Rattle.contents.proofs.keys.check_keys.Reads as check-keys-reads
-use Rattle.keys.proofs.look.key_at.Reads as key-at-reads
-use Rattle.keys.proofs.once.repeats.Reads as repeats-reads
 
 add-key-at : tie.Need-add-key-at
 add-key-at c = search seventh-ways

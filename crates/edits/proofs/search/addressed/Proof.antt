@@ -3,10 +3,6 @@ use Rattle.edits.proofs.SearchLaws.{place-within, place-zero}
 use borrow.Author.Needs.{needs}
 use Rattle.edits.proofs.search.addressed.Statement.{statement}
 use Rattle.edits.proofs.search.addressed.Tie as tie
-use Rattle.edits.proofs.search.addressed.Reads as reads
-use Rattle.edits.proofs.search.addressed.Lts as lts
-use Rattle.edits.proofs.search.locate.Reads as locate-reads
-use Rattle.items.proofs.item.number.Reads as number-reads
 
 number-requires : tie.Need-number-requires
 number-requires c κs = search needs

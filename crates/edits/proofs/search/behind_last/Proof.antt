@@ -6,10 +6,6 @@ use native.Mathlib.Omega.{arith}
 use borrow.Author.Needs.{needs}
 use Rattle.edits.proofs.search.behind_last.Statement.{statement}
 use Rattle.edits.proofs.search.behind_last.Tie as tie
-use Rattle.edits.proofs.search.behind_last.Reads as reads
-use Rattle.edits.proofs.search.behind_last.Lts as lts
-use Rattle.edits.proofs.search.locate.Reads as locate-reads
-use Rattle.edits.proofs.search.run_end.Reads as run-end-reads
 
 run-end-requires : tie.Need-run-end-requires
 run-end-requires c κs = search needs

@@ -2,9 +2,6 @@ use mathlib.Core.Path.{_∙_}
 use borrow.Author.Needs.{needs}
 use Rattle.edits.proofs.search.is_beside.Statement.{statement}
 use Rattle.edits.proofs.search.is_beside.Tie as tie
-use Rattle.edits.proofs.search.is_beside.Reads as reads
-use Rattle.edits.proofs.search.is_beside.Lts as lts
-use Rattle.edits.proofs.search.is_deeper.Reads as is-deeper-reads
 
 is-deeper-requires : tie.Need-is-deeper-requires
 is-deeper-requires c κs = search needs

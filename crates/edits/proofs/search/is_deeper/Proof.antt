@@ -3,9 +3,6 @@ use Rattle.edits.specs.Search.{deeperAt}
 use borrow.Author.Needs.{needs}
 use Rattle.edits.proofs.search.is_deeper.Statement.{statement}
 use Rattle.edits.proofs.search.is_deeper.Tie as tie
-use Rattle.edits.proofs.search.is_deeper.Reads as reads
-use Rattle.edits.proofs.search.is_deeper.Lts as lts
-use Rattle.items.proofs.item.number.Reads as number-reads
 
 returns : tie.Need-returns
 unfolding deeperAt

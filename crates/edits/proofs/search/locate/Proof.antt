@@ -6,10 +6,6 @@ use Rattle.edits.specs.Search.{placeOf}
 use Rattle.edits.proofs.SearchLaws.{place-end, place-out, place-found, place-next}
 use Rattle.edits.proofs.search.locate.Statement.{statement}
 use Rattle.edits.proofs.search.locate.Tie as tie
-use Rattle.edits.proofs.search.locate.Reads as reads
-use Rattle.edits.proofs.search.locate.Lts as lts
-use Rattle.items.proofs.item.number.Reads as number-reads
-use Rattle.items.proofs.item.twin.Reads as twin-reads
 
 abbrev Inv-loop : tie.InvT-loop
 Inv-loop w start n depth code k i₀ left₀ i left = (placeOf w i n depth code left ≡ placeOf w start n depth code k) × (1 ≤ left) × (left ≤ k)

@@ -6,9 +6,6 @@ use Rattle.edits.specs.Search.{endOf}
 use Rattle.edits.proofs.SearchLaws.{end-end, end-here, end-on}
 use Rattle.edits.proofs.search.run_end.Statement.{statement}
 use Rattle.edits.proofs.search.run_end.Tie as tie
-use Rattle.edits.proofs.search.run_end.Reads as reads
-use Rattle.edits.proofs.search.run_end.Lts as lts
-use Rattle.items.proofs.item.number.Reads as number-reads
 
 abbrev Inv-loop : tie.InvT-loop
 Inv-loop w start n depth i₀ i = endOf w i n depth ≡ endOf w start n depth

@@ -3,10 +3,6 @@ use Rattle.edits.proofs.SearchLaws.{spot-within, spot-zero, spot-past, 
 use borrow.Author.Needs.{needs}
 use Rattle.edits.proofs.search.spot.Statement.{statement}
 use Rattle.edits.proofs.search.spot.Tie as tie
-use Rattle.edits.proofs.search.spot.Reads as reads
-use Rattle.edits.proofs.search.spot.Lts as lts
-use Rattle.edits.proofs.search.behind_last.Reads as behind-last-reads
-use Rattle.edits.proofs.search.locate.Reads as locate-reads
 
 behind-last-requires : tie.Need-behind-last-requires
 behind-last-requires c κs = search needs

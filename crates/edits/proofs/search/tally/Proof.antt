@@ -6,10 +6,6 @@ use Rattle.edits.proofs.SearchLaws.{twins-end, twins-out, twins-on}
 use native.Mathlib.Omega.{arith}
 use Rattle.edits.proofs.search.tally.Statement.{statement}
 use Rattle.edits.proofs.search.tally.Tie as tie
-use Rattle.edits.proofs.search.tally.Reads as reads
-use Rattle.edits.proofs.search.tally.Lts as lts
-use Rattle.items.proofs.item.twin.Reads as twin-reads
-use Rattle.items.proofs.item.number.Reads as number-reads
 
 abbrev Inv-loop : tie.InvT-loop
 Inv-loop w start n depth code i₀ t₀ i t = (t + twins w i n depth code ≡ twins w start n depth code) × (i ≤ n) × (t ≤ i)

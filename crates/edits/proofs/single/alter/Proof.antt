@@ -3,12 +3,6 @@ use Rattle.edits.proofs.DeedLaws.{alter-absent, alter-gone, alter-besid
 use borrow.Author.Needs.{needs}
 use Rattle.edits.proofs.single.alter.Statement.{statement}
 use Rattle.edits.proofs.single.alter.Tie as tie
-use Rattle.edits.proofs.single.alter.Reads as reads
-use Rattle.edits.proofs.single.alter.Lts as lts
-use Rattle.edits.proofs.search.is_beside.Reads as is-beside-reads
-use Rattle.edits.proofs.search.addressed.Reads as addressed-reads
-use Rattle.edits.proofs.single.remove.Reads as remove-reads
-use Rattle.items.proofs.item.put_ref.Reads as put-ref-reads
 
 addressed-requires : tie.Need-addressed-requires
 addressed-requires c κs = search needs

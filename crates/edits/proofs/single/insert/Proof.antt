@@ -5,13 +5,6 @@ use native.Mathlib.Omega.{arith}
 use borrow.Author.Needs.{needs}
 use Rattle.edits.proofs.single.insert.Statement.{statement}
 use Rattle.edits.proofs.single.insert.Tie as tie
-use Rattle.edits.proofs.single.insert.Reads as reads
-use Rattle.edits.proofs.single.insert.Lts as lts
-use Rattle.edits.proofs.search.spot.Reads as spot-reads
-use Rattle.edits.proofs.search.tally.Reads as tally-reads
-use Rattle.items.proofs.item.number.Reads as number-reads
-use Rattle.items.proofs.item.put_item.Reads as put-item-reads
-use Rattle.memory.proofs.splicing.open_gap.Reads as open-gap-reads
 
 returns : tie.Need-returns
 returns c = λ s q. insert-6 s _ _ q _ _ _ _ (c .before .before .before .pre .5) _ (c .before .before .before .pre .0) _ (c .if1 .taken)

@@ -1,10 +1,6 @@
 use borrow.Author.Needs.{needs}
 use Rattle.edits.proofs.single.perform.Statement.{statement}
 use Rattle.edits.proofs.single.perform.Tie as tie
-use Rattle.edits.proofs.single.perform.Reads as reads
-use Rattle.edits.proofs.single.perform.Lts as lts
-use Rattle.edits.proofs.single.alter.Reads as alter-reads
-use Rattle.edits.proofs.single.insert.Reads as insert-reads
 
 add-if1 : tie.Need-add-if1
 add-if1 c = search needs

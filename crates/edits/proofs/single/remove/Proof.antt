@@ -5,10 +5,6 @@ use native.Mathlib.Omega.{arith}
 use borrow.Author.Needs.{needs}
 use Rattle.edits.proofs.single.remove.Statement.{statement}
 use Rattle.edits.proofs.single.remove.Tie as tie
-use Rattle.edits.proofs.single.remove.Reads as reads
-use Rattle.edits.proofs.single.remove.Lts as lts
-use Rattle.edits.proofs.search.run_end.Reads as run-end-reads
-use Rattle.memory.proofs.splicing.close_gap.Reads as close-gap-reads
 
 -- what is below the item ends behind it and among the items
 ends : (c : tie.After-run-end) → (c .before .before .before .args .i + 1 ≤ c .run-end .result) × (c .run-end .result ≤ c .before .before .before .args .n)

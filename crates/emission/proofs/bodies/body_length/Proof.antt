@@ -1,13 +1,7 @@
 use Rattle.emission.proofs.BodiesLaws.{length-old, length-new}
-use Rattle.emission.proofs.BodiesLaws.{body-ways}
-use native.Mathlib.Omega.{arith}
 use borrow.Author.Needs.{needs}
 use Rattle.emission.proofs.bodies.body_length.Statement.{statement}
 use Rattle.emission.proofs.bodies.body_length.Tie as tie
-use Rattle.emission.proofs.bodies.body_length.Reads as reads
-use Rattle.emission.proofs.bodies.body_length.Lts as lts
-use Rattle.emission.proofs.bodies.inside.Reads as inside-reads
-use Rattle.cells.proofs.cell.u24_at.Reads as u24-at-reads
 
 mul-u24-at : tie.Need-mul-u24-at
 mul-u24-at c = search needs

@@ -1,13 +1,9 @@
 use Rattle.emission.proofs.BodiesLaws.{size-done}
 use Rattle.emission.proofs.BodiesLaws.{SizeAt, size-turn}
 use Prim.Native.Nat.{_-_}
-use borrow.Author.Needs.{needs}
 use native.Mathlib.Omega.{arith}
 use Rattle.emission.proofs.bodies.inas_size.Statement.{statement}
 use Rattle.emission.proofs.bodies.inas_size.Tie as tie
-use Rattle.emission.proofs.bodies.inas_size.Reads as reads
-use Rattle.emission.proofs.bodies.inas_size.Lts as lts
-use Rattle.emission.proofs.bodies.body_length.Reads as body-length-reads
 
 abbrev Inv-loop : tie.InvT-loop
 Inv-loop d u c n t₀ i₀ t i = SizeAt d u c n t i

@@ -1,11 +1,7 @@
 use Rattle.emission.proofs.BodiesLaws.{inside-none, inside-all, inside-some}
-use Rattle.emission.proofs.BodiesLaws.{inside-ways}
-use native.Mathlib.Omega.{arith}
 use borrow.Author.Needs.{needs}
 use Rattle.emission.proofs.bodies.inside.Statement.{statement}
 use Rattle.emission.proofs.bodies.inside.Tie as tie
-use Rattle.emission.proofs.bodies.inside.Reads as reads
-use Rattle.emission.proofs.bodies.inside.Lts as lts
 
 returns : tie.Need-returns
 returns c = inside-none _ _ _ (c .if1 .taken)

@@ -1,12 +1,8 @@
 use Rattle.emission.proofs.BodiesLaws.{BodiesAt, bodies-ways}
 use Prim.Native.Nat.{_-_}
-use borrow.Author.Needs.{needs}
 use native.Mathlib.Omega.{arith}
 use Rattle.emission.proofs.bodies.put_bodies.Statement.{statement}
 use Rattle.emission.proofs.bodies.put_bodies.Tie as tie
-use Rattle.emission.proofs.bodies.put_bodies.Reads as reads
-use Rattle.emission.proofs.bodies.put_bodies.Lts as lts
-use Rattle.emission.proofs.bodies.put_body.Reads as put-body-reads
 
 abbrev Inv-loop : tie.InvT-loop
 Inv-loop d u c n out₀ at p₀ i₀ out p i = BodiesAt d u c n out₀ at out p i

@@ -1,12 +1,7 @@
 use Rattle.emission.proofs.BodiesLaws.{body-ways}
-use native.Mathlib.Omega.{arith}
 use borrow.Author.Needs.{needs}
 use Rattle.emission.proofs.bodies.put_body.Statement.{statement}
 use Rattle.emission.proofs.bodies.put_body.Tie as tie
-use Rattle.emission.proofs.bodies.put_body.Reads as reads
-use Rattle.emission.proofs.bodies.put_body.Lts as lts
-use Rattle.cells.proofs.cell.u24_at.Reads as u24-at-reads
-use Rattle.emission.proofs.bodies.put_inside.Reads as put-inside-reads
 
 mul-u24-at : tie.Need-mul-u24-at
 mul-u24-at c = search needs

@@ -1,14 +1,9 @@
 use Rattle.emission.proofs.BodiesLaws.{entries-end}
 use Rattle.emission.proofs.BodiesLaws.{EntriesAt, entries-ways}
 use Prim.Native.Nat.{_-_}
-use borrow.Author.Needs.{needs}
 use native.Mathlib.Omega.{arith}
 use Rattle.emission.proofs.bodies.put_inas_entries.Statement.{statement}
 use Rattle.emission.proofs.bodies.put_inas_entries.Tie as tie
-use Rattle.emission.proofs.bodies.put_inas_entries.Reads as reads
-use Rattle.emission.proofs.bodies.put_inas_entries.Lts as lts
-use Rattle.emission.proofs.bodies.body_length.Reads as body-length-reads
-use Rattle.writing.proofs.parts.put_entry.Reads as put-entry-reads
 
 abbrev Inv-loop : tie.InvT-loop
 Inv-loop d u c n out₀ at from p₀ pos₀ i₀ out p pos i = EntriesAt d u c n from out₀ at out p pos i

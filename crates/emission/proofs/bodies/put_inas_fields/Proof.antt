@@ -1,13 +1,8 @@
 use Rattle.emission.proofs.BodiesLaws.{FieldsAt, fields-ways}
 use Prim.Native.Nat.{_-_}
-use borrow.Author.Needs.{needs}
 use native.Mathlib.Omega.{arith}
 use Rattle.emission.proofs.bodies.put_inas_fields.Statement.{statement}
 use Rattle.emission.proofs.bodies.put_inas_fields.Tie as tie
-use Rattle.emission.proofs.bodies.put_inas_fields.Reads as reads
-use Rattle.emission.proofs.bodies.put_inas_fields.Lts as lts
-use Rattle.emission.proofs.bodies.put_body.Reads as put-body-reads
-use Rattle.memory.proofs.put_byte.Reads as put-byte-reads
 
 abbrev Inv-loop : tie.InvT-loop
 Inv-loop d u c n out₀ at p₀ i₀ out p i = FieldsAt d u c n out₀ at out p i

@@ -1,13 +1,8 @@
 use Rattle.emission.proofs.BodiesLaws.{put-inside}
 use Rattle.emission.proofs.BodiesLaws.{put-ways}
-use native.Mathlib.Omega.{arith}
 use borrow.Author.Needs.{needs}
 use Rattle.emission.proofs.bodies.put_inside.Statement.{statement}
 use Rattle.emission.proofs.bodies.put_inside.Tie as tie
-use Rattle.emission.proofs.bodies.put_inside.Reads as reads
-use Rattle.emission.proofs.bodies.put_inside.Lts as lts
-use Rattle.emission.proofs.bodies.inside.Reads as inside-reads
-use Rattle.memory.proofs.put_part.Reads as put-part-reads
 
 inside-requires : tie.Need-inside-requires
 inside-requires c κs = search needs

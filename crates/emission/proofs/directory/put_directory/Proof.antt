@@ -1,17 +1,7 @@
 use Rattle.emission.proofs.VersionLaws.{index-first, index-foid, index-attr, index-last, index-written}
-use native.Mathlib.Omega.{arith}
 use borrow.Author.Needs.{needs}
 use Rattle.emission.proofs.directory.put_directory.Statement.{statement}
 use Rattle.emission.proofs.directory.put_directory.Tie as tie
-use Rattle.emission.proofs.directory.put_directory.Reads as reads
-use Rattle.emission.proofs.directory.put_directory.Lts as lts
-use Rattle.emission.proofs.directory.put_last_entries.Reads as put-last-entries-reads
-use Rattle.emission.proofs.identifier.first_tag.Reads as first-tag-reads
-use Rattle.emission.proofs.identifier.ident_size.Reads as ident-size-reads
-use Rattle.emission.proofs.lists.list_size.Reads as list-size-reads
-use Rattle.emission.proofs.lists.put_list_entry.Reads as put-list-entry-reads
-use Rattle.emission.proofs.measuring.foid_size.Reads as foid-size-reads
-use Rattle.writing.proofs.parts.put_entry.Reads as put-entry-reads
 
 ident-size-requires : tie.Need-ident-size-requires
 ident-size-requires c κs = search needs

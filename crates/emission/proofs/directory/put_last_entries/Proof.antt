@@ -4,12 +4,6 @@ use native.Mathlib.Omega.{arith}
 use borrow.Author.Needs.{needs}
 use Rattle.emission.proofs.directory.put_last_entries.Statement.{statement}
 use Rattle.emission.proofs.directory.put_last_entries.Tie as tie
-use Rattle.emission.proofs.directory.put_last_entries.Reads as reads
-use Rattle.emission.proofs.directory.put_last_entries.Lts as lts
-use Rattle.emission.proofs.bodies.put_inas_entries.Reads as put-inas-entries-reads
-use Rattle.emission.proofs.identifier.coordinate_tag.Reads as coordinate-tag-reads
-use Rattle.emission.proofs.lists.list_size.Reads as list-size-reads
-use Rattle.emission.proofs.lists.put_list_entry.Reads as put-list-entry-reads
 
 put-inas-entries-requires : tie.Need-put-inas-entries-requires
 put-inas-entries-requires c κs = let s = c .before .before .before .before .before in entries-inas (s .args .d .now) (s .args .u .now) (s .args .inas .now) (s .args .v) (s .args .m) (s .args .at) (s .args .pos) (s .args .out .now) (s .pre)

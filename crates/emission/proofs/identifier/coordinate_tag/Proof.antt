@@ -1,11 +1,8 @@
 use mathlib.Core.Path.{sym, ap}
 use Rattle.rules.specs.Written.{coordTag}
-use native.Mathlib.Omega.{arith}
 use borrow.Author.Needs.{needs}
 use Rattle.emission.proofs.identifier.coordinate_tag.Statement.{statement}
 use Rattle.emission.proofs.identifier.coordinate_tag.Tie as tie
-use Rattle.emission.proofs.identifier.coordinate_tag.Reads as reads
-use Rattle.emission.proofs.identifier.coordinate_tag.Lts as lts
 
 enum-told : tie.Need-enum-told
 enum-told c = search needs

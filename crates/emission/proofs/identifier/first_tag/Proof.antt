@@ -1,11 +1,8 @@
 use mathlib.Core.Path.{sym, ap}
 use Rattle.rules.specs.Kind.{tagOf}
-use native.Mathlib.Omega.{arith}
 use borrow.Author.Needs.{needs}
 use Rattle.emission.proofs.identifier.first_tag.Statement.{statement}
 use Rattle.emission.proofs.identifier.first_tag.Tie as tie
-use Rattle.emission.proofs.identifier.first_tag.Reads as reads
-use Rattle.emission.proofs.identifier.first_tag.Lts as lts
 
 enum-told : tie.Need-enum-told
 enum-told c = search needs

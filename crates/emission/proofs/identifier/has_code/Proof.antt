@@ -1,11 +1,8 @@
 use mathlib.Core.Path.{sym, ap}
 use Rattle.rules.specs.Kind.{coded}
-use native.Mathlib.Omega.{arith}
 use borrow.Author.Needs.{needs}
 use Rattle.emission.proofs.identifier.has_code.Statement.{statement}
 use Rattle.emission.proofs.identifier.has_code.Tie as tie
-use Rattle.emission.proofs.identifier.has_code.Reads as reads
-use Rattle.emission.proofs.identifier.has_code.Lts as lts
 
 enum-told : tie.Need-enum-told
 enum-told c = search needs

@@ -1,12 +1,7 @@
 use Rattle.emission.proofs.IdentLaws.{size-coded, size-plain}
-use Rattle.emission.proofs.IdentLaws.{code-ways}
-use native.Mathlib.Omega.{arith}
 use borrow.Author.Needs.{needs}
 use Rattle.emission.proofs.identifier.ident_size.Statement.{statement}
 use Rattle.emission.proofs.identifier.ident_size.Tie as tie
-use Rattle.emission.proofs.identifier.ident_size.Reads as reads
-use Rattle.emission.proofs.identifier.ident_size.Lts as lts
-use Rattle.emission.proofs.identifier.has_code.Reads as has-code-reads
 
 has-code-requires : tie.Need-has-code-requires
 has-code-requires c κs = search needs

@@ -1,12 +1,7 @@
 use Rattle.emission.proofs.IdentLaws.{code-ways}
-use native.Mathlib.Omega.{arith}
 use borrow.Author.Needs.{needs}
 use Rattle.emission.proofs.identifier.put_code.Statement.{statement}
 use Rattle.emission.proofs.identifier.put_code.Tie as tie
-use Rattle.emission.proofs.identifier.put_code.Reads as reads
-use Rattle.emission.proofs.identifier.put_code.Lts as lts
-use Rattle.emission.proofs.identifier.has_code.Reads as has-code-reads
-use Rattle.memory.proofs.put_little_endian.Reads as put-little-endian-reads
 
 has-code-requires : tie.Need-has-code-requires
 has-code-requires c κs = search needs

@@ -1,13 +1,8 @@
 use Rattle.emission.proofs.IdentLaws.{wrote-first}
 use Rattle.emission.proofs.IdentLaws.{ident-ways}
-use native.Mathlib.Omega.{arith}
 use borrow.Author.Needs.{needs}
 use Rattle.emission.proofs.identifier.put_first.Statement.{statement}
 use Rattle.emission.proofs.identifier.put_first.Tie as tie
-use Rattle.emission.proofs.identifier.put_first.Reads as reads
-use Rattle.emission.proofs.identifier.put_first.Lts as lts
-use Rattle.emission.proofs.identifier.put_ident.Reads as put-ident-reads
-use Rattle.memory.proofs.put_byte.Reads as put-byte-reads
 
 put-ident-requires : tie.Need-put-ident-requires
 put-ident-requires c κs = search ident-ways

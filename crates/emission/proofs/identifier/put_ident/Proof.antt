@@ -1,15 +1,8 @@
 use Rattle.emission.proofs.IdentLaws.{rcid-room, code-left, rver-room, ruin-room, wrote-ident}
 use Rattle.emission.proofs.IdentLaws.{ident-ways}
-use native.Mathlib.Omega.{arith}
 use borrow.Author.Needs.{needs}
 use Rattle.emission.proofs.identifier.put_ident.Statement.{statement}
 use Rattle.emission.proofs.identifier.put_ident.Tie as tie
-use Rattle.emission.proofs.identifier.put_ident.Reads as reads
-use Rattle.emission.proofs.identifier.put_ident.Lts as lts
-use Rattle.emission.proofs.identifier.put_code.Reads as put-code-reads
-use Rattle.emission.proofs.identifier.record_name.Reads as record-name-reads
-use Rattle.memory.proofs.put_byte.Reads as put-byte-reads
-use Rattle.memory.proofs.put_little_endian.Reads as put-little-endian-reads
 
 record-name-requires : tie.Need-record-name-requires
 record-name-requires c κs = search needs

@@ -1,11 +1,8 @@
 use mathlib.Core.Path.{sym, ap}
 use Rattle.rules.specs.Kind.{rcnm}
-use native.Mathlib.Omega.{arith}
 use borrow.Author.Needs.{needs}
 use Rattle.emission.proofs.identifier.record_name.Statement.{statement}
 use Rattle.emission.proofs.identifier.record_name.Tie as tie
-use Rattle.emission.proofs.identifier.record_name.Reads as reads
-use Rattle.emission.proofs.identifier.record_name.Lts as lts
 
 enum-told : tie.Need-enum-told
 enum-told c = search needs

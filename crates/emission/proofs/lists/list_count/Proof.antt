@@ -1,11 +1,7 @@
 use Rattle.emission.proofs.ListLaws.{no-count, some-count}
-use Rattle.emission.proofs.ListLaws.{list-numbers}
-use borrow.Author.Needs.{needs}
 use native.Mathlib.Omega.{arith}
 use Rattle.emission.proofs.lists.list_count.Statement.{statement}
 use Rattle.emission.proofs.lists.list_count.Tie as tie
-use Rattle.emission.proofs.lists.list_count.Reads as reads
-use Rattle.emission.proofs.lists.list_count.Lts as lts
 
 returns : tie.Need-returns
 returns c = (no-count _ (c .if1 .taken), omega arith)

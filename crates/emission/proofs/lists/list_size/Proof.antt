@@ -1,11 +1,8 @@
 use Rattle.emission.proofs.ListLaws.{no-size, some-size}
-use Rattle.emission.proofs.ListLaws.{list-numbers}
 use native.Mathlib.Omega.{arith}
 use borrow.Author.Needs.{needs}
 use Rattle.emission.proofs.lists.list_size.Statement.{statement}
 use Rattle.emission.proofs.lists.list_size.Tie as tie
-use Rattle.emission.proofs.lists.list_size.Reads as reads
-use Rattle.emission.proofs.lists.list_size.Lts as lts
 
 returns : tie.Need-returns
 returns c = (no-size _ (c .if1 .taken), omega arith)

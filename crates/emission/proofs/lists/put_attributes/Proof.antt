@@ -1,13 +1,8 @@
 use Rattle.emission.proofs.ListLaws.{attributes-none, attributes-some}
 use Rattle.emission.proofs.ListLaws.{attributes-ways}
-use native.Mathlib.Omega.{arith}
 use borrow.Author.Needs.{needs}
 use Rattle.emission.proofs.lists.put_attributes.Statement.{statement}
 use Rattle.emission.proofs.lists.put_attributes.Tie as tie
-use Rattle.emission.proofs.lists.put_attributes.Reads as reads
-use Rattle.emission.proofs.lists.put_attributes.Lts as lts
-use Rattle.memory.proofs.put_byte.Reads as put-byte-reads
-use Rattle.numbering.proofs.emit.Reads as emit-reads
 
 returns : tie.Need-returns
 returns c = attributes-none _ _ _ _ _ _ _ (c .before .before .before .before .before .pre .1 .0) (c .if1 .taken)

@@ -1,13 +1,8 @@
 use Rattle.emission.proofs.ListLaws.{list-nothing, list-mark, list-written}
 use Rattle.emission.proofs.ListLaws.{list-ways}
-use native.Mathlib.Omega.{arith}
 use borrow.Author.Needs.{needs}
 use Rattle.emission.proofs.lists.put_list.Statement.{statement}
 use Rattle.emission.proofs.lists.put_list.Tie as tie
-use Rattle.emission.proofs.lists.put_list.Reads as reads
-use Rattle.emission.proofs.lists.put_list.Lts as lts
-use Rattle.memory.proofs.put_byte.Reads as put-byte-reads
-use Rattle.memory.proofs.put_part.Reads as put-part-reads
 
 returns : tie.Need-returns
 returns c = list-nothing _ _ _ _ _ (c .if1 .taken)

@@ -1,11 +1,7 @@
 use Rattle.emission.proofs.ListLaws.{entry-ways}
-use native.Mathlib.Omega.{arith}
 use borrow.Author.Needs.{needs}
 use Rattle.emission.proofs.lists.put_list_entry.Statement.{statement}
 use Rattle.emission.proofs.lists.put_list_entry.Tie as tie
-use Rattle.emission.proofs.lists.put_list_entry.Reads as reads
-use Rattle.emission.proofs.lists.put_list_entry.Lts as lts
-use Rattle.writing.proofs.parts.put_entry.Reads as put-entry-reads
 
 returns : tie.Need-returns
 returns c = search entry-ways

@@ -1,12 +1,7 @@
 use Rattle.emission.proofs.ListLaws.{spatial-ways}
-use native.Mathlib.Omega.{arith}
 use borrow.Author.Needs.{needs}
 use Rattle.emission.proofs.lists.put_spatial.Statement.{statement}
 use Rattle.emission.proofs.lists.put_spatial.Tie as tie
-use Rattle.emission.proofs.lists.put_spatial.Reads as reads
-use Rattle.emission.proofs.lists.put_spatial.Lts as lts
-use Rattle.emission.proofs.bodies.put_bodies.Reads as put-bodies-reads
-use Rattle.memory.proofs.put_byte.Reads as put-byte-reads
 
 returns : tie.Need-returns
 returns c = search spatial-ways

@@ -2,12 +2,6 @@ use Rattle.emission.proofs.FieldsLaws.{bytes-counted}
 use borrow.Author.Needs.{needs}
 use Rattle.emission.proofs.measuring.count_bytes.Statement.{statement}
 use Rattle.emission.proofs.measuring.count_bytes.Tie as tie
-use Rattle.emission.proofs.measuring.count_bytes.Reads as reads
-use Rattle.emission.proofs.measuring.count_bytes.Lts as lts
-use Rattle.emission.proofs.identifier.ident_size.Reads as ident-size-reads
-use Rattle.emission.proofs.lists.list_size.Reads as list-size-reads
-use Rattle.emission.proofs.measuring.foid_size.Reads as foid-size-reads
-use Rattle.emission.proofs.measuring.measure_last.Reads as measure-last-reads
 
 -- src/measuring.rt:72:9
 foid-size-requires : tie.Need-foid-size-requires

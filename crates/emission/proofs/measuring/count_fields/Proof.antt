@@ -2,11 +2,6 @@ use Rattle.emission.proofs.FieldsLaws.{fields-counted}
 use borrow.Author.Needs.{needs}
 use Rattle.emission.proofs.measuring.count_fields.Statement.{statement}
 use Rattle.emission.proofs.measuring.count_fields.Tie as tie
-use Rattle.emission.proofs.measuring.count_fields.Reads as reads
-use Rattle.emission.proofs.measuring.count_fields.Lts as lts
-use Rattle.emission.proofs.lists.list_count.Reads as list-count-reads
-use Rattle.emission.proofs.measuring.count_last.Reads as count-last-reads
-use Rattle.emission.proofs.measuring.foid_size.Reads as foid-size-reads
 
 -- src/measuring.rt:63:9
 foid-size-requires : tie.Need-foid-size-requires

@@ -2,9 +2,6 @@ use Rattle.emission.proofs.FieldsLaws.{last-counted}
 use borrow.Author.Needs.{needs}
 use Rattle.emission.proofs.measuring.count_last.Statement.{statement}
 use Rattle.emission.proofs.measuring.count_last.Tie as tie
-use Rattle.emission.proofs.measuring.count_last.Reads as reads
-use Rattle.emission.proofs.measuring.count_last.Lts as lts
-use Rattle.emission.proofs.lists.list_count.Reads as list-count-reads
 
 -- src/measuring.rt:47:25
 mul-list-count : tie.Need-mul-list-count

@@ -1,11 +1,8 @@
 use borrow.Author.Tests.{eq-eqb, ne-eqb}
 use Rattle.emission.specs.Fields.{foidSize}
-use borrow.Author.Needs.{needs}
 use native.Mathlib.Omega.{arith}
 use Rattle.emission.proofs.measuring.foid_size.Statement.{statement}
 use Rattle.emission.proofs.measuring.foid_size.Tie as tie
-use Rattle.emission.proofs.measuring.foid_size.Reads as reads
-use Rattle.emission.proofs.measuring.foid_size.Lts as lts
 
 returns : tie.Need-returns
 unfolding foidSize

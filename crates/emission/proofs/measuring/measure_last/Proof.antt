@@ -2,9 +2,6 @@ use Rattle.emission.proofs.FieldsLaws.{last-measured}
 use borrow.Author.Needs.{needs}
 use Rattle.emission.proofs.measuring.measure_last.Statement.{statement}
 use Rattle.emission.proofs.measuring.measure_last.Tie as tie
-use Rattle.emission.proofs.measuring.measure_last.Reads as reads
-use Rattle.emission.proofs.measuring.measure_last.Lts as lts
-use Rattle.emission.proofs.lists.list_size.Reads as list-size-reads
 
 -- src/measuring.rt:55:22
 mul-list-size : tie.Need-mul-list-size

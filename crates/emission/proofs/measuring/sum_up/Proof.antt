@@ -2,10 +2,6 @@ use Rattle.emission.proofs.FieldsLaws.{summed-up}
 use borrow.Author.Needs.{needs}
 use Rattle.emission.proofs.measuring.sum_up.Statement.{statement}
 use Rattle.emission.proofs.measuring.sum_up.Tie as tie
-use Rattle.emission.proofs.measuring.sum_up.Reads as reads
-use Rattle.emission.proofs.measuring.sum_up.Lts as lts
-use Rattle.emission.proofs.measuring.count_bytes.Reads as count-bytes-reads
-use Rattle.emission.proofs.measuring.count_fields.Reads as count-fields-reads
 
 -- src/measuring.rt:83:9
 count-fields-requires : tie.Need-count-fields-requires

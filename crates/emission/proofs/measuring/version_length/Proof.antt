@@ -2,13 +2,8 @@ use native.Mathlib.Omega.{arith}
 use Rattle.writing.proofs.MeasuringLaws.{length-product, length-head, length-word, length-is}
 use Rattle.emission.proofs.HeldLaws.{held-rooms}
 use Rattle.emission.proofs.LengthLaws.{held-small, held-summed}
-use borrow.Author.Needs.{needs}
 use Rattle.emission.proofs.measuring.version_length.Statement.{statement}
 use Rattle.emission.proofs.measuring.version_length.Tie as tie
-use Rattle.emission.proofs.measuring.version_length.Reads as reads
-use Rattle.emission.proofs.measuring.version_length.Lts as lts
-use Rattle.emission.proofs.measuring.measure.Reads as measure-reads
-use Rattle.emission.proofs.measuring.sum_up.Reads as sum-up-reads
 
 measure-requires : tie.Need-measure-requires
 measure-requires c κs = let s = c .before .before .before in held-rooms _ _ _ _ (s .pre .0) (s .pre .1 .0) (s .pre .1 .1)

@@ -1,15 +1,7 @@
-use native.Mathlib.Omega.{arith}
 use Rattle.emission.proofs.VersionLaws.{contents-first, contents-foid, contents-attributes, contents-last, contents-written}
-use native.Mathlib.Omega.{arith}
 use borrow.Author.Needs.{needs}
 use Rattle.emission.proofs.writer.put_contents.Statement.{statement}
 use Rattle.emission.proofs.writer.put_contents.Tie as tie
-use Rattle.emission.proofs.writer.put_contents.Reads as reads
-use Rattle.emission.proofs.writer.put_contents.Lts as lts
-use Rattle.emission.proofs.identifier.put_first.Reads as put-first-reads
-use Rattle.emission.proofs.lists.put_attributes.Reads as put-attributes-reads
-use Rattle.emission.proofs.writer.put_foid.Reads as put-foid-reads
-use Rattle.emission.proofs.writer.put_last.Reads as put-last-reads
 
 put-first-requires : tie.Need-put-first-requires
 put-first-requires c κs = let s = c .before .before .before .before .before .before .before in contents-first (s .args .d .now) (s .args .u .now) (s .args .list .now) (s .args .inas .now) (s .args .spas .now) (s .args .v) (s .args .m) (s .args .at) (s .args .out .now) (s .pre)

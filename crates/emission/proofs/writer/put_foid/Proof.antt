@@ -2,9 +2,6 @@ use Rattle.emission.proofs.VersionLaws.{foid-none, foid-room, foid-some
 use borrow.Author.Needs.{needs}
 use Rattle.emission.proofs.writer.put_foid.Statement.{statement}
 use Rattle.emission.proofs.writer.put_foid.Tie as tie
-use Rattle.emission.proofs.writer.put_foid.Reads as reads
-use Rattle.emission.proofs.writer.put_foid.Lts as lts
-use Rattle.emission.proofs.lists.put_list.Reads as put-list-reads
 
 -- src/writer.rt:36:9
 returns : tie.Need-returns

@@ -1,13 +1,7 @@
 use Rattle.emission.proofs.VersionLaws.{last-inas, last-coord, last-spas, last-written}
-use native.Mathlib.Omega.{arith}
 use borrow.Author.Needs.{needs}
 use Rattle.emission.proofs.writer.put_last.Statement.{statement}
 use Rattle.emission.proofs.writer.put_last.Tie as tie
-use Rattle.emission.proofs.writer.put_last.Reads as reads
-use Rattle.emission.proofs.writer.put_last.Lts as lts
-use Rattle.emission.proofs.bodies.put_inas_fields.Reads as put-inas-fields-reads
-use Rattle.emission.proofs.lists.put_list.Reads as put-list-reads
-use Rattle.emission.proofs.lists.put_spatial.Reads as put-spatial-reads
 
 put-inas-fields-requires : tie.Need-put-inas-fields-requires
 put-inas-fields-requires c κs = let s = c .before .before .before .before .before .before .before in last-inas (s .args .d .now) (s .args .u .now) (s .args .list .now) (s .args .inas .now) (s .args .spas .now) (s .args .v) (s .args .at) (s .args .out .now) (s .pre)

@@ -3,13 +3,6 @@ use Rattle.emission.proofs.RecordLaws.{record-small, record-leader, rec
 use borrow.Author.Needs.{needs}
 use Rattle.emission.proofs.writer.put_record.Statement.{statement}
 use Rattle.emission.proofs.writer.put_record.Tie as tie
-use Rattle.emission.proofs.writer.put_record.Reads as reads
-use Rattle.emission.proofs.writer.put_record.Lts as lts
-use Rattle.emission.proofs.directory.put_directory.Reads as put-directory-reads
-use Rattle.emission.proofs.measuring.sum_up.Reads as sum-up-reads
-use Rattle.emission.proofs.writer.put_contents.Reads as put-contents-reads
-use Rattle.memory.proofs.put_byte.Reads as put-byte-reads
-use Rattle.writing.proofs.parts.put_leader.Reads as put-leader-reads
 
 sum-up-requires : tie.Need-sum-up-requires
 sum-up-requires c κs = let s = c .before .before .before .before .before .before in record-small (s .args .d .now) (s .args .u .now) (s .args .list .now) (s .args .inas .now) (s .args .spas .now) (s .args .v) (s .args .m) (s .args .at) (s .args .out .now) (s .pre)

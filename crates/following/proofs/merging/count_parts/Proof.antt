@@ -1,15 +1,8 @@
 use Prim.Native.Nat.{_-_}
 use Rattle.following.specs.Merging.{Passing}
 use Rattle.following.proofs.MergingLaws.{CountAt, count-ways}
-use borrow.Author.Needs.{needs}
-use native.Mathlib.Omega.{arith}
 use Rattle.following.proofs.merging.count_parts.Statement.{statement}
 use Rattle.following.proofs.merging.count_parts.Tie as tie
-use Rattle.following.proofs.merging.count_parts.Reads as reads
-use Rattle.following.proofs.merging.count_parts.Lts as lts
-use Rattle.following.proofs.merging.one_if.Reads as one-if-reads
-use Rattle.following.proofs.sources.part_size.Reads as part-size-reads
-use Rattle.following.proofs.sources.tag_of.Reads as tag-of-reads
 
 abbrev Inv-loop : tie.InvT-loop
 Inv-loop old ho new hn j₀ fields₀ bytes₀ j fields bytes = Passing old ho new hn × CountAt old ho new hn j fields bytes

@@ -1,11 +1,7 @@
 use Rattle.following.proofs.WholeLaws.{whole-ways}
-use native.Mathlib.Omega.{arith}
 use borrow.Author.Needs.{needs}
 use Rattle.following.proofs.merging.merged_length.Statement.{statement}
 use Rattle.following.proofs.merging.merged_length.Tie as tie
-use Rattle.following.proofs.merging.merged_length.Reads as reads
-use Rattle.following.proofs.merging.merged_length.Lts as lts
-use Rattle.following.proofs.merging.count_parts.Reads as count-parts-reads
 
 count-parts-requires : tie.Need-count-parts-requires
 count-parts-requires c κs = search needs

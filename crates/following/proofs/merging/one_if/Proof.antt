@@ -1,10 +1,6 @@
 use Rattle.following.proofs.MergingLaws.{if-ways}
-use borrow.Author.Needs.{needs}
-use native.Mathlib.Omega.{arith}
 use Rattle.following.proofs.merging.one_if.Statement.{statement}
 use Rattle.following.proofs.merging.one_if.Tie as tie
-use Rattle.following.proofs.merging.one_if.Reads as reads
-use Rattle.following.proofs.merging.one_if.Lts as lts
 
 returns : tie.Need-returns
 returns c = search if-ways

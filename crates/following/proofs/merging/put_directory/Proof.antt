@@ -2,14 +2,8 @@ use Prim.Native.Nat.{_-_}
 use Rattle.following.specs.Merging.{Passing}
 use Rattle.following.proofs.MergingLaws.{DirectoryAt, directory-ways}
 use borrow.Author.Needs.{needs}
-use native.Mathlib.Omega.{arith}
 use Rattle.following.proofs.merging.put_directory.Statement.{statement}
 use Rattle.following.proofs.merging.put_directory.Tie as tie
-use Rattle.following.proofs.merging.put_directory.Reads as reads
-use Rattle.following.proofs.merging.put_directory.Lts as lts
-use Rattle.following.proofs.merging.put_entry_if.Reads as put-entry-if-reads
-use Rattle.following.proofs.sources.part_size.Reads as part-size-reads
-use Rattle.following.proofs.sources.tag_of.Reads as tag-of-reads
 
 abbrev Inv-loop : tie.InvT-loop
 Inv-loop old ho new hn out₀ at j₀ pos₀ p₀ out j pos p = Passing old ho new hn × DirectoryAt old ho new hn out₀ at out j pos p

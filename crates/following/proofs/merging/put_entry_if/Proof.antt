@@ -1,11 +1,7 @@
 use Rattle.following.proofs.MergingLaws.{entry-ways}
-use native.Mathlib.Omega.{arith}
 use borrow.Author.Needs.{needs}
 use Rattle.following.proofs.merging.put_entry_if.Statement.{statement}
 use Rattle.following.proofs.merging.put_entry_if.Tie as tie
-use Rattle.following.proofs.merging.put_entry_if.Reads as reads
-use Rattle.following.proofs.merging.put_entry_if.Lts as lts
-use Rattle.writing.proofs.parts.put_entry.Reads as put-entry-reads
 
 returns : tie.Need-returns
 returns c = search entry-ways

@@ -2,13 +2,8 @@ use Prim.Native.Nat.{_-_}
 use Rattle.following.specs.Merging.{Passing}
 use Rattle.following.proofs.MergingLaws.{FieldsAt, fields-ways}
 use borrow.Author.Needs.{needs}
-use native.Mathlib.Omega.{arith}
 use Rattle.following.proofs.merging.put_fields.Statement.{statement}
 use Rattle.following.proofs.merging.put_fields.Tie as tie
-use Rattle.following.proofs.merging.put_fields.Reads as reads
-use Rattle.following.proofs.merging.put_fields.Lts as lts
-use Rattle.following.proofs.sources.put_body.Reads as put-body-reads
-use Rattle.following.proofs.sources.tag_of.Reads as tag-of-reads
 
 abbrev Inv-loop : tie.InvT-loop
 Inv-loop old ho new hn out₀ at j₀ p₀ out j p = Passing old ho new hn × FieldsAt old ho new hn out₀ at out j p

@@ -1,15 +1,7 @@
 use Rattle.following.proofs.WholeLaws.{whole-ways, merged-fields, merged-wrote}
-use native.Mathlib.Omega.{arith}
 use borrow.Author.Needs.{needs}
 use Rattle.following.proofs.merging.write_merged.Statement.{statement}
 use Rattle.following.proofs.merging.write_merged.Tie as tie
-use Rattle.following.proofs.merging.write_merged.Reads as reads
-use Rattle.following.proofs.merging.write_merged.Lts as lts
-use Rattle.following.proofs.merging.count_parts.Reads as count-parts-reads
-use Rattle.following.proofs.merging.put_directory.Reads as put-directory-reads
-use Rattle.following.proofs.merging.put_fields.Reads as put-fields-reads
-use Rattle.memory.proofs.put_byte.Reads as put-byte-reads
-use Rattle.writing.proofs.parts.put_leader.Reads as put-leader-reads
 
 count-parts-requires : tie.Need-count-parts-requires
 count-parts-requires c κs = search needs

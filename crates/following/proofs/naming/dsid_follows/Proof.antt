@@ -1,12 +1,7 @@
 use Rattle.following.proofs.NamingLaws.{dsid-ways}
-use native.Mathlib.Omega.{arith}
 use borrow.Author.Needs.{needs}
 use Rattle.following.proofs.naming.dsid_follows.Statement.{statement}
 use Rattle.following.proofs.naming.dsid_follows.Tie as tie
-use Rattle.following.proofs.naming.dsid_follows.Reads as reads
-use Rattle.following.proofs.naming.dsid_follows.Lts as lts
-use Rattle.following.proofs.naming.number_in.Reads as number-in-reads
-use Rattle.following.proofs.naming.same_names.Reads as same-names-reads
 
 same-names-requires : tie.Need-same-names-requires
 same-names-requires c κs = search needs

@@ -1,12 +1,7 @@
 use Rattle.following.proofs.NamingLaws.{follows-ways}
-use native.Mathlib.Omega.{arith}
 use borrow.Author.Needs.{needs}
 use Rattle.following.proofs.naming.follows.Statement.{statement}
 use Rattle.following.proofs.naming.follows.Tie as tie
-use Rattle.following.proofs.naming.follows.Reads as reads
-use Rattle.following.proofs.naming.follows.Lts as lts
-use Rattle.following.proofs.naming.dsid_follows.Reads as dsid-follows-reads
-use Rattle.skeleton.proofs.place.place_at.Reads as place-at-reads
 
 place-at-requires : tie.Need-place-at-requires
 place-at-requires c κs = search needs

@@ -1,12 +1,7 @@
 use Rattle.following.proofs.NamingLaws.{number-ways}
-use native.Mathlib.Omega.{arith}
 use borrow.Author.Needs.{needs}
 use Rattle.following.proofs.naming.number_in.Statement.{statement}
 use Rattle.following.proofs.naming.number_in.Tie as tie
-use Rattle.following.proofs.naming.number_in.Reads as reads
-use Rattle.following.proofs.naming.number_in.Lts as lts
-use Rattle.fields.proofs.le16.Reads as le16-reads
-use Rattle.following.proofs.naming.place_in.Reads as place-in-reads
 
 place-in-requires : tie.Need-place-in-requires
 place-in-requires c κs = search needs

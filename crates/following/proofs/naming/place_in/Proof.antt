@@ -1,11 +1,7 @@
 use Rattle.following.proofs.NamingLaws.{place-ways}
-use native.Mathlib.Omega.{arith}
 use borrow.Author.Needs.{needs}
 use Rattle.following.proofs.naming.place_in.Statement.{statement}
 use Rattle.following.proofs.naming.place_in.Tie as tie
-use Rattle.following.proofs.naming.place_in.Reads as reads
-use Rattle.following.proofs.naming.place_in.Lts as lts
-use Rattle.fields.proofs.head_place.Reads as head-place-reads
 
 head-place-requires : tie.Need-head-place-requires
 head-place-requires c κs = search needs

@@ -4,12 +4,8 @@ use lib.ListN.{length}
 use Rattle.base.specs.Keys.{same}
 use Rattle.following.specs.Naming.{sameFrom}
 use Rattle.following.proofs.NamingLaws.{same-ways}
-use borrow.Author.Needs.{needs}
-use native.Mathlib.Omega.{arith}
 use Rattle.following.proofs.naming.same_bytes.Statement.{statement}
 use Rattle.following.proofs.naming.same_bytes.Tie as tie
-use Rattle.following.proofs.naming.same_bytes.Reads as reads
-use Rattle.following.proofs.naming.same_bytes.Lts as lts
 
 abbrev Inv-loop : tie.InvT-loop
 Inv-loop a b i₀ i = (i ≤ length a) × (length a ≡ length b) × (sameFrom a b i ≡ same a b)

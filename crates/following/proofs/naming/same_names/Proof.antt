@@ -1,13 +1,7 @@
 use Rattle.following.proofs.NamingLaws.{name-ways}
-use native.Mathlib.Omega.{arith}
 use borrow.Author.Needs.{needs}
 use Rattle.following.proofs.naming.same_names.Statement.{statement}
 use Rattle.following.proofs.naming.same_names.Tie as tie
-use Rattle.following.proofs.naming.same_names.Reads as reads
-use Rattle.following.proofs.naming.same_names.Lts as lts
-use Rattle.fields.proofs.text_end.Reads as text-end-reads
-use Rattle.following.proofs.naming.place_in.Reads as place-in-reads
-use Rattle.following.proofs.naming.same_bytes.Reads as same-bytes-reads
 
 place-in-requires : tie.Need-place-in-requires
 place-in-requires c κs = search needs

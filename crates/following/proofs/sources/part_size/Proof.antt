@@ -1,11 +1,7 @@
 use Rattle.following.proofs.SourceLaws.{size-ways}
-use native.Mathlib.Omega.{arith}
 use borrow.Author.Needs.{needs}
 use Rattle.following.proofs.sources.part_size.Statement.{statement}
 use Rattle.following.proofs.sources.part_size.Tie as tie
-use Rattle.following.proofs.sources.part_size.Reads as reads
-use Rattle.following.proofs.sources.part_size.Lts as lts
-use Rattle.following.proofs.sources.source_of.Reads as source-of-reads
 
 source-of-requires : tie.Need-source-of-requires
 source-of-requires c κs = search needs

@@ -1,13 +1,7 @@
 use Rattle.following.proofs.SourceLaws.{body-ways}
-use native.Mathlib.Omega.{arith}
 use borrow.Author.Needs.{needs}
 use Rattle.following.proofs.sources.put_body.Statement.{statement}
 use Rattle.following.proofs.sources.put_body.Tie as tie
-use Rattle.following.proofs.sources.put_body.Reads as reads
-use Rattle.following.proofs.sources.put_body.Lts as lts
-use Rattle.following.proofs.sources.source_of.Reads as source-of-reads
-use Rattle.memory.proofs.put_byte.Reads as put-byte-reads
-use Rattle.memory.proofs.put_part.Reads as put-part-reads
 
 source-of-requires : tie.Need-source-of-requires
 source-of-requires c κs = search needs

@@ -1,11 +1,7 @@
 use Rattle.following.proofs.SourceLaws.{source-ways}
-use native.Mathlib.Omega.{arith}
 use borrow.Author.Needs.{needs}
 use Rattle.following.proofs.sources.source_of.Statement.{statement}
 use Rattle.following.proofs.sources.source_of.Tie as tie
-use Rattle.following.proofs.sources.source_of.Reads as reads
-use Rattle.following.proofs.sources.source_of.Lts as lts
-use Rattle.skeleton.proofs.place.find.Reads as find-reads
 
 find-requires : tie.Need-find-requires
 find-requires c κs = search needs

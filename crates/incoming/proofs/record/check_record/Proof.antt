@@ -1,13 +1,7 @@
 use Rattle.incoming.proofs.SingleLaws.{single-ways}
-use native.Mathlib.Omega.{arith}
 use borrow.Author.Needs.{needs}
 use Rattle.incoming.proofs.record.check_record.Statement.{statement}
 use Rattle.incoming.proofs.record.check_record.Tie as tie
-use Rattle.incoming.proofs.record.check_record.Reads as reads
-use Rattle.incoming.proofs.record.check_record.Lts as lts
-use Rattle.contents.proofs.keys.check_keys.Reads as check-keys-reads
-use Rattle.dataset.proofs.record.four_to_six.Reads as four-to-six-reads
-use Rattle.incoming.proofs.record.is_inserted.Reads as is-inserted-reads
 
 four-to-six-requires : tie.Need-four-to-six-requires
 four-to-six-requires c κs = search needs

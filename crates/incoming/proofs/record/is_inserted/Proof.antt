@@ -1,12 +1,7 @@
 use Rattle.incoming.proofs.SingleLaws.{inserted-ways}
-use native.Mathlib.Omega.{arith}
 use borrow.Author.Needs.{needs}
 use Rattle.incoming.proofs.record.is_inserted.Statement.{statement}
 use Rattle.incoming.proofs.record.is_inserted.Tie as tie
-use Rattle.incoming.proofs.record.is_inserted.Reads as reads
-use Rattle.incoming.proofs.record.is_inserted.Lts as lts
-use Rattle.contents.proofs.identifier.is_stored.Reads as is-stored-reads
-use Rattle.skeleton.proofs.place.place_at.Reads as place-at-reads
 
 place-at-requires : tie.Need-place-at-requires
 place-at-requires c κs = search needs

@@ -1,12 +1,7 @@
 use Rattle.incoming.proofs.ComingLaws.{came-ways}
-use native.Mathlib.Omega.{arith}
 use borrow.Author.Needs.{needs}
 use Rattle.incoming.proofs.walk.check_update.Statement.{statement}
 use Rattle.incoming.proofs.walk.check_update.Tie as tie
-use Rattle.incoming.proofs.walk.check_update.Reads as reads
-use Rattle.incoming.proofs.walk.check_update.Lts as lts
-use Rattle.incoming.proofs.walk.later_records.Reads as later-records-reads
-use Rattle.opening.proofs.carried.first_two.Reads as first-two-reads
 
 first-two-requires : tie.Need-first-two-requires
 first-two-requires c κs = search needs

@@ -2,13 +2,8 @@ use Prim.Native.Nat.{_-_}
 use lib.ListN.{length}
 use Rattle.incoming.proofs.ComingLaws.{ThirdAt, third-ways}
 use borrow.Author.Needs.{needs}
-use native.Mathlib.Omega.{arith}
 use Rattle.incoming.proofs.walk.later_records.Statement.{statement}
 use Rattle.incoming.proofs.walk.later_records.Tie as tie
-use Rattle.incoming.proofs.walk.later_records.Reads as reads
-use Rattle.incoming.proofs.walk.later_records.Lts as lts
-use Rattle.incoming.proofs.record.check_record.Reads as check-record-reads
-use Rattle.skeleton.proofs.file.record_at.Reads as record-at-reads
 
 abbrev Inv-loop : tie.InvT-loop
 Inv-loop u start p₀ n₀ p n = ThirdAt u start p n

@@ -4,9 +4,6 @@ use native.Mathlib.Omega.{arith}
 use borrow.Author.Needs.{needs}
 use Rattle.items.proofs.item.depth_under.Statement.{statement}
 use Rattle.items.proofs.item.depth_under.Tie as tie
-use Rattle.items.proofs.item.depth_under.Reads as reads
-use Rattle.items.proofs.item.depth_under.Lts as lts
-use Rattle.items.proofs.item.number.Reads as number-reads
 
 returns : tie.Need-returns
 returns c = sym (under-zero _ _ (c .if1 .taken))

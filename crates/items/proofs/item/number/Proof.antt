@@ -4,9 +4,6 @@ use native.Mathlib.Omega.{arith}
 use borrow.Author.Needs.{needs}
 use Rattle.items.proofs.item.number.Statement.{statement}
 use Rattle.items.proofs.item.number.Tie as tie
-use Rattle.items.proofs.item.number.Reads as reads
-use Rattle.items.proofs.item.number.Lts as lts
-use Rattle.fields.proofs.le16.Reads as le16-reads
 
 le16-requires : tie.Need-le16-requires
 le16-requires c κs = search needs

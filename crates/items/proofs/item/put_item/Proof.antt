@@ -7,9 +7,6 @@ use native.Mathlib.Omega.{arith}
 use borrow.Author.Needs.{needs}
 use Rattle.items.proofs.item.put_item.Statement.{statement}
 use Rattle.items.proofs.item.put_item.Tie as tie
-use Rattle.items.proofs.item.put_item.Reads as reads
-use Rattle.items.proofs.item.put_item.Lts as lts
-use Rattle.items.proofs.item.put_ref.Reads as put-ref-reads
 
 mul-at : tie.Need-mul-at
 mul-at c = search needs

@@ -6,8 +6,6 @@ use native.Mathlib.Omega.{arith}
 use borrow.Author.Needs.{needs}
 use Rattle.items.proofs.item.put_ref.Statement.{statement}
 use Rattle.items.proofs.item.put_ref.Tie as tie
-use Rattle.items.proofs.item.put_ref.Reads as reads
-use Rattle.items.proofs.item.put_ref.Lts as lts
 
 cast-w : tie.Need-cast-w
 cast-w c = search needs

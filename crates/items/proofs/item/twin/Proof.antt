@@ -4,9 +4,6 @@ use Rattle.items.proofs.ItemLaws.{twin-both, twin-depth, twin-code}
 use borrow.Author.Needs.{needs}
 use Rattle.items.proofs.item.twin.Statement.{statement}
 use Rattle.items.proofs.item.twin.Tie as tie
-use Rattle.items.proofs.item.twin.Reads as reads
-use Rattle.items.proofs.item.twin.Lts as lts
-use Rattle.items.proofs.item.number.Reads as number-reads
 
 mul-number : tie.Need-mul-number
 mul-number c = search needs

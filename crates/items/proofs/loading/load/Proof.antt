@@ -7,12 +7,6 @@ use Rattle.items.proofs.LoadLaws.{LoadAt, load-field, load-fits, load-p
 use native.Mathlib.Omega.{arith}
 use Rattle.items.proofs.loading.load.Statement.{statement}
 use Rattle.items.proofs.loading.load.Tie as tie
-use Rattle.items.proofs.loading.load.Reads as reads
-use Rattle.items.proofs.loading.load.Lts as lts
-use Rattle.tree.proofs.tuple.behind.Reads as behind-reads
-use Rattle.items.proofs.item.number.Reads as number-reads
-use Rattle.items.proofs.item.depth_under.Reads as depth-under-reads
-use Rattle.items.proofs.item.put_item.Reads as put-item-reads
 
 abbrev Inv-loop : tie.InvT-loop
 Inv-loop b at end x w₀ a₀ i₀ w a i = LoadAt b at end x w₀ w a i

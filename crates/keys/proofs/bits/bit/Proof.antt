@@ -4,8 +4,6 @@ use Rattle.keys.proofs.BitLaws.{bit-turn}
 use borrow.Author.Needs.{needs}
 use Rattle.keys.proofs.bits.bit.Statement.{statement}
 use Rattle.keys.proofs.bits.bit.Tie as tie
-use Rattle.keys.proofs.bits.bit.Reads as reads
-use Rattle.keys.proofs.bits.bit.Lts as lts
 
 abbrev Inv-loop : tie.InvT-loop
 Inv-loop b i c₀ left₀ c left = bitOf left c ≡ bitOf i b

@@ -3,9 +3,6 @@ use native.Mathlib.Omega.{arith}
 use borrow.Author.Needs.{needs}
 use Rattle.keys.proofs.bits.flag.Statement.{statement}
 use Rattle.keys.proofs.bits.flag.Tie as tie
-use Rattle.keys.proofs.bits.flag.Reads as reads
-use Rattle.keys.proofs.bits.flag.Lts as lts
-use Rattle.keys.proofs.bits.bit.Reads as bit-reads
 
 shared-slice-read-bit : tie.Need-shared-slice-read-bit
 shared-slice-read-bit c = search needs

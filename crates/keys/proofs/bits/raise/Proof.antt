@@ -2,10 +2,6 @@ use Rattle.keys.proofs.BitLaws.{raise-ways}
 use borrow.Author.Needs.{needs}
 use Rattle.keys.proofs.bits.raise.Statement.{statement}
 use Rattle.keys.proofs.bits.raise.Tie as tie
-use Rattle.keys.proofs.bits.raise.Reads as reads
-use Rattle.keys.proofs.bits.raise.Lts as lts
-use Rattle.keys.proofs.bits.bit.Reads as bit-reads
-use Rattle.keys.proofs.bits.with_bit.Reads as with-bit-reads
 
 returns : tie.Need-returns
 returns c = search raise-ways

@@ -3,8 +3,6 @@ use native.Mathlib.Omega.{arith}
 use borrow.Author.Needs.{needs}
 use Rattle.keys.proofs.bits.weight.Statement.{statement}
 use Rattle.keys.proofs.bits.weight.Tie as tie
-use Rattle.keys.proofs.bits.weight.Reads as reads
-use Rattle.keys.proofs.bits.weight.Lts as lts
 
 array-read-result : tie.Need-array-read-result
 array-read-result c = search needs

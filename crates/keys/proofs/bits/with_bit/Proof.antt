@@ -2,9 +2,6 @@ use Rattle.keys.proofs.BitLaws.{with-bit-ways}
 use borrow.Author.Needs.{needs}
 use Rattle.keys.proofs.bits.with_bit.Statement.{statement}
 use Rattle.keys.proofs.bits.with_bit.Tie as tie
-use Rattle.keys.proofs.bits.with_bit.Reads as reads
-use Rattle.keys.proofs.bits.with_bit.Lts as lts
-use Rattle.keys.proofs.bits.weight.Reads as weight-reads
 
 weight-requires : tie.Need-weight-requires
 weight-requires c κs = search needs

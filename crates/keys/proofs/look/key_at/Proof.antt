@@ -2,10 +2,6 @@ use Rattle.keys.proofs.KeyLaws.{key-ways}
 use borrow.Author.Needs.{needs}
 use Rattle.keys.proofs.look.key_at.Statement.{statement}
 use Rattle.keys.proofs.look.key_at.Tie as tie
-use Rattle.keys.proofs.look.key_at.Reads as reads
-use Rattle.keys.proofs.look.key_at.Lts as lts
-use Rattle.fields.proofs.le32.Reads as le32-reads
-use Rattle.keys.proofs.look.rank.Reads as rank-reads
 
 add-if1 : tie.Need-add-if1
 add-if1 c = search needs

@@ -2,10 +2,6 @@ use Rattle.keys.proofs.LookLaws.{look-ways}
 use borrow.Author.Needs.{needs}
 use Rattle.keys.proofs.look.look_at.Statement.{statement}
 use Rattle.keys.proofs.look.look_at.Tie as tie
-use Rattle.keys.proofs.look.look_at.Reads as reads
-use Rattle.keys.proofs.look.look_at.Lts as lts
-use Rattle.keys.proofs.look.key_at.Reads as key-at-reads
-use Rattle.skeleton.proofs.file.stated_at.Reads as stated-at-reads
 
 stated-at-requires : tie.Need-stated-at-requires
 stated-at-requires c κs = search needs

@@ -7,9 +7,6 @@ use Rattle.keys.proofs.SeenLaws.{seen-turn}
 use borrow.Author.Needs.{needs}
 use Rattle.keys.proofs.look.seen.Statement.{statement}
 use Rattle.keys.proofs.look.seen.Tie as tie
-use Rattle.keys.proofs.look.seen.Reads as reads
-use Rattle.keys.proofs.look.seen.Lts as lts
-use Rattle.keys.proofs.look.look_at.Reads as look-at-reads
 
 abbrev Inv-loop : tie.InvT-loop
 Inv-loop f start m key p₀ left₀ p left = (p ≤ length f) × (Known f p left) × (seenFrom f p left key ≡ seenFrom f start m key)

@@ -1,8 +1,6 @@
 use Rattle.keys.proofs.OnceLaws.{larger-ways}
 use Rattle.keys.proofs.once.larger.Statement.{statement}
 use Rattle.keys.proofs.once.larger.Tie as tie
-use Rattle.keys.proofs.once.larger.Reads as reads
-use Rattle.keys.proofs.once.larger.Lts as lts
 
 returns : tie.Need-returns
 returns c = search larger-ways

@@ -2,9 +2,6 @@ use Rattle.keys.proofs.OnceLaws.{renew-ways}
 use borrow.Author.Needs.{needs}
 use Rattle.keys.proofs.once.renew.Statement.{statement}
 use Rattle.keys.proofs.once.renew.Tie as tie
-use Rattle.keys.proofs.once.renew.Reads as reads
-use Rattle.keys.proofs.once.renew.Lts as lts
-use Rattle.memory.proofs.zero.Reads as zero-reads
 
 returns : tie.Need-returns
 returns c = search renew-ways

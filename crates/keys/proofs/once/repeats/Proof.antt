@@ -2,11 +2,6 @@ use Rattle.keys.proofs.OnceLaws.{repeats-ways}
 use borrow.Author.Needs.{needs}
 use Rattle.keys.proofs.once.repeats.Statement.{statement}
 use Rattle.keys.proofs.once.repeats.Tie as tie
-use Rattle.keys.proofs.once.repeats.Reads as reads
-use Rattle.keys.proofs.once.repeats.Lts as lts
-use Rattle.keys.proofs.bits.raise.Reads as raise-reads
-use Rattle.keys.proofs.once.renew.Reads as renew-reads
-use Rattle.keys.proofs.once.stood.Reads as stood-reads
 
 stood-requires : tie.Need-stood-requires
 stood-requires c κs = search needs

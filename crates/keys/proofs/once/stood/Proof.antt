@@ -2,10 +2,6 @@ use Rattle.keys.proofs.OnceLaws.{stood-ways}
 use borrow.Author.Needs.{needs}
 use Rattle.keys.proofs.once.stood.Statement.{statement}
 use Rattle.keys.proofs.once.stood.Tie as tie
-use Rattle.keys.proofs.once.stood.Reads as reads
-use Rattle.keys.proofs.once.stood.Lts as lts
-use Rattle.keys.proofs.bits.flag.Reads as flag-reads
-use Rattle.keys.proofs.look.seen.Reads as seen-reads
 
 returns : tie.Need-returns
 returns c = search stood-ways

@@ -1,8 +1,6 @@
 use Rattle.keys.proofs.OrderLaws.{ascended-ways}
 use Rattle.keys.proofs.order.ascended_to.Statement.{statement}
 use Rattle.keys.proofs.order.ascended_to.Tie as tie
-use Rattle.keys.proofs.order.ascended_to.Reads as reads
-use Rattle.keys.proofs.order.ascended_to.Lts as lts
 
 returns : tie.Need-returns
 returns c = search ascended-ways

@@ -2,9 +2,6 @@ use Rattle.keys.proofs.OrderLaws.{ordered-ways}
 use borrow.Author.Needs.{needs}
 use Rattle.keys.proofs.order.ordered.Statement.{statement}
 use Rattle.keys.proofs.order.ordered.Tie as tie
-use Rattle.keys.proofs.order.ordered.Reads as reads
-use Rattle.keys.proofs.order.ordered.Lts as lts
-use Rattle.keys.proofs.bits.flag.Reads as flag-reads
 
 flag-requires : tie.Need-flag-requires
 flag-requires c κs = search needs

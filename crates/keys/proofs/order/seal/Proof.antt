@@ -2,9 +2,6 @@ use Rattle.keys.proofs.OrderLaws.{seal-ways}
 use borrow.Author.Needs.{needs}
 use Rattle.keys.proofs.order.seal.Statement.{statement}
 use Rattle.keys.proofs.order.seal.Tie as tie
-use Rattle.keys.proofs.order.seal.Reads as reads
-use Rattle.keys.proofs.order.seal.Lts as lts
-use Rattle.keys.proofs.bits.raise.Reads as raise-reads
 
 raise-requires : tie.Need-raise-requires
 raise-requires c κs = search needs

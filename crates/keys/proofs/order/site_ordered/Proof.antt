@@ -5,9 +5,6 @@ use Rattle.keys.specs.Table.{Close}
 use borrow.Author.Needs.{needs}
 use Rattle.keys.proofs.order.site_ordered.Statement.{statement}
 use Rattle.keys.proofs.order.site_ordered.Tie as tie
-use Rattle.keys.proofs.order.site_ordered.Reads as reads
-use Rattle.keys.proofs.order.site_ordered.Lts as lts
-use Rattle.keys.proofs.look.look_at.Reads as look-at-reads
 
 abbrev Inv-loop : tie.InvT-loop
 Inv-loop f start from key p₀ p = Close f start key p

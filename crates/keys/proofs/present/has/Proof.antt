@@ -3,15 +3,6 @@ use Rattle.keys.proofs.SiteLaws.{sited-says}
 use borrow.Author.Needs.{needs}
 use Rattle.keys.proofs.present.has.Statement.{statement}
 use Rattle.keys.proofs.present.has.Tie as tie
-use Rattle.keys.proofs.present.has.Reads as reads
-use Rattle.keys.proofs.present.has.Lts as lts
-use Rattle.keys.proofs.bits.flag.Reads as flag-reads
-use Rattle.keys.proofs.order.ordered.Reads as ordered-reads
-use Rattle.keys.proofs.order.site_ordered.Reads as site-ordered-reads
-use Rattle.keys.proofs.present.has_plain.Reads as has-plain-reads
-use Rattle.keys.proofs.present.near.Reads as near-reads
-use Rattle.keys.proofs.present.start_near.Reads as start-near-reads
-use Rattle.keys.proofs.slots.slot.Reads as slot-reads
 
 slot-requires : tie.Need-slot-requires
 slot-requires c κs = search needs

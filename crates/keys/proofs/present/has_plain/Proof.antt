@@ -7,9 +7,6 @@ use Rattle.keys.specs.Look.{Sound}
 use borrow.Author.Needs.{needs}
 use Rattle.keys.proofs.present.has_plain.Statement.{statement}
 use Rattle.keys.proofs.present.has_plain.Tie as tie
-use Rattle.keys.proofs.present.has_plain.Reads as reads
-use Rattle.keys.proofs.present.has_plain.Lts as lts
-use Rattle.keys.proofs.look.look_at.Reads as look-at-reads
 
 abbrev Inv-loop : tie.InvT-loop
 Inv-loop f start key p₀ p = Sound f p × (hasFrom f p key ≡ hasFrom f start key)

@@ -3,9 +3,6 @@ use Rattle.keys.specs.Table.{Tail}
 use borrow.Author.Needs.{needs}
 use Rattle.keys.proofs.present.near.Statement.{statement}
 use Rattle.keys.proofs.present.near.Tie as tie
-use Rattle.keys.proofs.present.near.Reads as reads
-use Rattle.keys.proofs.present.near.Lts as lts
-use Rattle.keys.proofs.look.look_at.Reads as look-at-reads
 
 abbrev Inv-loop : tie.InvT-loop
 Inv-loop f start from steps key p₀ left₀ p left = Tail f start p

@@ -4,10 +4,6 @@ use Rattle.keys.specs.Table.{Close}
 use borrow.Author.Needs.{needs}
 use Rattle.keys.proofs.present.start_near.Statement.{statement}
 use Rattle.keys.proofs.present.start_near.Tie as tie
-use Rattle.keys.proofs.present.start_near.Reads as reads
-use Rattle.keys.proofs.present.start_near.Lts as lts
-use Rattle.keys.proofs.look.look_at.Reads as look-at-reads
-use Rattle.keys.proofs.present.wide.Reads as wide-reads
 
 abbrev Inv-loop : tie.InvT-loop
 Inv-loop f start t n map key p₀ lo₀ hi₀ p lo hi = (hi ≤ n) × Close f start key p

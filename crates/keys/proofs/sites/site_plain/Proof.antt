@@ -7,9 +7,6 @@ use Rattle.keys.specs.Table.{Tail}
 use borrow.Author.Needs.{needs}
 use Rattle.keys.proofs.sites.site_plain.Statement.{statement}
 use Rattle.keys.proofs.sites.site_plain.Tie as tie
-use Rattle.keys.proofs.sites.site_plain.Reads as reads
-use Rattle.keys.proofs.sites.site_plain.Lts as lts
-use Rattle.keys.proofs.look.look_at.Reads as look-at-reads
 
 abbrev Inv-loop : tie.InvT-loop
 Inv-loop f start key p₀ p = Tail f start p × (hasFrom f p key ≡ hasFrom f start key)

@@ -2,13 +2,6 @@ use Rattle.keys.proofs.SiteLaws.{site-ways}
 use borrow.Author.Needs.{needs}
 use Rattle.keys.proofs.sites.site_walk.Statement.{statement}
 use Rattle.keys.proofs.sites.site_walk.Tie as tie
-use Rattle.keys.proofs.sites.site_walk.Reads as reads
-use Rattle.keys.proofs.sites.site_walk.Lts as lts
-use Rattle.keys.proofs.order.ordered.Reads as ordered-reads
-use Rattle.keys.proofs.order.site_ordered.Reads as site-ordered-reads
-use Rattle.keys.proofs.present.start_near.Reads as start-near-reads
-use Rattle.keys.proofs.sites.site_near.Reads as site-near-reads
-use Rattle.keys.proofs.sites.site_plain.Reads as site-plain-reads
 
 start-near-requires : tie.Need-start-near-requires
 start-near-requires c κs = search needs

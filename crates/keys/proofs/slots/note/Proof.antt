@@ -2,10 +2,6 @@ use Rattle.keys.proofs.SlotLaws.{note-ways}
 use borrow.Author.Needs.{needs}
 use Rattle.keys.proofs.slots.note.Statement.{statement}
 use Rattle.keys.proofs.slots.note.Tie as tie
-use Rattle.keys.proofs.slots.note.Reads as reads
-use Rattle.keys.proofs.slots.note.Lts as lts
-use Rattle.keys.proofs.bits.raise.Reads as raise-reads
-use Rattle.keys.proofs.slots.slot.Reads as slot-reads
 
 slot-requires : tie.Need-slot-requires
 slot-requires c κs = search needs

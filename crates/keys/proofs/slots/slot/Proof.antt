@@ -2,9 +2,6 @@ use Rattle.keys.proofs.SlotLaws.{slot-ways}
 use borrow.Author.Needs.{needs}
 use Rattle.keys.proofs.slots.slot.Statement.{statement}
 use Rattle.keys.proofs.slots.slot.Tie as tie
-use Rattle.keys.proofs.slots.slot.Reads as reads
-use Rattle.keys.proofs.slots.slot.Lts as lts
-use Rattle.keys.proofs.slots.within.Reads as within-reads
 
 within-requires : tie.Need-within-requires
 within-requires c κs = search needs

@@ -2,8 +2,6 @@ use Rattle.keys.proofs.SlotLaws.{within-ways}
 use borrow.Author.Needs.{needs}
 use Rattle.keys.proofs.slots.within.Statement.{statement}
 use Rattle.keys.proofs.slots.within.Tie as tie
-use Rattle.keys.proofs.slots.within.Reads as reads
-use Rattle.keys.proofs.slots.within.Lts as lts
 
 add-result : tie.Need-add-result
 add-result c = search needs

@@ -3,8 +3,6 @@ use native.Mathlib.Omega.{arith}
 use borrow.Author.Needs.{needs}
 use Rattle.keys.proofs.table.put.Statement.{statement}
 use Rattle.keys.proofs.table.put.Tie as tie
-use Rattle.keys.proofs.table.put.Reads as reads
-use Rattle.keys.proofs.table.put.Lts as lts
 
 mul-t : tie.Need-mul-t
 mul-t c = search needs

@@ -7,15 +7,6 @@ use Rattle.keys.proofs.TableLaws.{Passed, Climbing}
 use borrow.Author.Needs.{needs}
 use Rattle.keys.proofs.table.spread.Statement.{statement}
 use Rattle.keys.proofs.table.spread.Tie as tie
-use Rattle.keys.proofs.table.spread.Reads as reads
-use Rattle.keys.proofs.table.spread.Lts as lts
-use Rattle.keys.proofs.look.look_at.Reads as look-at-reads
-use Rattle.keys.proofs.order.ascended_to.Reads as ascended-to-reads
-use Rattle.keys.proofs.order.seal.Reads as seal-reads
-use Rattle.keys.proofs.slots.note.Reads as note-reads
-use Rattle.keys.proofs.table.put.Reads as put-reads
-use Rattle.keys.proofs.table.used.Reads as used-reads
-use Rattle.memory.proofs.zero.Reads as zero-reads
 
 abbrev Inv-loop : tie.InvT-loop
 Inv-loop f start stride t₀ map₀ p₀ i₀ last₀ ascended₀ t map p i last ascended =

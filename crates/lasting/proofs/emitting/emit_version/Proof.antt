@@ -3,10 +3,6 @@ use borrow.Author.Needs.{needs}
 use native.Mathlib.Omega.{arith}
 use Rattle.lasting.proofs.emitting.emit_version.Statement.{statement}
 use Rattle.lasting.proofs.emitting.emit_version.Tie as tie
-use Rattle.lasting.proofs.emitting.emit_version.Reads as reads
-use Rattle.lasting.proofs.emitting.emit_version.Lts as lts
-use Rattle.lasting.proofs.emitting.held_length.Reads as held-length-reads
-use Rattle.emission.proofs.writer.write_version.Reads as write-version-reads
 
 held-length-requires : tie.Need-held-length-requires
 held-length-requires c κs = search needs

@@ -1,11 +1,7 @@
 use Rattle.composing.proofs.KeptLaws.{lasts-ways}
 use borrow.Author.Needs.{needs}
-use native.Mathlib.Omega.{arith}
 use Rattle.lasting.proofs.emitting.held_length.Statement.{statement}
 use Rattle.lasting.proofs.emitting.held_length.Tie as tie
-use Rattle.lasting.proofs.emitting.held_length.Reads as reads
-use Rattle.lasting.proofs.emitting.held_length.Lts as lts
-use Rattle.emission.proofs.measuring.version_length.Reads as version-length-reads
 
 version-length-requires : tie.Need-version-length-requires
 version-length-requires c κs = (search needs, search lasts-ways)

@@ -1,12 +1,7 @@
 use Rattle.composing.proofs.KeptLaws.{made-ways}
 use borrow.Author.Needs.{needs}
-use native.Mathlib.Omega.{arith}
 use Rattle.lasting.proofs.emitting.make_held.Statement.{statement}
 use Rattle.lasting.proofs.emitting.make_held.Tie as tie
-use Rattle.lasting.proofs.emitting.make_held.Reads as reads
-use Rattle.lasting.proofs.emitting.make_held.Lts as lts
-use Rattle.composing.proofs.held.version_stands.Reads as version-stands-reads
-use Rattle.lasting.proofs.emitting.emit_version.Reads as emit-version-reads
 
 version-stands-requires : tie.Need-version-stands-requires
 version-stands-requires c κs = search needs

@@ -1,13 +1,9 @@
 use lib.Dec.{eqb}
 use Prim.Native.Nat.{ℕ}
 use mathlib.Core.Path.{ap}
-use native.Mathlib.Omega.{arith}
 use borrow.Author.Needs.{needs}
 use Rattle.lasting.proofs.new.inserts.Statement.{statement}
 use Rattle.lasting.proofs.new.inserts.Tie as tie
-use Rattle.lasting.proofs.new.inserts.Reads as reads
-use Rattle.lasting.proofs.new.inserts.Lts as lts
-use Rattle.composing.proofs.acts.ruin.Reads as ruin-reads
 
 ruin-requires : tie.Need-ruin-requires
 ruin-requires c κs = search needs

@@ -3,10 +3,6 @@ use native.Mathlib.Omega.{arith}
 use borrow.Author.Needs.{needs}
 use Rattle.lasting.proofs.new.joined.Statement.{statement}
 use Rattle.lasting.proofs.new.joined.Tie as tie
-use Rattle.lasting.proofs.new.joined.Reads as reads
-use Rattle.lasting.proofs.new.joined.Lts as lts
-use Rattle.lasting.proofs.stepping.last_step.Reads as last-step-reads
-use Rattle.history.proofs.playing.play.Reads as play-reads
 
 play-requires : tie.Need-play-requires
 play-requires c κs =

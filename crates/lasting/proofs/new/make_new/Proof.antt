@@ -1,15 +1,10 @@
 use Rattle.lasting.proofs.NewLaws.{new-other, new-word, new-inside, new-bounded, new-not, new-behind, new-gone, new-lasting, new-joined}
 use borrow.Author.Tests.{not-false}
-use mathlib.Core.Path.{refl, sym, _∙_}
+use mathlib.Core.Path.{sym, _∙_}
 use native.Mathlib.Omega.{arith}
 use borrow.Author.Needs.{needs}
 use Rattle.lasting.proofs.new.make_new.Statement.{statement}
 use Rattle.lasting.proofs.new.make_new.Tie as tie
-use Rattle.lasting.proofs.new.make_new.Reads as reads
-use Rattle.lasting.proofs.new.make_new.Lts as lts
-use Rattle.composing.proofs.acts.deleted_from.Reads as deleted-from-reads
-use Rattle.lasting.proofs.new.inserts.Reads as inserts-reads
-use Rattle.lasting.proofs.new.joined.Reads as joined-reads
 
 returns : tie.Need-returns
 returns c = let s = c .before .before .before .before .before .before .before in new-other _ _ _ _ _ _ _ (s .args .work .now) (s .pre .0) _ _ _ _ (s .pre .1) _ _ _ (c .if1 .taken)

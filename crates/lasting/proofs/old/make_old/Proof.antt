@@ -1,15 +1,9 @@
 use Rattle.lasting.proofs.WholeLaws.{whole-sound}
 use Rattle.lasting.proofs.OldLaws.{old-other, old-same, old-gone, old-played}
-use mathlib.Core.Path.{refl, sym, _∙_}
-use native.Mathlib.Omega.{arith}
+use mathlib.Core.Path.{sym, _∙_}
 use borrow.Author.Needs.{needs}
 use Rattle.lasting.proofs.old.make_old.Statement.{statement}
 use Rattle.lasting.proofs.old.make_old.Tie as tie
-use Rattle.lasting.proofs.old.make_old.Reads as reads
-use Rattle.lasting.proofs.old.make_old.Lts as lts
-use Rattle.composing.proofs.acts.deleted_from.Reads as deleted-from-reads
-use Rattle.lasting.proofs.old.played.Reads as played-reads
-use Rattle.lasting.proofs.old.untouched.Reads as untouched-reads
 
 returns : tie.Need-returns
 returns c = let s = c .before .before .before .before .before .before .before in old-other _ _ _ _ _ _ _ (s .args .work .now) (s .pre .0) _ _ _ _ (s .pre .1) _ _ _ (c .if1 .taken)

@@ -3,10 +3,6 @@ use native.Mathlib.Omega.{arith}
 use borrow.Author.Needs.{needs}
 use Rattle.lasting.proofs.old.played.Statement.{statement}
 use Rattle.lasting.proofs.old.played.Tie as tie
-use Rattle.lasting.proofs.old.played.Reads as reads
-use Rattle.lasting.proofs.old.played.Lts as lts
-use Rattle.lasting.proofs.old.replay.Reads as replay-reads
-use Rattle.lasting.proofs.stepping.last_step.Reads as last-step-reads
 
 replay-requires : tie.Need-replay-requires
 replay-requires c κs = let s = c .before .before .before .before .before .before .before in (old-replayable _ _ _ _ _ _ _ _ (s .pre .0) _ _ _ _ (s .pre .1 .2), s .pre .0 .wide)

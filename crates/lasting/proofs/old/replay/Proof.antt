@@ -2,10 +2,6 @@ use Rattle.lasting.proofs.OldLaws.{replay-playing, replayed}
 use borrow.Author.Needs.{needs}
 use Rattle.lasting.proofs.old.replay.Statement.{statement}
 use Rattle.lasting.proofs.old.replay.Tie as tie
-use Rattle.lasting.proofs.old.replay.Reads as reads
-use Rattle.lasting.proofs.old.replay.Lts as lts
-use Rattle.history.proofs.finding.load_at.Reads as load-at-reads
-use Rattle.history.proofs.playing.play.Reads as play-reads
 
 load-at-requires : tie.Need-load-at-requires
 load-at-requires c κs = search needs

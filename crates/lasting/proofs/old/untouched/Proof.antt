@@ -4,10 +4,6 @@ use native.Mathlib.Omega.{arith}
 use borrow.Author.Needs.{needs}
 use Rattle.lasting.proofs.old.untouched.Statement.{statement}
 use Rattle.lasting.proofs.old.untouched.Tie as tie
-use Rattle.lasting.proofs.old.untouched.Reads as reads
-use Rattle.lasting.proofs.old.untouched.Lts as lts
-use Rattle.composing.proofs.making.make_untouched.Reads as make-untouched-reads
-use Rattle.lasting.proofs.stepping.step_of.Reads as step-of-reads
 
 flags-of-requires : tie.Need-flags-of-requires
 flags-of-requires c κs = search needs

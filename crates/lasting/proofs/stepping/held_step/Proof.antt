@@ -1,13 +1,8 @@
 use Rattle.lasting.proofs.WholeLaws.{whole-asks}
 use Rattle.lasting.proofs.StepLaws.{held-step, kept-inas, kept-spas}
-use native.Mathlib.Omega.{arith}
 use borrow.Author.Needs.{needs}
 use Rattle.lasting.proofs.stepping.held_step.Statement.{statement}
 use Rattle.lasting.proofs.stepping.held_step.Tie as tie
-use Rattle.lasting.proofs.stepping.held_step.Reads as reads
-use Rattle.lasting.proofs.stepping.held_step.Lts as lts
-use Rattle.lasting.proofs.emitting.make_held.Reads as make-held-reads
-use Rattle.lasting.proofs.stepping.step_of.Reads as step-of-reads
 
 flags-of-requires : tie.Need-flags-of-requires
 flags-of-requires c κs = search needs

@@ -1,11 +1,7 @@
 use Rattle.lasting.proofs.StepLaws.{stays-kept, last-held, last-absent, last-refused}
-use native.Mathlib.Omega.{arith}
 use borrow.Author.Needs.{needs}
 use Rattle.lasting.proofs.stepping.last_step.Statement.{statement}
 use Rattle.lasting.proofs.stepping.last_step.Tie as tie
-use Rattle.lasting.proofs.stepping.last_step.Reads as reads
-use Rattle.lasting.proofs.stepping.last_step.Lts as lts
-use Rattle.lasting.proofs.stepping.held_step.Reads as held-step-reads
 
 enum-known-last : tie.Need-enum-known-last
 enum-known-last c = search needs

@@ -1,10 +1,7 @@
 use Rattle.lasting.proofs.StepLaws.{step-ways}
-use native.Mathlib.Omega.{arith}
 use borrow.Author.Needs.{needs}
 use Rattle.lasting.proofs.stepping.step_of.Statement.{statement}
 use Rattle.lasting.proofs.stepping.step_of.Tie as tie
-use Rattle.lasting.proofs.stepping.step_of.Reads as reads
-use Rattle.lasting.proofs.stepping.step_of.Lts as lts
 
 enum-told : tie.Need-enum-told
 enum-told c = search needs

@@ -1,12 +1,7 @@
 use Rattle.listing.proofs.CountLaws.{entries-ways}
-use native.Mathlib.Omega.{arith}
 use borrow.Author.Needs.{needs}
 use Rattle.listing.proofs.counts.entries.Statement.{statement}
 use Rattle.listing.proofs.counts.entries.Tie as tie
-use Rattle.listing.proofs.counts.entries.Reads as reads
-use Rattle.listing.proofs.counts.entries.Lts as lts
-use Rattle.listing.proofs.counts.entries_of.Reads as entries-of-reads
-use Rattle.skeleton.proofs.place.find.Reads as find-reads
 
 find-requires : tie.Need-find-requires
 find-requires c κs = search needs

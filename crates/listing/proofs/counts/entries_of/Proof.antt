@@ -1,11 +1,7 @@
 use Rattle.listing.proofs.CountLaws.{entries-of-ways}
-use native.Mathlib.Omega.{arith}
 use borrow.Author.Needs.{needs}
 use Rattle.listing.proofs.counts.entries_of.Statement.{statement}
 use Rattle.listing.proofs.counts.entries_of.Tie as tie
-use Rattle.listing.proofs.counts.entries_of.Reads as reads
-use Rattle.listing.proofs.counts.entries_of.Lts as lts
-use Rattle.fields.proofs.tally_of.Reads as tally-of-reads
 
 tally-of-requires : tie.Need-tally-of-requires
 tally-of-requires c κs = search needs

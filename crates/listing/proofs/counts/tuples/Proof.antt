@@ -2,14 +2,8 @@ use Rattle.listing.proofs.CountLaws.{tuples-turn}
 use lib.ListN.{length}
 use Prim.Native.Nat.{_-_}
 use Rattle.listing.proofs.CountLaws.{CountedTo}
-use borrow.Author.Needs.{needs}
-use native.Mathlib.Omega.{arith}
 use Rattle.listing.proofs.counts.tuples.Statement.{statement}
 use Rattle.listing.proofs.counts.tuples.Tie as tie
-use Rattle.listing.proofs.counts.tuples.Reads as reads
-use Rattle.listing.proofs.counts.tuples.Lts as lts
-use Rattle.listing.proofs.counts.tuples_of.Reads as tuples-of-reads
-use Rattle.skeleton.proofs.place.place_at.Reads as place-at-reads
 
 abbrev Inv-loop : tie.InvT-loop
 Inv-loop r h q₀ n₀ q n = CountedTo r h q n

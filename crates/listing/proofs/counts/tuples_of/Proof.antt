@@ -1,10 +1,6 @@
 use Rattle.listing.proofs.CountLaws.{tuples-of-ways}
-use borrow.Author.Needs.{needs}
-use native.Mathlib.Omega.{arith}
 use Rattle.listing.proofs.counts.tuples_of.Statement.{statement}
 use Rattle.listing.proofs.counts.tuples_of.Tie as tie
-use Rattle.listing.proofs.counts.tuples_of.Reads as reads
-use Rattle.listing.proofs.counts.tuples_of.Lts as lts
 
 returns : tie.Need-returns
 returns c = search tuples-of-ways

@@ -1,14 +1,7 @@
 use Rattle.listing.proofs.LineLaws.{line-wrote}
-use native.Mathlib.Omega.{arith}
 use borrow.Author.Needs.{needs}
 use Rattle.listing.proofs.lines.put_line.Statement.{statement}
 use Rattle.listing.proofs.lines.put_line.Tie as tie
-use Rattle.listing.proofs.lines.put_line.Reads as reads
-use Rattle.listing.proofs.lines.put_line.Lts as lts
-use Rattle.listing.proofs.lines.put_tag.Reads as put-tag-reads
-use Rattle.listing.proofs.text.put_number.Reads as put-number-reads
-use Rattle.listing.proofs.text.put_spaced.Reads as put-spaced-reads
-use Rattle.listing.proofs.text.put_text.Reads as put-text-reads
 
 put-number-requires : tie.Need-put-number-requires
 put-number-requires c κs = search needs

@@ -1,12 +1,7 @@
 use Rattle.listing.proofs.LineLaws.{refusal-wrote}
-use native.Mathlib.Omega.{arith}
 use borrow.Author.Needs.{needs}
 use Rattle.listing.proofs.lines.put_refusal.Statement.{statement}
 use Rattle.listing.proofs.lines.put_refusal.Tie as tie
-use Rattle.listing.proofs.lines.put_refusal.Reads as reads
-use Rattle.listing.proofs.lines.put_refusal.Lts as lts
-use Rattle.listing.proofs.text.put_spaced.Reads as put-spaced-reads
-use Rattle.listing.proofs.text.put_text.Reads as put-text-reads
 
 slice-aggregate-put-text : tie.Need-slice-aggregate-put-text
 slice-aggregate-put-text c = search needs

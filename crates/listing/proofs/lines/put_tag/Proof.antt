@@ -1,11 +1,7 @@
 use Rattle.listing.proofs.LineLaws.{tag-info, tag-point, tag-multi, tag-feature}
-use native.Mathlib.Omega.{arith}
 use borrow.Author.Needs.{needs}
 use Rattle.listing.proofs.lines.put_tag.Statement.{statement}
 use Rattle.listing.proofs.lines.put_tag.Tie as tie
-use Rattle.listing.proofs.lines.put_tag.Reads as reads
-use Rattle.listing.proofs.lines.put_tag.Lts as lts
-use Rattle.listing.proofs.text.put_text.Reads as put-text-reads
 
 enum-told : tie.Need-enum-told
 enum-told c = search needs

@@ -1,12 +1,7 @@
 use Rattle.listing.proofs.LineLaws.{total-wrote}
-use native.Mathlib.Omega.{arith}
 use borrow.Author.Needs.{needs}
 use Rattle.listing.proofs.lines.put_total.Statement.{statement}
 use Rattle.listing.proofs.lines.put_total.Tie as tie
-use Rattle.listing.proofs.lines.put_total.Reads as reads
-use Rattle.listing.proofs.lines.put_total.Lts as lts
-use Rattle.listing.proofs.text.put_spaced.Reads as put-spaced-reads
-use Rattle.listing.proofs.text.put_text.Reads as put-text-reads
 
 slice-aggregate-put-text : tie.Need-slice-aggregate-put-text
 slice-aggregate-put-text c = search needs

@@ -1,12 +1,8 @@
 use Rattle.listing.proofs.DigitLaws.{counted-done}
 use Rattle.listing.proofs.DigitLaws.{digits-turn}
 use Rattle.listing.proofs.DigitLaws.{Counted}
-use borrow.Author.Needs.{needs}
-use native.Mathlib.Omega.{arith}
 use Rattle.listing.proofs.text.digits_of.Statement.{statement}
 use Rattle.listing.proofs.text.digits_of.Tie as tie
-use Rattle.listing.proofs.text.digits_of.Reads as reads
-use Rattle.listing.proofs.text.digits_of.Lts as lts
 
 abbrev Inv-loop : tie.InvT-loop
 Inv-loop x rest₀ w₀ rest w = Counted x rest w

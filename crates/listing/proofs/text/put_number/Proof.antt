@@ -1,14 +1,8 @@
 use Rattle.listing.proofs.TextLaws.{number-wrote}
 use Rattle.listing.proofs.TextLaws.{number-ways}
-use native.Mathlib.Omega.{arith}
 use borrow.Author.Needs.{needs}
 use Rattle.listing.proofs.text.put_number.Statement.{statement}
 use Rattle.listing.proofs.text.put_number.Tie as tie
-use Rattle.listing.proofs.text.put_number.Reads as reads
-use Rattle.listing.proofs.text.put_number.Lts as lts
-use Rattle.listing.proofs.text.digits_of.Reads as digits-of-reads
-use Rattle.listing.proofs.text.put_text.Reads as put-text-reads
-use Rattle.memory.proofs.put_decimal.Reads as put-decimal-reads
 
 digits-of-requires : tie.Need-digits-of-requires
 digits-of-requires c κs = search needs

@@ -1,12 +1,7 @@
 use Rattle.listing.proofs.TextLaws.{spaced-wrote}
-use native.Mathlib.Omega.{arith}
 use borrow.Author.Needs.{needs}
 use Rattle.listing.proofs.text.put_spaced.Statement.{statement}
 use Rattle.listing.proofs.text.put_spaced.Tie as tie
-use Rattle.listing.proofs.text.put_spaced.Reads as reads
-use Rattle.listing.proofs.text.put_spaced.Lts as lts
-use Rattle.listing.proofs.text.put_number.Reads as put-number-reads
-use Rattle.listing.proofs.text.put_text.Reads as put-text-reads
 
 slice-aggregate-put-text : tie.Need-slice-aggregate-put-text
 slice-aggregate-put-text c = search needs

@@ -2,13 +2,8 @@ use Rattle.listing.proofs.TextLaws.{text-turn}
 use lib.ListN.{length}
 use Prim.Native.Nat.{_-_}
 use Rattle.memory.proofs.LoopLaws.{Stored}
-use borrow.Author.Needs.{needs}
-use native.Mathlib.Omega.{arith}
 use Rattle.listing.proofs.text.put_text.Statement.{statement}
 use Rattle.listing.proofs.text.put_text.Tie as tie
-use Rattle.listing.proofs.text.put_text.Reads as reads
-use Rattle.listing.proofs.text.put_text.Lts as lts
-use Rattle.listing.proofs.text.store.Reads as store-reads
 
 abbrev Inv-loop : tie.InvT-loop
 Inv-loop out₀ at text k₀ out k = Stored at (length text) text out₀ 0 k out

@@ -1,10 +1,7 @@
-use native.Mathlib.Omega.{arith}
 use borrow.Author.Needs.{needs}
 use Rattle.keys.proofs.TableLaws.{put-past}
 use Rattle.listing.proofs.text.store.Statement.{statement}
 use Rattle.listing.proofs.text.store.Tie as tie
-use Rattle.listing.proofs.text.store.Reads as reads
-use Rattle.listing.proofs.text.store.Lts as lts
 
 slice-write-out : tie.Need-slice-write-out
 slice-write-out c = search needs

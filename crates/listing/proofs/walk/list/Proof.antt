@@ -1,13 +1,7 @@
 use Rattle.listing.proofs.TableLaws.{list-none, list-all, list-longest}
-use native.Mathlib.Omega.{arith}
 use borrow.Author.Needs.{needs}
 use Rattle.listing.proofs.walk.list.Statement.{statement}
 use Rattle.listing.proofs.walk.list.Tie as tie
-use Rattle.listing.proofs.walk.list.Reads as reads
-use Rattle.listing.proofs.walk.list.Lts as lts
-use Rattle.listing.proofs.walk.put_listing.Reads as put-listing-reads
-use Rattle.memory.proofs.zero.Reads as zero-reads
-use Rattle.memory.proofs.zero_from.Reads as zero-from-reads
 
 put-listing-requires : tie.Need-put-listing-requires
 put-listing-requires c κs = search needs

@@ -1,12 +1,7 @@
 use Rattle.listing.proofs.TableLaws.{listing-long, listing-short}
-use native.Mathlib.Omega.{arith}
 use borrow.Author.Needs.{needs}
 use Rattle.listing.proofs.walk.put_listing.Statement.{statement}
 use Rattle.listing.proofs.walk.put_listing.Tie as tie
-use Rattle.listing.proofs.walk.put_listing.Reads as reads
-use Rattle.listing.proofs.walk.put_listing.Lts as lts
-use Rattle.listing.proofs.text.put_text.Reads as put-text-reads
-use Rattle.listing.proofs.walk.put_short.Reads as put-short-reads
 
 slice-aggregate-put-text : tie.Need-slice-aggregate-put-text
 slice-aggregate-put-text c = search needs

@@ -1,18 +1,8 @@
 use Rattle.skeleton.proofs.PlaceLaws.{place-runs, place-in}
 use Rattle.listing.proofs.RecordLaws.{record-none, record-unknown, record-ident, record-wrote}
-use native.Mathlib.Omega.{arith}
 use borrow.Author.Needs.{needs}
 use Rattle.listing.proofs.walk.put_record.Statement.{statement}
 use Rattle.listing.proofs.walk.put_record.Tie as tie
-use Rattle.listing.proofs.walk.put_record.Reads as reads
-use Rattle.listing.proofs.walk.put_record.Lts as lts
-use Rattle.contents.proofs.identifier.rcid.Reads as rcid-reads
-use Rattle.contents.proofs.identifier.rver.Reads as rver-reads
-use Rattle.listing.proofs.counts.entries.Reads as entries-reads
-use Rattle.listing.proofs.counts.tuples.Reads as tuples-reads
-use Rattle.listing.proofs.lines.put_line.Reads as put-line-reads
-use Rattle.records.proofs.grammar.kind_of.Reads as kind-of-reads
-use Rattle.skeleton.proofs.place.place_at.Reads as place-at-reads
 
 place-at-requires : tie.Need-place-at-requires
 place-at-requires c κs = search needs

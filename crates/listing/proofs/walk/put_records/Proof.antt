@@ -2,13 +2,8 @@ use Rattle.listing.proofs.WalkLaws.{Reached, reached-start, reached-ove
 use lib.ListN.{length}
 use Prim.Native.Nat.{_-_}
 use borrow.Author.Needs.{needs}
-use native.Mathlib.Omega.{arith}
 use Rattle.listing.proofs.walk.put_records.Statement.{statement}
 use Rattle.listing.proofs.walk.put_records.Tie as tie
-use Rattle.listing.proofs.walk.put_records.Reads as reads
-use Rattle.listing.proofs.walk.put_records.Lts as lts
-use Rattle.listing.proofs.walk.put_record.Reads as put-record-reads
-use Rattle.skeleton.proofs.file.stated_at.Reads as stated-at-reads
 
 abbrev Inv-loop : tie.InvT-loop
 Inv-loop f start out₀ at p₀ n₀ q₀ out p n q = Reached f start at out₀ p n q out

@@ -1,13 +1,7 @@
 use Rattle.listing.proofs.TableLaws.{short-refused, short-count, short-some}
-use native.Mathlib.Omega.{arith}
 use borrow.Author.Needs.{needs}
 use Rattle.listing.proofs.walk.put_short.Statement.{statement}
 use Rattle.listing.proofs.walk.put_short.Tie as tie
-use Rattle.listing.proofs.walk.put_short.Reads as reads
-use Rattle.listing.proofs.walk.put_short.Lts as lts
-use Rattle.listing.proofs.lines.put_refusal.Reads as put-refusal-reads
-use Rattle.listing.proofs.walk.put_table.Reads as put-table-reads
-use Rattle.reader.proofs.read.Reads as read-reads
 
 read-requires : tie.Need-read-requires
 read-requires c κs = search needs

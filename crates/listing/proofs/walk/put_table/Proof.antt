@@ -3,12 +3,6 @@ use native.Mathlib.Omega.{arith}
 use borrow.Author.Needs.{needs}
 use Rattle.listing.proofs.walk.put_table.Statement.{statement}
 use Rattle.listing.proofs.walk.put_table.Tie as tie
-use Rattle.listing.proofs.walk.put_table.Reads as reads
-use Rattle.listing.proofs.walk.put_table.Lts as lts
-use Rattle.listing.proofs.lines.put_total.Reads as put-total-reads
-use Rattle.listing.proofs.text.put_text.Reads as put-text-reads
-use Rattle.listing.proofs.walk.put_records.Reads as put-records-reads
-use Rattle.opening.proofs.carried.first_three.Reads as first-three-reads
 
 first-three-requires : tie.Need-first-three-requires
 first-three-requires c κs = search needs

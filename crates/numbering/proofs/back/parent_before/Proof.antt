@@ -2,13 +2,8 @@ use mathlib.Core.Path.{_≡_}
 use Prim.Native.Nat.{_≤_}
 use Rattle.numbering.specs.Numbers.{parentBefore}
 use Rattle.numbering.proofs.BackLaws.{parent-ways}
-use borrow.Author.Needs.{needs}
-use native.Mathlib.Omega.{arith}
 use Rattle.numbering.proofs.back.parent_before.Statement.{statement}
 use Rattle.numbering.proofs.back.parent_before.Tie as tie
-use Rattle.numbering.proofs.back.parent_before.Reads as reads
-use Rattle.numbering.proofs.back.parent_before.Lts as lts
-use Rattle.items.proofs.number.Reads as number-reads
 
 abbrev Inv-loop : tie.InvT-loop
 Inv-loop w i depth j₀ j = (parentBefore w depth j ≡ parentBefore w depth i) × (j ≤ i)

@@ -2,14 +2,8 @@ use mathlib.Core.Path.{_≡_}
 use Prim.Native.Nat.{_+_, _≤_}
 use Rattle.numbering.specs.Numbers.{twinsBefore}
 use Rattle.numbering.proofs.BackLaws.{twins-ways}
-use borrow.Author.Needs.{needs}
-use native.Mathlib.Omega.{arith}
 use Rattle.numbering.proofs.back.twins_before.Statement.{statement}
 use Rattle.numbering.proofs.back.twins_before.Tie as tie
-use Rattle.numbering.proofs.back.twins_before.Reads as reads
-use Rattle.numbering.proofs.back.twins_before.Lts as lts
-use Rattle.items.proofs.number.Reads as number-reads
-use Rattle.items.proofs.twin.Reads as twin-reads
 
 abbrev Inv-loop : tie.InvT-loop
 Inv-loop w i depth code j₀ t₀ j t = (t + twinsBefore w depth code j ≡ twinsBefore w depth code i) × (t + j ≤ i)

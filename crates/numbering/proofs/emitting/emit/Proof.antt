@@ -3,9 +3,6 @@ use native.Mathlib.Omega.{arith}
 use borrow.Author.Needs.{needs}
 use Rattle.numbering.proofs.emitting.emit.Statement.{statement}
 use Rattle.numbering.proofs.emitting.emit.Tie as tie
-use Rattle.numbering.proofs.emitting.emit.Reads as reads
-use Rattle.numbering.proofs.emitting.emit.Lts as lts
-use Rattle.numbering.proofs.emitting.emit_items.Reads as emit-items-reads
 
 slice-aggregate-emit-items : tie.Need-slice-aggregate-emit-items
 slice-aggregate-emit-items c = search needs

@@ -1,14 +1,8 @@
 use Prim.Native.Nat.{_-_}
 use Rattle.numbering.specs.Known.{Known}
 use Rattle.numbering.proofs.EmittingLaws.{EmitAt, emit-ways}
-use borrow.Author.Needs.{needs}
-use native.Mathlib.Omega.{arith}
 use Rattle.numbering.proofs.emitting.emit_items.Statement.{statement}
 use Rattle.numbering.proofs.emitting.emit_items.Tie as tie
-use Rattle.numbering.proofs.emitting.emit_items.Reads as reads
-use Rattle.numbering.proofs.emitting.emit_items.Lts as lts
-use Rattle.numbering.proofs.emitting.put_tuple.Reads as put-tuple-reads
-use Rattle.numbering.proofs.known.next_numbers.Reads as next-numbers-reads
 
 abbrev Inv-loop : tie.InvT-loop
 Inv-loop s u w n known₀ out₀ at p₀ i₀ known out p i = EmitAt s u w n out₀ at out p i × Known w i known

@@ -1,14 +1,7 @@
 use Rattle.numbering.proofs.BytesLaws.{tuple-written}
-use native.Mathlib.Omega.{arith}
 use borrow.Author.Needs.{needs}
 use Rattle.numbering.proofs.emitting.put_tuple.Statement.{statement}
 use Rattle.numbering.proofs.emitting.put_tuple.Tie as tie
-use Rattle.numbering.proofs.emitting.put_tuple.Reads as reads
-use Rattle.numbering.proofs.emitting.put_tuple.Lts as lts
-use Rattle.items.proofs.number.Reads as number-reads
-use Rattle.memory.proofs.put_byte.Reads as put-byte-reads
-use Rattle.memory.proofs.put_little_endian.Reads as put-little-endian-reads
-use Rattle.numbering.proofs.values.put_value.Reads as put-value-reads
 
 mul-number : tie.Need-mul-number
 mul-number c = search needs

@@ -1,12 +1,7 @@
 use Prim.Native.Nat.{_-_}
 use Rattle.numbering.proofs.EmittingLaws.{SizeAt, size-ways}
-use borrow.Author.Needs.{needs}
-use native.Mathlib.Omega.{arith}
 use Rattle.numbering.proofs.emitting.size.Statement.{statement}
 use Rattle.numbering.proofs.emitting.size.Tie as tie
-use Rattle.numbering.proofs.emitting.size.Reads as reads
-use Rattle.numbering.proofs.emitting.size.Lts as lts
-use Rattle.numbering.proofs.values.value_length.Reads as value-length-reads
 
 abbrev Inv-loop : tie.InvT-loop
 Inv-loop s u w n t₀ i₀ t i = SizeAt s u w n t i

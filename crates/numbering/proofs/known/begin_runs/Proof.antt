@@ -1,12 +1,9 @@
 use lib.ListN.{length-set}
 use Prim.Native.Nat.{_-_}
 use Rattle.numbering.proofs.KnownLaws.{RunsAt, runs-ways}
-use borrow.Author.Needs.{needs}
 use native.Mathlib.Omega.{arith}
 use Rattle.numbering.proofs.known.begin_runs.Statement.{statement}
 use Rattle.numbering.proofs.known.begin_runs.Tie as tie
-use Rattle.numbering.proofs.known.begin_runs.Reads as reads
-use Rattle.numbering.proofs.known.begin_runs.Lts as lts
 
 abbrev Inv-loop : tie.InvT-loop
 Inv-loop known₀ i deeper d₀ known d = RunsAt known₀ i deeper known d

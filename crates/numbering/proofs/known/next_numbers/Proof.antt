@@ -1,14 +1,7 @@
 use Rattle.numbering.proofs.KnownLaws.{numbers-found}
-use native.Mathlib.Omega.{arith}
 use borrow.Author.Needs.{needs}
 use Rattle.numbering.proofs.known.next_numbers.Statement.{statement}
 use Rattle.numbering.proofs.known.next_numbers.Tie as tie
-use Rattle.numbering.proofs.known.next_numbers.Reads as reads
-use Rattle.numbering.proofs.known.next_numbers.Lts as lts
-use Rattle.items.proofs.number.Reads as number-reads
-use Rattle.numbering.proofs.known.parent_of.Reads as parent-of-reads
-use Rattle.numbering.proofs.known.remember.Reads as remember-reads
-use Rattle.numbering.proofs.known.twins_of.Reads as twins-of-reads
 
 mul-number : tie.Need-mul-number
 mul-number c = search needs

@@ -1,11 +1,7 @@
 use Rattle.numbering.proofs.KnownLaws.{known-ways}
-use native.Mathlib.Omega.{arith}
 use borrow.Author.Needs.{needs}
 use Rattle.numbering.proofs.known.parent_of.Statement.{statement}
 use Rattle.numbering.proofs.known.parent_of.Tie as tie
-use Rattle.numbering.proofs.known.parent_of.Reads as reads
-use Rattle.numbering.proofs.known.parent_of.Lts as lts
-use Rattle.numbering.proofs.back.parent_before.Reads as parent-before-reads
 
 mul-result : tie.Need-mul-result
 mul-result c = search needs

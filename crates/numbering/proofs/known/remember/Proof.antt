@@ -5,9 +5,6 @@ use native.Mathlib.Omega.{arith}
 use borrow.Author.Needs.{needs}
 use Rattle.numbering.proofs.known.remember.Statement.{statement}
 use Rattle.numbering.proofs.known.remember.Tie as tie
-use Rattle.numbering.proofs.known.remember.Reads as reads
-use Rattle.numbering.proofs.known.remember.Lts as lts
-use Rattle.numbering.proofs.known.begin_runs.Reads as begin-runs-reads
 
 mul-known : tie.Need-mul-known
 mul-known c = search needs

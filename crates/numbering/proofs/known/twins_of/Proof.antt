@@ -1,11 +1,7 @@
 use Rattle.numbering.proofs.KnownLaws.{twins-known}
-use native.Mathlib.Omega.{arith}
 use borrow.Author.Needs.{needs}
 use Rattle.numbering.proofs.known.twins_of.Statement.{statement}
 use Rattle.numbering.proofs.known.twins_of.Tie as tie
-use Rattle.numbering.proofs.known.twins_of.Reads as reads
-use Rattle.numbering.proofs.known.twins_of.Lts as lts
-use Rattle.numbering.proofs.back.twins_before.Reads as twins-before-reads
 
 mul-if2 : tie.Need-mul-if2
 mul-if2 c = search needs

@@ -4,9 +4,6 @@ use native.Mathlib.Omega.{arith}
 use borrow.Author.Needs.{needs}
 use Rattle.numbering.proofs.values.offset_at.Statement.{statement}
 use Rattle.numbering.proofs.values.offset_at.Tie as tie
-use Rattle.numbering.proofs.values.offset_at.Reads as reads
-use Rattle.numbering.proofs.values.offset_at.Lts as lts
-use Rattle.items.proofs.number.Reads as number-reads
 
 mul-number : tie.Need-mul-number
 mul-number c = search needs

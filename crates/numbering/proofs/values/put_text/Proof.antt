@@ -1,13 +1,7 @@
 use Rattle.numbering.proofs.ValueLaws.{text-writes}
-use native.Mathlib.Omega.{arith}
 use borrow.Author.Needs.{needs}
 use Rattle.numbering.proofs.values.put_text.Statement.{statement}
 use Rattle.numbering.proofs.values.put_text.Tie as tie
-use Rattle.numbering.proofs.values.put_text.Reads as reads
-use Rattle.numbering.proofs.values.put_text.Lts as lts
-use Rattle.memory.proofs.put_byte.Reads as put-byte-reads
-use Rattle.memory.proofs.put_part.Reads as put-part-reads
-use Rattle.numbering.proofs.values.text_length.Reads as text-length-reads
 
 text-length-requires : tie.Need-text-length-requires
 text-length-requires c κs = search needs

@@ -1,12 +1,7 @@
 use Rattle.numbering.proofs.ValueLaws.{value-ways}
-use native.Mathlib.Omega.{arith}
 use borrow.Author.Needs.{needs}
 use Rattle.numbering.proofs.values.put_value.Statement.{statement}
 use Rattle.numbering.proofs.values.put_value.Tie as tie
-use Rattle.numbering.proofs.values.put_value.Reads as reads
-use Rattle.numbering.proofs.values.put_value.Lts as lts
-use Rattle.numbering.proofs.values.offset_at.Reads as offset-at-reads
-use Rattle.numbering.proofs.values.put_text.Reads as put-text-reads
 
 offset-at-requires : tie.Need-offset-at-requires
 offset-at-requires c κs = search needs

@@ -3,9 +3,6 @@ use native.Mathlib.Omega.{arith}
 use borrow.Author.Needs.{needs}
 use Rattle.numbering.proofs.values.text_length.Statement.{statement}
 use Rattle.numbering.proofs.values.text_length.Tie as tie
-use Rattle.numbering.proofs.values.text_length.Reads as reads
-use Rattle.numbering.proofs.values.text_length.Lts as lts
-use Rattle.fields.proofs.text_end.Reads as text-end-reads
 
 returns : tie.Need-returns
 returns c = search text-ways

@@ -1,12 +1,7 @@
 use Rattle.numbering.proofs.ValueLaws.{value-ways}
-use native.Mathlib.Omega.{arith}
 use borrow.Author.Needs.{needs}
 use Rattle.numbering.proofs.values.value_length.Statement.{statement}
 use Rattle.numbering.proofs.values.value_length.Tie as tie
-use Rattle.numbering.proofs.values.value_length.Reads as reads
-use Rattle.numbering.proofs.values.value_length.Lts as lts
-use Rattle.numbering.proofs.values.offset_at.Reads as offset-at-reads
-use Rattle.numbering.proofs.values.text_length.Reads as text-length-reads
 
 offset-at-requires : tie.Need-offset-at-requires
 offset-at-requires c κs = search needs

@@ -1,11 +1,7 @@
 use Rattle.opening.proofs.CarriedLaws.{csid-ways}
-use native.Mathlib.Omega.{arith}
 use borrow.Author.Needs.{needs}
 use Rattle.opening.proofs.carried.begins_csid.Statement.{statement}
 use Rattle.opening.proofs.carried.begins_csid.Tie as tie
-use Rattle.opening.proofs.carried.begins_csid.Reads as reads
-use Rattle.opening.proofs.carried.begins_csid.Lts as lts
-use Rattle.skeleton.proofs.place.place_at.Reads as place-at-reads
 
 place-at-requires : tie.Need-place-at-requires
 place-at-requires c κs = search needs

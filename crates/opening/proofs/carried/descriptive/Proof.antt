@@ -1,11 +1,7 @@
 use Rattle.opening.proofs.CarriedLaws.{unread-ways}
-use native.Mathlib.Omega.{arith}
 use borrow.Author.Needs.{needs}
 use Rattle.opening.proofs.carried.descriptive.Statement.{statement}
 use Rattle.opening.proofs.carried.descriptive.Tie as tie
-use Rattle.opening.proofs.carried.descriptive.Reads as reads
-use Rattle.opening.proofs.carried.descriptive.Lts as lts
-use Rattle.opening.proofs.carried.head_at.Reads as head-at-reads
 
 head-at-requires : tie.Need-head-at-requires
 head-at-requires c κs = search needs

@@ -1,12 +1,7 @@
 use Rattle.opening.proofs.CarriedLaws.{three-ways}
-use native.Mathlib.Omega.{arith}
 use borrow.Author.Needs.{needs}
 use Rattle.opening.proofs.carried.first_three.Statement.{statement}
 use Rattle.opening.proofs.carried.first_three.Tie as tie
-use Rattle.opening.proofs.carried.first_three.Reads as reads
-use Rattle.opening.proofs.carried.first_three.Lts as lts
-use Rattle.opening.proofs.carried.first_two.Reads as first-two-reads
-use Rattle.opening.proofs.carried.systems.Reads as systems-reads
 
 first-two-requires : tie.Need-first-two-requires
 first-two-requires c κs = search needs

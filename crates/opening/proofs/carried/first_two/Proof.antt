@@ -1,12 +1,7 @@
 use Rattle.opening.proofs.CarriedLaws.{two-ways}
-use native.Mathlib.Omega.{arith}
 use borrow.Author.Needs.{needs}
 use Rattle.opening.proofs.carried.first_two.Statement.{statement}
 use Rattle.opening.proofs.carried.first_two.Tie as tie
-use Rattle.opening.proofs.carried.first_two.Reads as reads
-use Rattle.opening.proofs.carried.first_two.Lts as lts
-use Rattle.opening.proofs.carried.descriptive.Reads as descriptive-reads
-use Rattle.opening.proofs.carried.general.Reads as general-reads
 
 descriptive-requires : tie.Need-descriptive-requires
 descriptive-requires c κs = search needs

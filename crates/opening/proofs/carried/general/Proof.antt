@@ -1,12 +1,7 @@
 use Rattle.opening.proofs.CarriedLaws.{carried-ways}
-use native.Mathlib.Omega.{arith}
 use borrow.Author.Needs.{needs}
 use Rattle.opening.proofs.carried.general.Statement.{statement}
 use Rattle.opening.proofs.carried.general.Tie as tie
-use Rattle.opening.proofs.carried.general.Reads as reads
-use Rattle.opening.proofs.carried.general.Lts as lts
-use Rattle.opening.proofs.carried.head_at.Reads as head-at-reads
-use Rattle.opening.proofs.general.check_general.Reads as check-general-reads
 
 head-at-requires : tie.Need-head-at-requires
 head-at-requires c κs = search needs

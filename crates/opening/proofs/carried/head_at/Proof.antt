@@ -1,11 +1,7 @@
 use Rattle.opening.proofs.CarriedLaws.{head-ways}
-use native.Mathlib.Omega.{arith}
 use borrow.Author.Needs.{needs}
 use Rattle.opening.proofs.carried.head_at.Statement.{statement}
 use Rattle.opening.proofs.carried.head_at.Tie as tie
-use Rattle.opening.proofs.carried.head_at.Reads as reads
-use Rattle.opening.proofs.carried.head_at.Lts as lts
-use Rattle.skeleton.proofs.file.record_at.Reads as record-at-reads
 
 record-at-requires : tie.Need-record-at-requires
 record-at-requires c κs = search needs

@@ -1,12 +1,7 @@
 use Rattle.opening.proofs.CarriedLaws.{carried-ways}
-use native.Mathlib.Omega.{arith}
 use borrow.Author.Needs.{needs}
 use Rattle.opening.proofs.carried.systems.Statement.{statement}
 use Rattle.opening.proofs.carried.systems.Tie as tie
-use Rattle.opening.proofs.carried.systems.Reads as reads
-use Rattle.opening.proofs.carried.systems.Lts as lts
-use Rattle.opening.proofs.carried.begins_csid.Reads as begins-csid-reads
-use Rattle.opening.proofs.carried.head_at.Reads as head-at-reads
 
 head-at-requires : tie.Need-head-at-requires
 head-at-requires c κs = search needs

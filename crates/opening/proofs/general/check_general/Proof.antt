@@ -1,14 +1,7 @@
 use Rattle.opening.proofs.GeneralLaws.{general-ways}
-use native.Mathlib.Omega.{arith}
 use borrow.Author.Needs.{needs}
 use Rattle.opening.proofs.general.check_general.Statement.{statement}
 use Rattle.opening.proofs.general.check_general.Tie as tie
-use Rattle.opening.proofs.general.check_general.Reads as reads
-use Rattle.opening.proofs.general.check_general.Lts as lts
-use Rattle.contents.proofs.formats.has_format.Reads as has-format-reads
-use Rattle.opening.proofs.general.general_format.Reads as general-format-reads
-use Rattle.opening.proofs.general.unread_order.Reads as unread-order-reads
-use Rattle.skeleton.proofs.place.place_at.Reads as place-at-reads
 
 place-at-requires : tie.Need-place-at-requires
 place-at-requires c κs = search needs

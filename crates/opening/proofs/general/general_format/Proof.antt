@@ -1,10 +1,7 @@
 use Rattle.opening.proofs.GeneralLaws.{format-ways}
-use native.Mathlib.Omega.{arith}
 use borrow.Author.Needs.{needs}
 use Rattle.opening.proofs.general.general_format.Statement.{statement}
 use Rattle.opening.proofs.general.general_format.Tie as tie
-use Rattle.opening.proofs.general.general_format.Reads as reads
-use Rattle.opening.proofs.general.general_format.Lts as lts
 
 enum-told : tie.Need-enum-told
 enum-told c = search needs

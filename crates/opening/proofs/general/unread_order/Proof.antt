@@ -1,11 +1,7 @@
 use Rattle.opening.proofs.GeneralLaws.{unread-order}
-use native.Mathlib.Omega.{arith}
 use borrow.Author.Needs.{needs}
 use Rattle.opening.proofs.general.unread_order.Statement.{statement}
 use Rattle.opening.proofs.general.unread_order.Tie as tie
-use Rattle.opening.proofs.general.unread_order.Reads as reads
-use Rattle.opening.proofs.general.unread_order.Lts as lts
-use Rattle.records.proofs.order.order.Reads as order-reads
 
 slice-aggregate-order : tie.Need-slice-aggregate-order
 slice-aggregate-order c = search needs

@@ -1,10 +1,7 @@
 use Rattle.records.proofs.GrammarLaws.{stored-ways}
-use native.Mathlib.Omega.{arith}
 use borrow.Author.Needs.{needs}
 use Rattle.records.proofs.grammar.as_stored.Statement.{statement}
 use Rattle.records.proofs.grammar.as_stored.Tie as tie
-use Rattle.records.proofs.grammar.as_stored.Reads as reads
-use Rattle.records.proofs.grammar.as_stored.Lts as lts
 
 enum-told : tie.Need-enum-told
 enum-told c = search needs

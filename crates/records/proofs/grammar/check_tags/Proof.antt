@@ -1,14 +1,7 @@
 use Rattle.records.proofs.GrammarLaws.{tags-ways}
-use native.Mathlib.Omega.{arith}
 use borrow.Author.Needs.{needs}
 use Rattle.records.proofs.grammar.check_tags.Statement.{statement}
 use Rattle.records.proofs.grammar.check_tags.Tie as tie
-use Rattle.records.proofs.grammar.check_tags.Reads as reads
-use Rattle.records.proofs.grammar.check_tags.Lts as lts
-use Rattle.records.proofs.grammar.fields_stand.Reads as fields-stand-reads
-use Rattle.records.proofs.grammar.kind_of.Reads as kind-of-reads
-use Rattle.records.proofs.grammar.rank_of.Reads as rank-of-reads
-use Rattle.skeleton.proofs.place.place_at.Reads as place-at-reads
 
 place-at-requires : tie.Need-place-at-requires
 place-at-requires c κs = search needs

@@ -1,15 +1,7 @@
 use Rattle.records.proofs.GrammarLaws.{fields-ways}
-use native.Mathlib.Omega.{arith}
 use borrow.Author.Needs.{needs}
 use Rattle.records.proofs.grammar.fields_stand.Statement.{statement}
 use Rattle.records.proofs.grammar.fields_stand.Tie as tie
-use Rattle.records.proofs.grammar.fields_stand.Reads as reads
-use Rattle.records.proofs.grammar.fields_stand.Lts as lts
-use Rattle.records.proofs.grammar.as_stored.Reads as as-stored-reads
-use Rattle.records.proofs.grammar.instructions.Reads as instructions-reads
-use Rattle.records.proofs.grammar.is_complete.Reads as is-complete-reads
-use Rattle.records.proofs.grammar.kind_order.Reads as kind-order-reads
-use Rattle.records.proofs.grammar.ruin_byte.Reads as ruin-byte-reads
 
 ruin-byte-requires : tie.Need-ruin-byte-requires
 ruin-byte-requires c κs = search needs

@@ -1,12 +1,7 @@
 use Rattle.records.proofs.GrammarLaws.{instructions-ways}
-use native.Mathlib.Omega.{arith}
 use borrow.Author.Needs.{needs}
 use Rattle.records.proofs.grammar.instructions.Statement.{statement}
 use Rattle.records.proofs.grammar.instructions.Tie as tie
-use Rattle.records.proofs.grammar.instructions.Reads as reads
-use Rattle.records.proofs.grammar.instructions.Lts as lts
-use Rattle.records.proofs.tagged.coui_byte.Reads as coui-byte-reads
-use Rattle.records.proofs.tagged.has_field.Reads as has-field-reads
 
 enum-told : tie.Need-enum-told
 enum-told c = search needs

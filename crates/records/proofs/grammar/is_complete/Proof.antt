@@ -1,11 +1,7 @@
 use Rattle.records.proofs.GrammarLaws.{complete-ways}
-use native.Mathlib.Omega.{arith}
 use borrow.Author.Needs.{needs}
 use Rattle.records.proofs.grammar.is_complete.Statement.{statement}
 use Rattle.records.proofs.grammar.is_complete.Tie as tie
-use Rattle.records.proofs.grammar.is_complete.Reads as reads
-use Rattle.records.proofs.grammar.is_complete.Lts as lts
-use Rattle.records.proofs.tagged.has_field.Reads as has-field-reads
 
 enum-told : tie.Need-enum-told
 enum-told c = search needs

@@ -1,10 +1,6 @@
 use Rattle.records.proofs.GrammarLaws.{kind-ways}
-use borrow.Author.Needs.{needs}
-use native.Mathlib.Omega.{arith}
 use Rattle.records.proofs.grammar.kind_of.Statement.{statement}
 use Rattle.records.proofs.grammar.kind_of.Tie as tie
-use Rattle.records.proofs.grammar.kind_of.Reads as reads
-use Rattle.records.proofs.grammar.kind_of.Lts as lts
 
 returns : tie.Need-returns
 returns c = search kind-ways

@@ -1,11 +1,7 @@
 use Rattle.records.proofs.GrammarLaws.{order-kinds}
-use native.Mathlib.Omega.{arith}
 use borrow.Author.Needs.{needs}
 use Rattle.records.proofs.grammar.kind_order.Statement.{statement}
 use Rattle.records.proofs.grammar.kind_order.Tie as tie
-use Rattle.records.proofs.grammar.kind_order.Reads as reads
-use Rattle.records.proofs.grammar.kind_order.Lts as lts
-use Rattle.records.proofs.order.order.Reads as order-reads
 
 enum-told : tie.Need-enum-told
 enum-told c = search needs

@@ -1,10 +1,7 @@
 use Rattle.records.proofs.GrammarLaws.{rank-ways}
-use native.Mathlib.Omega.{arith}
 use borrow.Author.Needs.{needs}
 use Rattle.records.proofs.grammar.rank_of.Statement.{statement}
 use Rattle.records.proofs.grammar.rank_of.Tie as tie
-use Rattle.records.proofs.grammar.rank_of.Reads as reads
-use Rattle.records.proofs.grammar.rank_of.Lts as lts
 
 enum-told : tie.Need-enum-told
 enum-told c = search needs

@@ -1,11 +1,7 @@
 use Rattle.records.proofs.GrammarLaws.{ruin-ways}
-use native.Mathlib.Omega.{arith}
 use borrow.Author.Needs.{needs}
 use Rattle.records.proofs.grammar.ruin_byte.Statement.{statement}
 use Rattle.records.proofs.grammar.ruin_byte.Tie as tie
-use Rattle.records.proofs.grammar.ruin_byte.Reads as reads
-use Rattle.records.proofs.grammar.ruin_byte.Lts as lts
-use Rattle.records.proofs.grammar.ruin_place.Reads as ruin-place-reads
 
 ruin-place-requires : tie.Need-ruin-place-requires
 ruin-place-requires c κs = search needs

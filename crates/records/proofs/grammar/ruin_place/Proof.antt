@@ -1,10 +1,7 @@
 use Rattle.records.proofs.GrammarLaws.{ruin-places}
-use native.Mathlib.Omega.{arith}
 use borrow.Author.Needs.{needs}
 use Rattle.records.proofs.grammar.ruin_place.Statement.{statement}
 use Rattle.records.proofs.grammar.ruin_place.Tie as tie
-use Rattle.records.proofs.grammar.ruin_place.Reads as reads
-use Rattle.records.proofs.grammar.ruin_place.Lts as lts
 
 enum-told : tie.Need-enum-told
 enum-told c = search needs

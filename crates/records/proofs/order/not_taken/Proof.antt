@@ -1,10 +1,6 @@
 use Rattle.records.proofs.OrderLaws.{not-taken-ways}
-use borrow.Author.Needs.{needs}
-use native.Mathlib.Omega.{arith}
 use Rattle.records.proofs.order.not_taken.Statement.{statement}
 use Rattle.records.proofs.order.not_taken.Tie as tie
-use Rattle.records.proofs.order.not_taken.Reads as reads
-use Rattle.records.proofs.order.not_taken.Lts as lts
 
 returns : tie.Need-returns
 returns c = search not-taken-ways

@@ -1,11 +1,7 @@
 use Rattle.records.proofs.OrderLaws.{shut-out-ways}
-use native.Mathlib.Omega.{arith}
 use borrow.Author.Needs.{needs}
 use Rattle.records.proofs.order.shut_out.Statement.{statement}
 use Rattle.records.proofs.order.shut_out.Tie as tie
-use Rattle.records.proofs.order.shut_out.Reads as reads
-use Rattle.records.proofs.order.shut_out.Lts as lts
-use Rattle.records.proofs.order.not_taken.Reads as not-taken-reads
 
 returns : tie.Need-returns
 returns c = search shut-out-ways

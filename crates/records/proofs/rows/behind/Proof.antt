@@ -1,11 +1,7 @@
 use Rattle.records.proofs.RowsLaws.{behind-ways}
-use native.Mathlib.Omega.{arith}
 use borrow.Author.Needs.{needs}
 use Rattle.records.proofs.rows.behind.Statement.{statement}
 use Rattle.records.proofs.rows.behind.Tie as tie
-use Rattle.records.proofs.rows.behind.Reads as reads
-use Rattle.records.proofs.rows.behind.Lts as lts
-use Rattle.records.proofs.rows.stands_often.Reads as stands-often-reads
 
 stands-often-requires : tie.Need-stands-often-requires
 stands-often-requires c κs = search needs

@@ -3,13 +3,9 @@ use Prim.Native.Nat.{_-_, _≤_}
 use lib.ListN.{length}
 use Rattle.records.specs.Rows.{rowAfter}
 use Rattle.records.proofs.RowsLaws.{row-turn}
-use borrow.Author.Needs.{needs}
 use native.Mathlib.Omega.{arith}
 use Rattle.records.proofs.rows.row_after.Statement.{statement}
 use Rattle.records.proofs.rows.row_after.Tie as tie
-use Rattle.records.proofs.rows.row_after.Reads as reads
-use Rattle.records.proofs.rows.row_after.Lts as lts
-use Rattle.records.proofs.rows.behind.Reads as behind-reads
 
 abbrev Inv-loop : tie.InvT-loop
 Inv-loop tags tag from j₀ j = (j ≤ length tags) × (rowAfter tags tag j ≡ rowAfter tags tag from)

@@ -1,10 +1,6 @@
 use Rattle.records.proofs.RowsLaws.{often-ways}
-use borrow.Author.Needs.{needs}
-use native.Mathlib.Omega.{arith}
 use Rattle.records.proofs.rows.stands_often.Statement.{statement}
 use Rattle.records.proofs.rows.stands_often.Tie as tie
-use Rattle.records.proofs.rows.stands_often.Reads as reads
-use Rattle.records.proofs.rows.stands_often.Lts as lts
 
 returns : tie.Need-returns
 returns c = search often-ways

@@ -1,11 +1,7 @@
 use Rattle.records.proofs.TaggedLaws.{coui-ways}
-use native.Mathlib.Omega.{arith}
 use borrow.Author.Needs.{needs}
 use Rattle.records.proofs.tagged.coui_byte.Statement.{statement}
 use Rattle.records.proofs.tagged.coui_byte.Tie as tie
-use Rattle.records.proofs.tagged.coui_byte.Reads as reads
-use Rattle.records.proofs.tagged.coui_byte.Lts as lts
-use Rattle.skeleton.proofs.place.find.Reads as find-reads
 
 find-requires : tie.Need-find-requires
 find-requires c κs = search needs

@@ -2,13 +2,8 @@ use Rattle.references.proofs.DatasetLaws.{Reached, record-more, records
 use lib.ListN.{length}
 use Prim.Native.Nat.{_-_}
 use borrow.Author.Needs.{needs}
-use native.Mathlib.Omega.{arith}
 use Rattle.references.proofs.dataset.every_named.Statement.{statement}
 use Rattle.references.proofs.dataset.every_named.Tie as tie
-use Rattle.references.proofs.dataset.every_named.Reads as reads
-use Rattle.references.proofs.dataset.every_named.Lts as lts
-use Rattle.references.proofs.record.record_named.Reads as record-named-reads
-use Rattle.skeleton.proofs.file.stated_at.Reads as stated-at-reads
 
 abbrev Inv-loop : tie.InvT-loop
 Inv-loop f start t n map p₀ m₀ p m = Reached f start p m

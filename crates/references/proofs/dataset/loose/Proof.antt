@@ -1,12 +1,7 @@
 use Rattle.references.proofs.DatasetLaws.{loose-ways}
-use native.Mathlib.Omega.{arith}
 use borrow.Author.Needs.{needs}
 use Rattle.references.proofs.dataset.loose.Statement.{statement}
 use Rattle.references.proofs.dataset.loose.Tie as tie
-use Rattle.references.proofs.dataset.loose.Reads as reads
-use Rattle.references.proofs.dataset.loose.Lts as lts
-use Rattle.keys.proofs.table.spread.Reads as spread-reads
-use Rattle.references.proofs.dataset.every_named.Reads as every-named-reads
 
 cast-table : tie.Need-cast-table
 cast-table c = search needs

@@ -1,12 +1,7 @@
 use Rattle.references.proofs.RecordLaws.{field-ways}
 use borrow.Author.Needs.{needs}
-use native.Mathlib.Omega.{arith}
 use Rattle.references.proofs.record.field_named.Statement.{statement}
 use Rattle.references.proofs.record.field_named.Tie as tie
-use Rattle.references.proofs.record.field_named.Reads as reads
-use Rattle.references.proofs.record.field_named.Lts as lts
-use Rattle.references.proofs.record.inas_named.Reads as inas-named-reads
-use Rattle.references.proofs.record.spas_named.Reads as spas-named-reads
 
 inas-named-requires : tie.Need-inas-named-requires
 inas-named-requires c κs = (search needs, search field-ways)

@@ -1,12 +1,7 @@
 use Rattle.references.proofs.RecordLaws.{inas-ways}
-use native.Mathlib.Omega.{arith}
 use borrow.Author.Needs.{needs}
 use Rattle.references.proofs.record.inas_named.Statement.{statement}
 use Rattle.references.proofs.record.inas_named.Tie as tie
-use Rattle.references.proofs.record.inas_named.Reads as reads
-use Rattle.references.proofs.record.inas_named.Lts as lts
-use Rattle.keys.proofs.look.key_at.Reads as key-at-reads
-use Rattle.keys.proofs.present.has.Reads as has-reads
 
 key-at-requires : tie.Need-key-at-requires
 key-at-requires c κs = search needs

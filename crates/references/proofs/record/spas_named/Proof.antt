@@ -12,10 +12,6 @@ use borrow.Author.Needs.{needs}
 use native.Mathlib.Omega.{arith}
 use Rattle.references.proofs.record.spas_named.Statement.{statement}
 use Rattle.references.proofs.record.spas_named.Tie as tie
-use Rattle.references.proofs.record.spas_named.Reads as reads
-use Rattle.references.proofs.record.spas_named.Lts as lts
-use Rattle.keys.proofs.look.key_at.Reads as key-at-reads
-use Rattle.keys.proofs.present.has.Reads as has-reads
 
 abbrev Inv-loop : tie.InvT-loop
 Inv-loop f start t n map b i at₀ j₀ at j = (at ≤ length b) × (j ≤ at + 1) × (endingAt (tupleOf Spas) b at ≡ 0) × Alike f start (spasMarks i j (many (tupleOf Spas) (drop at b))) (spasMarks i 1 (many (tupleOf Spas) b))

@@ -2,8 +2,6 @@ use Rattle.result.proofs.PassLaws.{after-ways}
 use borrow.Author.Needs.{needs}
 use Rattle.result.proofs.pass.after.Statement.{statement}
 use Rattle.result.proofs.pass.after.Tie as tie
-use Rattle.result.proofs.pass.after.Reads as reads
-use Rattle.result.proofs.pass.after.Lts as lts
 
 enum-told : tie.Need-enum-told
 enum-told c = search needs

@@ -2,8 +2,6 @@ use Rattle.result.proofs.PassLaws.{from-ways}
 use borrow.Author.Needs.{needs}
 use Rattle.result.proofs.pass.pass_from.Statement.{statement}
 use Rattle.result.proofs.pass.pass_from.Tie as tie
-use Rattle.result.proofs.pass.pass_from.Reads as reads
-use Rattle.result.proofs.pass.pass_from.Lts as lts
 
 enum-known-s : tie.Need-enum-known-s
 enum-known-s c = search needs

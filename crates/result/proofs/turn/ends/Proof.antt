@@ -1,8 +1,6 @@
 use Rattle.result.proofs.SideLaws.{ends-old, ends-new}
 use Rattle.result.proofs.turn.ends.Statement.{statement}
 use Rattle.result.proofs.turn.ends.Tie as tie
-use Rattle.result.proofs.turn.ends.Reads as reads
-use Rattle.result.proofs.turn.ends.Lts as lts
 
 returns : tie.Need-returns
 returns c = ends-old _ (c .if1 .taken) _ _

@@ -2,10 +2,6 @@ use Rattle.result.proofs.SideLaws.{here-old, here-new, put-old, put-new
 use borrow.Author.Needs.{needs}
 use Rattle.result.proofs.turn.make.Statement.{statement}
 use Rattle.result.proofs.turn.make.Tie as tie
-use Rattle.result.proofs.turn.make.Reads as reads
-use Rattle.result.proofs.turn.make.Lts as lts
-use Rattle.lasting.proofs.new.make_new.Reads as make-new-reads
-use Rattle.lasting.proofs.old.make_old.Reads as make-old-reads
 
 make-old-requires : tie.Need-make-old-requires
 make-old-requires c κs = let s = c .before .before .before .before .before .before .before .before .before in (s .pre .0, here-old _ _ _ _ _ _ _ _ _ (c .before .before .if1 .taken) (s .pre .1), s .pre .2)

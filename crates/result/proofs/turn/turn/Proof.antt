@@ -5,13 +5,6 @@ use Rattle.composing.proofs.ActsLaws.{turn-not, turn-word, turn-key, turn-place
 use borrow.Author.Needs.{needs}
 use Rattle.result.proofs.turn.turn.Statement.{statement}
 use Rattle.result.proofs.turn.turn.Tie as tie
-use Rattle.result.proofs.turn.turn.Reads as reads
-use Rattle.result.proofs.turn.turn.Lts as lts
-use Rattle.keys.proofs.look.key_at.Reads as key-at-reads
-use Rattle.result.proofs.pass.after.Reads as after-reads
-use Rattle.result.proofs.turn.ends.Reads as ends-reads
-use Rattle.result.proofs.turn.make.Reads as make-reads
-use Rattle.skeleton.proofs.file.stated_at.Reads as stated-at-reads
 
 stated-at-requires : tie.Need-stated-at-requires
 stated-at-requires c κs = search needs

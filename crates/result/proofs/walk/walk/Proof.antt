@@ -6,9 +6,6 @@ use Prim.Native.Nat.{_-_}
 use lib.ListN.{length}
 use Rattle.result.proofs.walk.walk.Statement.{statement}
 use Rattle.result.proofs.walk.walk.Tie as tie
-use Rattle.result.proofs.walk.walk.Reads as reads
-use Rattle.result.proofs.walk.walk.Lts as lts
-use Rattle.result.proofs.turn.turn.Reads as turn-reads
 
 abbrev Inv-loop : tie.InvT-loop
 Inv-loop old f d ds t n map u us q work₀ out₀ g₀ work out g = Walking d ds u us q t n map old g₀ g work₀ out₀ work out × (length work ≡ length work₀) × (length out ≡ length out₀)

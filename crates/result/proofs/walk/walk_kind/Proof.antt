@@ -2,10 +2,6 @@ use Rattle.result.proofs.KindLaws.{within-more, file-old, file-new, sta
 use borrow.Author.Needs.{needs}
 use Rattle.result.proofs.walk.walk_kind.Statement.{statement}
 use Rattle.result.proofs.walk.walk_kind.Tie as tie
-use Rattle.result.proofs.walk.walk_kind.Reads as reads
-use Rattle.result.proofs.walk.walk_kind.Lts as lts
-use Rattle.result.proofs.pass.pass_from.Reads as pass-from-reads
-use Rattle.result.proofs.walk.walk.Reads as walk-reads
 
 walk-requires : tie.Need-walk-requires
 walk-requires c κs = let s = c .before .before .before .before .before .before .before .before in ((s .pre .0, s .pre .3, within-more _ (s .pre .2)), (file-old _ _, stands-old _ _ _ _ _ _ (s .pre .4)))

@@ -5,9 +5,6 @@ use native.Mathlib.Omega.{arith}
 use borrow.Author.Needs.{needs}
 use Rattle.tree.proofs.siblings.due_index.Statement.{statement}
 use Rattle.tree.proofs.siblings.due_index.Tie as tie
-use Rattle.tree.proofs.siblings.due_index.Reads as reads
-use Rattle.tree.proofs.siblings.due_index.Lts as lts
-use Rattle.tree.proofs.siblings.twins.Reads as twins-reads
 
 returns : tie.Need-returns
 returns c = λ w. unasked _ (c .if1 .taken) w

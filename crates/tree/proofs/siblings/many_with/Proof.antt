@@ -1,8 +1,6 @@
 use Rattle.tree.proofs.TestLaws.{pick-less, pick-not-less}
 use Rattle.tree.proofs.siblings.many_with.Statement.{statement}
 use Rattle.tree.proofs.siblings.many_with.Tie as tie
-use Rattle.tree.proofs.siblings.many_with.Reads as reads
-use Rattle.tree.proofs.siblings.many_with.Lts as lts
 
 returns : tie.Need-returns
 returns c = pick-less _ _ _ _ (c .if1 .taken)

@@ -4,9 +4,6 @@ use native.Mathlib.Omega.{arith}
 use borrow.Author.Needs.{needs}
 use Rattle.tree.proofs.siblings.twin.Statement.{statement}
 use Rattle.tree.proofs.siblings.twin.Tie as tie
-use Rattle.tree.proofs.siblings.twin.Reads as reads
-use Rattle.tree.proofs.siblings.twin.Lts as lts
-use Rattle.tree.proofs.tuple.number.Reads as number-reads
 
 number-requires : tie.Need-number-requires
 number-requires c κs = search needs

@@ -7,10 +7,6 @@ use mathlib.Core.Path.{_≡_, ap}
 use native.Mathlib.Omega.{arith}
 use Rattle.tree.proofs.siblings.twins.Statement.{statement}
 use Rattle.tree.proofs.siblings.twins.Tie as tie
-use Rattle.tree.proofs.siblings.twins.Reads as reads
-use Rattle.tree.proofs.siblings.twins.Lts as lts
-use Rattle.tree.proofs.siblings.twin.Reads as twin-reads
-use Rattle.tree.proofs.tuple.behind.Reads as behind-reads
 
 abbrev Inv-loop : tie.InvT-loop
 Inv-loop b start end code parent n₀ i₀ n i = (n + count b i end code parent ≡ count b start end code parent) × (n ≤ i) × Whole b i

@@ -2,8 +2,6 @@ use Rattle.tree.specs.Source.{past}
 use native.Mathlib.Omega.{arith}
 use Rattle.tree.proofs.tuple.behind.Statement.{statement}
 use Rattle.tree.proofs.tuple.behind.Tie as tie
-use Rattle.tree.proofs.tuple.behind.Reads as reads
-use Rattle.tree.proofs.tuple.behind.Lts as lts
 
 add-text-end : tie.Need-add-text-end
 unfolding past

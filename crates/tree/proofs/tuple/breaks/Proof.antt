@@ -2,9 +2,6 @@ use Rattle.tree.proofs.TestLaws.{breaks-index, asked}
 use borrow.Author.Needs.{needs}
 use Rattle.tree.proofs.tuple.breaks.Statement.{statement}
 use Rattle.tree.proofs.tuple.breaks.Tie as tie
-use Rattle.tree.proofs.tuple.breaks.Reads as reads
-use Rattle.tree.proofs.tuple.breaks.Lts as lts
-use Rattle.tree.proofs.tuple.number.Reads as number-reads
 
 returns : tie.Need-returns
 returns c = search needs

@@ -2,8 +2,6 @@ use Rattle.tree.proofs.TestLaws.{closed-whole, closed-parents}
 use borrow.Author.Needs.{needs}
 use Rattle.tree.proofs.tuple.is_closed.Statement.{statement}
 use Rattle.tree.proofs.tuple.is_closed.Tie as tie
-use Rattle.tree.proofs.tuple.is_closed.Reads as reads
-use Rattle.tree.proofs.tuple.is_closed.Lts as lts
 
 add-result : tie.Need-add-result
 add-result c = search needs

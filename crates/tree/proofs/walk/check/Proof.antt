@@ -5,9 +5,6 @@ use native.Mathlib.Omega.{arith}
 use borrow.Author.Needs.{needs}
 use Rattle.tree.proofs.walk.check.Statement.{statement}
 use Rattle.tree.proofs.walk.check.Tie as tie
-use Rattle.tree.proofs.walk.check.Reads as reads
-use Rattle.tree.proofs.walk.check.Lts as lts
-use Rattle.tree.proofs.walk.run.Reads as run-reads
 
 run-requires : tie.Need-run-requires
 run-requires c κs = (known-first _ (c .before .pre), λ k. count-none _ 0 0 k 0 (omega arith))

@@ -2,9 +2,6 @@ use Rattle.updater.proofs.FrontLaws.{found-ways}
 use borrow.Author.Needs.{needs}
 use Rattle.updater.proofs.front.found.Statement.{statement}
 use Rattle.updater.proofs.front.found.Tie as tie
-use Rattle.updater.proofs.front.found.Reads as reads
-use Rattle.updater.proofs.front.found.Lts as lts
-use Rattle.skeleton.proofs.file.record_at.Reads as record-at-reads
 
 record-at-requires : tie.Need-record-at-requires
 record-at-requires c κs = search needs

@@ -2,9 +2,6 @@ use Rattle.updater.proofs.FrontLaws.{front-ways}
 use borrow.Author.Needs.{needs}
 use Rattle.updater.proofs.front.front_length.Statement.{statement}
 use Rattle.updater.proofs.front.front_length.Tie as tie
-use Rattle.updater.proofs.front.front_length.Reads as reads
-use Rattle.updater.proofs.front.front_length.Lts as lts
-use Rattle.writing.proofs.written_length.Reads as written-length-reads
 
 sub-written-length : tie.Need-sub-written-length
 sub-written-length c = search needs

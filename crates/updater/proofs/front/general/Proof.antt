@@ -2,10 +2,6 @@ use Rattle.updater.proofs.FrontLaws.{general-ways}
 use borrow.Author.Needs.{needs}
 use Rattle.updater.proofs.front.general.Statement.{statement}
 use Rattle.updater.proofs.front.general.Tie as tie
-use Rattle.updater.proofs.front.general.Reads as reads
-use Rattle.updater.proofs.front.general.Lts as lts
-use Rattle.following.proofs.merging.merged_length.Reads as merged-length-reads
-use Rattle.following.proofs.naming.follows.Reads as follows-reads
 
 sub-follows : tie.Need-sub-follows
 sub-follows c = search needs

@@ -2,9 +2,6 @@ use Rattle.updater.proofs.FrontLaws.{carried-ways, carried-wrote}
 use borrow.Author.Needs.{needs}
 use Rattle.updater.proofs.front.put_carried.Statement.{statement}
 use Rattle.updater.proofs.front.put_carried.Tie as tie
-use Rattle.updater.proofs.front.put_carried.Reads as reads
-use Rattle.updater.proofs.front.put_carried.Lts as lts
-use Rattle.writing.proofs.write_record.Reads as write-record-reads
 
 sub-write-record : tie.Need-sub-write-record
 sub-write-record c = search needs

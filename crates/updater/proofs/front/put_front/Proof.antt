@@ -2,10 +2,6 @@ use Rattle.updater.proofs.FrontLaws.{three-ways, room-third, put-three}
 use borrow.Author.Needs.{needs}
 use Rattle.updater.proofs.front.put_front.Statement.{statement}
 use Rattle.updater.proofs.front.put_front.Tie as tie
-use Rattle.updater.proofs.front.put_front.Reads as reads
-use Rattle.updater.proofs.front.put_front.Lts as lts
-use Rattle.updater.proofs.front.put_carried.Reads as put-carried-reads
-use Rattle.updater.proofs.front.put_general.Reads as put-general-reads
 
 put-carried-requires : tie.Need-put-carried-requires
 put-carried-requires c κs = search three-ways

@@ -2,9 +2,6 @@ use Rattle.updater.proofs.FrontLaws.{lies}
 use borrow.Author.Needs.{needs}
 use Rattle.updater.proofs.front.put_general.Statement.{statement}
 use Rattle.updater.proofs.front.put_general.Tie as tie
-use Rattle.updater.proofs.front.put_general.Reads as reads
-use Rattle.updater.proofs.front.put_general.Lts as lts
-use Rattle.following.proofs.merging.write_merged.Reads as write-merged-reads
 
 sub-write-merged : tie.Need-sub-write-merged
 sub-write-merged c = search needs

@@ -1,11 +1,7 @@
 use Rattle.writing.proofs.JoiningLaws.{on-ways}
-use native.Mathlib.Omega.{arith}
 use borrow.Author.Needs.{needs}
 use Rattle.writing.proofs.joining.goes_on.Statement.{statement}
 use Rattle.writing.proofs.joining.goes_on.Tie as tie
-use Rattle.writing.proofs.joining.goes_on.Reads as reads
-use Rattle.writing.proofs.joining.goes_on.Lts as lts
-use Rattle.writing.proofs.joining.is_empty_list.Reads as is-empty-list-reads
 
 returns : tie.Need-returns
 returns c = search on-ways

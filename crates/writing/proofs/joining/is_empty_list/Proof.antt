@@ -1,11 +1,7 @@
 use Rattle.writing.proofs.JoiningLaws.{empty-ways}
-use native.Mathlib.Omega.{arith}
 use borrow.Author.Needs.{needs}
 use Rattle.writing.proofs.joining.is_empty_list.Statement.{statement}
 use Rattle.writing.proofs.joining.is_empty_list.Tie as tie
-use Rattle.writing.proofs.joining.is_empty_list.Reads as reads
-use Rattle.writing.proofs.joining.is_empty_list.Lts as lts
-use Rattle.writing.proofs.joining.is_list.Reads as is-list-reads
 
 is-list-requires : tie.Need-is-list-requires
 is-list-requires c κs = search needs

@@ -1,10 +1,6 @@
 use Rattle.writing.proofs.JoiningLaws.{list-ways}
-use borrow.Author.Needs.{needs}
-use native.Mathlib.Omega.{arith}
 use Rattle.writing.proofs.joining.is_list.Statement.{statement}
 use Rattle.writing.proofs.joining.is_list.Tie as tie
-use Rattle.writing.proofs.joining.is_list.Reads as reads
-use Rattle.writing.proofs.joining.is_list.Lts as lts
 
 returns : tie.Need-returns
 returns c = search list-ways

@@ -7,11 +7,6 @@ use borrow.Author.Needs.{needs}
 use native.Mathlib.Omega.{arith}
 use Rattle.writing.proofs.joining.next_written.Statement.{statement}
 use Rattle.writing.proofs.joining.next_written.Tie as tie
-use Rattle.writing.proofs.joining.next_written.Reads as reads
-use Rattle.writing.proofs.joining.next_written.Lts as lts
-use Rattle.skeleton.proofs.place.place_at.Reads as place-at-reads
-use Rattle.writing.proofs.joining.is_empty_list.Reads as is-empty-list-reads
-use Rattle.writing.proofs.joining.run_from.Reads as run-from-reads
 
 abbrev Inv-loop : tie.InvT-loop
 Inv-loop r h joins p q₀ q = (p ≤ q) × (houseAt joins r h q ≡ houseAt joins r h p)

@@ -2,14 +2,8 @@ use Prim.Native.Nat.{_-_}
 use lib.ListN.{length}
 use Rattle.writing.proofs.JoiningLaws.{RunsOn, run-turn}
 use borrow.Author.Needs.{needs}
-use native.Mathlib.Omega.{arith}
 use Rattle.writing.proofs.joining.run_from.Statement.{statement}
 use Rattle.writing.proofs.joining.run_from.Tie as tie
-use Rattle.writing.proofs.joining.run_from.Reads as reads
-use Rattle.writing.proofs.joining.run_from.Lts as lts
-use Rattle.skeleton.proofs.place.place_at.Reads as place-at-reads
-use Rattle.writing.proofs.joining.goes_on.Reads as goes-on-reads
-use Rattle.writing.proofs.joining.is_list.Reads as is-list-reads
 
 abbrev Inv-loop : tie.InvT-loop
 Inv-loop r h joins list p q₀ size₀ q size = RunsOn joins r h list p q size

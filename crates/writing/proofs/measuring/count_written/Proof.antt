@@ -2,12 +2,8 @@ use Prim.Native.Nat.{_-_}
 use lib.ListN.{length}
 use Rattle.writing.proofs.MeasuringLaws.{CountedAt, count-turn}
 use borrow.Author.Needs.{needs}
-use native.Mathlib.Omega.{arith}
 use Rattle.writing.proofs.measuring.count_written.Statement.{statement}
 use Rattle.writing.proofs.measuring.count_written.Tie as tie
-use Rattle.writing.proofs.measuring.count_written.Reads as reads
-use Rattle.writing.proofs.measuring.count_written.Lts as lts
-use Rattle.writing.proofs.joining.next_written.Reads as next-written-reads
 
 abbrev Inv-loop : tie.InvT-loop
 Inv-loop r h joins q₀ fields₀ bytes₀ q fields bytes = CountedAt joins r h q fields bytes

@@ -1,11 +1,7 @@
 use Rattle.writing.proofs.MeasuringLaws.{length-ways}
-use native.Mathlib.Omega.{arith}
 use borrow.Author.Needs.{needs}
 use Rattle.writing.proofs.measuring.written_length.Statement.{statement}
 use Rattle.writing.proofs.measuring.written_length.Tie as tie
-use Rattle.writing.proofs.measuring.written_length.Reads as reads
-use Rattle.writing.proofs.measuring.written_length.Lts as lts
-use Rattle.writing.proofs.measuring.count_written.Reads as count-written-reads
 
 count-written-requires : tie.Need-count-written-requires
 count-written-requires c κs = search needs

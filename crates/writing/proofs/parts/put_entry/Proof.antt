@@ -3,10 +3,6 @@ use native.Mathlib.Omega.{arith}
 use borrow.Author.Needs.{needs}
 use Rattle.writing.proofs.parts.put_entry.Statement.{statement}
 use Rattle.writing.proofs.parts.put_entry.Tie as tie
-use Rattle.writing.proofs.parts.put_entry.Reads as reads
-use Rattle.writing.proofs.parts.put_entry.Lts as lts
-use Rattle.memory.proofs.put_decimal.Reads as put-decimal-reads
-use Rattle.writing.proofs.parts.put_tag.Reads as put-tag-reads
 
 put-tag-requires : tie.Need-put-tag-requires
 put-tag-requires c κs = search needs

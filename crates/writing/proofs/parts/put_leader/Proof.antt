@@ -3,11 +3,6 @@ use native.Mathlib.Omega.{arith}
 use borrow.Author.Needs.{needs}
 use Rattle.writing.proofs.parts.put_leader.Statement.{statement}
 use Rattle.writing.proofs.parts.put_leader.Tie as tie
-use Rattle.writing.proofs.parts.put_leader.Reads as reads
-use Rattle.writing.proofs.parts.put_leader.Lts as lts
-use Rattle.memory.proofs.put_decimal.Reads as put-decimal-reads
-use Rattle.writing.proofs.parts.put_last.Reads as put-last-reads
-use Rattle.writing.proofs.parts.put_middle.Reads as put-middle-reads
 
 put-decimal-requires : tie.Need-put-decimal-requires
 put-decimal-requires c κs = search needs

@@ -3,9 +3,6 @@ use native.Mathlib.Omega.{arith}
 use borrow.Author.Needs.{needs}
 use Rattle.writing.proofs.parts.put_middle.Statement.{statement}
 use Rattle.writing.proofs.parts.put_middle.Tie as tie
-use Rattle.writing.proofs.parts.put_middle.Reads as reads
-use Rattle.writing.proofs.parts.put_middle.Lts as lts
-use Rattle.memory.proofs.put_part.Reads as put-part-reads
 
 slice-aggregate-put-part : tie.Need-slice-aggregate-put-part
 slice-aggregate-put-part c = search needs

@@ -5,8 +5,6 @@ use native.Mathlib.Omega.{arith}
 use borrow.Author.Needs.{needs}
 use Rattle.writing.proofs.parts.put_tag.Statement.{statement}
 use Rattle.writing.proofs.parts.put_tag.Tie as tie
-use Rattle.writing.proofs.parts.put_tag.Reads as reads
-use Rattle.writing.proofs.parts.put_tag.Lts as lts
 
 cast-out : tie.Need-cast-out
 cast-out c = search needs

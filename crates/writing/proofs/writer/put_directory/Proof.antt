@@ -2,13 +2,8 @@ use Prim.Native.Nat.{_-_}
 use lib.ListN.{length}
 use Rattle.writing.proofs.WriterLaws.{DirectoryAt, directory-turn}
 use borrow.Author.Needs.{needs}
-use native.Mathlib.Omega.{arith}
 use Rattle.writing.proofs.writer.put_directory.Statement.{statement}
 use Rattle.writing.proofs.writer.put_directory.Tie as tie
-use Rattle.writing.proofs.writer.put_directory.Reads as reads
-use Rattle.writing.proofs.writer.put_directory.Lts as lts
-use Rattle.writing.proofs.joining.next_written.Reads as next-written-reads
-use Rattle.writing.proofs.parts.put_entry.Reads as put-entry-reads
 
 abbrev Inv-loop : tie.InvT-loop
 Inv-loop r h joins out₀ at q₀ pos₀ p₀ out q pos p = DirectoryAt joins r h out₀ at out q pos p

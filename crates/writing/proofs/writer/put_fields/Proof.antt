@@ -2,15 +2,8 @@ use Prim.Native.Nat.{_-_}
 use lib.ListN.{length}
 use Rattle.writing.proofs.WriterLaws.{FieldsAt, fields-turn}
 use borrow.Author.Needs.{needs}
-use native.Mathlib.Omega.{arith}
 use Rattle.writing.proofs.writer.put_fields.Statement.{statement}
 use Rattle.writing.proofs.writer.put_fields.Tie as tie
-use Rattle.writing.proofs.writer.put_fields.Reads as reads
-use Rattle.writing.proofs.writer.put_fields.Lts as lts
-use Rattle.memory.proofs.put_byte.Reads as put-byte-reads
-use Rattle.memory.proofs.put_part.Reads as put-part-reads
-use Rattle.writing.proofs.joining.next_written.Reads as next-written-reads
-use Rattle.writing.proofs.writer.put_joined.Reads as put-joined-reads
 
 abbrev Inv-loop : tie.InvT-loop
 Inv-loop r h joins out₀ at q₀ p₀ out q p = FieldsAt joins r h out₀ at out q p

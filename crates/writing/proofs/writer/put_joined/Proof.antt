@@ -2,15 +2,8 @@ use Prim.Native.Nat.{_-_}
 use lib.ListN.{length}
 use Rattle.writing.proofs.WriterLaws.{JoinsAt, joins-turn}
 use borrow.Author.Needs.{needs}
-use native.Mathlib.Omega.{arith}
 use Rattle.writing.proofs.writer.put_joined.Statement.{statement}
 use Rattle.writing.proofs.writer.put_joined.Tie as tie
-use Rattle.writing.proofs.writer.put_joined.Reads as reads
-use Rattle.writing.proofs.writer.put_joined.Lts as lts
-use Rattle.memory.proofs.put_part.Reads as put-part-reads
-use Rattle.skeleton.proofs.place.place_at.Reads as place-at-reads
-use Rattle.writing.proofs.joining.goes_on.Reads as goes-on-reads
-use Rattle.writing.proofs.joining.is_list.Reads as is-list-reads
 
 abbrev Inv-loop : tie.InvT-loop
 Inv-loop r h joins list from out₀ at q₀ p₀ out q p = JoinsAt joins r h list from out₀ at out q p

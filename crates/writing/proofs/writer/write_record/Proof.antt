@@ -1,15 +1,7 @@
 use Rattle.writing.proofs.WriterLaws.{record-ways, fields-room-left, wrote-record}
-use native.Mathlib.Omega.{arith}
 use borrow.Author.Needs.{needs}
 use Rattle.writing.proofs.writer.write_record.Statement.{statement}
 use Rattle.writing.proofs.writer.write_record.Tie as tie
-use Rattle.writing.proofs.writer.write_record.Reads as reads
-use Rattle.writing.proofs.writer.write_record.Lts as lts
-use Rattle.memory.proofs.put_byte.Reads as put-byte-reads
-use Rattle.writing.proofs.measuring.count_written.Reads as count-written-reads
-use Rattle.writing.proofs.parts.put_leader.Reads as put-leader-reads
-use Rattle.writing.proofs.writer.put_directory.Reads as put-directory-reads
-use Rattle.writing.proofs.writer.put_fields.Reads as put-fields-reads
 
 count-written-requires : tie.Need-count-written-requires
 count-written-requires c κs = search needs
