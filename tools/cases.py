@@ -115,7 +115,8 @@ class Module:
         uses = (
             "use mathlib.Core.Path.{_≡_, refl}\nuse mathlib.Core.Bool.{true}\nuse mathlib.Core.List.{List, [], _∷_}\n"
             "use Prim.Native.Nat.{ℕ}\n"
-            "use Rattle.cases.proofs.Case.{reads, writes, updates, lists, bytes, all, casesOpened}\n"
+            "use Rattle.fields.specs.Bytes.{bytes}\n"
+            "use Rattle.cases.proofs.Case.{reads, writes, updates, lists, all, casesOpened}\n"
         )
         files = "".join(
             f"\nabbrev {name} : List ℕ\n{name} = bytes {len(data)} {hex(int.from_bytes(data, 'little'))}\n" for data, name in self.files.items()

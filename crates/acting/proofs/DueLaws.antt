@@ -8,12 +8,15 @@ use native.Mathlib.Omega.{arith}
 use borrow.Author.Tests.{ne-eqb}
 use lib.ListN.{length}
 use Rattle.base.specs.Check.{ok, pass}
+use Rattle.base.specs.Lists.{Each}
 use Rattle.base.proofs.CheckLaws.{bind-inv, refused}
 use Rattle.base.proofs.OptionLaws.{never}
+use Rattle.base.proofs.EachLaws.{each-map}
 use Rattle.skeleton.specs.File.{Field}
 use Rattle.fields.specs.Table.{headOf, tupleOf}
 use Rattle.fields.specs.Content.{many}
 use Rattle.fields.specs.declared.Format.the-variants.{C2il}
+use Rattle.fields.specs.Valid.{Has}
 use Rattle.fields.proofs.EvenLaws.{fill-even}
 use Rattle.rules.specs.Tags.{ATTR, INAS, SPAS, COCC, C2IT, C2IL}
 use Rattle.rules.specs.ByTag.{withTag, has, front}
@@ -26,16 +29,14 @@ use Rattle.rules.specs.Written.{fieldAs}
 use Rattle.rules.specs.declared.Kind.{Kind}
 use Rattle.rules.specs.declared.Kind.the-variants.{Info, Point, Multi, Feature}
 use Rattle.rules.specs.declared.Mode.the-variants.{InUpdate}
-use Rattle.sequence.specs.Keyed.{Each}
 use Rattle.sound.specs.Sound.{rowed}
-use Rattle.sound.proofs.Lists.{each-map}
 use Rattle.sound.proofs.Order.{most, order-rowed, order-once}
 use Rattle.sound.proofs.Stand.{Formed, all-formed, all-treed}
 use Rattle.sound.proofs.Records.{four-inv}
 use Rattle.sound.proofs.Changed.{tests}
 use Rattle.coords.specs.Placing.{EvenLists}
 use Rattle.version.proofs.RowLaws.{tree-row, place-row, point-row}
-use Rattle.acting.specs.Ready.{Has, Due}
+use Rattle.acting.specs.Ready.{Due}
 
 -- ---- the kinds
 

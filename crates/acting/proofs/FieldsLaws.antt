@@ -7,6 +7,7 @@ use borrow.Author.Tests.{eq-eqb, ne-eqb, eqb-true, eqb-false}
 use lib.ListN.{length}
 use lib.Dec.{eqb}
 use Rattle.base.specs.Check.{Check, ok, no, bind, fault, refuse, inField}
+use Rattle.base.specs.Lists.{Each}
 use Rattle.skeleton.specs.Emit.{size, sizes}
 use Rattle.skeleton.specs.File.{Field}
 use Rattle.skeleton.specs.Place.{between, placeAt, fieldsAt}
@@ -26,7 +27,6 @@ use Rattle.rules.specs.Record.{Parts}
 use Rattle.rules.specs.Modify.{actField, actFields}
 use Rattle.rules.specs.Written.{fieldAs}
 use Rattle.rules.specs.declared.Kind.{Kind}
-use Rattle.sequence.specs.Keyed.{Each}
 use Rattle.sequence.proofs.Tests.{by-bool}
 use Rattle.stock.proofs.FilledLaws.{record-filled, record-short}
 use Rattle.version.specs.Held.{HeldParts}

@@ -8,7 +8,7 @@ use borrow.Author.Tests.{eqb-true}
 use lib.ListN.{length, getD, take, drop, length-take}
 use lib.Dec.{eqb}
 use Rattle.base.specs.Check.{Check, ok, bind, refuse, pass, passed}
-use Rattle.base.specs.Lists.{each}
+use Rattle.base.specs.Lists.{each, Each}
 use Rattle.base.proofs.ListLaws.{none-long}
 use Rattle.skeleton.specs.Emit.{size, sizes}
 use Rattle.skeleton.specs.File.{Field}
@@ -40,7 +40,7 @@ use Rattle.rules.specs.Modify.{withAttributes, withAssociations, withCoordinate
 use Rattle.rules.specs.Written.{fieldAs}
 use Rattle.rules.proofs.CoordinateLaws.{coords-count}
 use Rattle.cells.specs.Cells.{bodiesOf, spatialIn}
-use Rattle.cells.specs.Keys.{Every, InasBody, SpasBody}
+use Rattle.cells.specs.Keys.{InasBody, SpasBody}
 use Rattle.cells.specs.Acts.{InasNow, InasActs, SpasNow, SpasActs}
 use Rattle.cells.specs.declared.acting.Acted.{Acted}
 use Rattle.cells.specs.declared.acting.Acted.the-variants.{Refused as Unfit, Now as Fit}
@@ -55,16 +55,16 @@ use Rattle.edits.specs.Applied.{Outcome, Applied}
 use Rattle.edits.specs.declared.Edited.{Edited}
 use Rattle.edits.specs.declared.Edited.the-variants.{Refused as Uneditable, Done}
 use Rattle.stock.proofs.FilledLaws.{record-filled, record-short}
-use Rattle.version.specs.Held.{All, RightInas, RightSpas, takesTree, HeldParts}
+use Rattle.version.specs.Held.{RightInas, RightSpas, takesTree, HeldParts, counted}
 use Rattle.version.specs.Present.{FlagsKept}
 use Rattle.version.specs.declared.Version.{Version}
 use Rattle.version.proofs.AreaLaws.{lent, length-lent, lent-behind}
-use Rattle.version.proofs.BodyLaws.{spas-every, spas-all, every-all, all-every}
+use Rattle.version.proofs.BodyLaws.{spas-every, spas-all}
 use Rattle.acting.specs.Ready.{Ready, Sending, Placing}
-use Rattle.acting.specs.Acted.{Holding, PartActs, FieldActs, changed, editAt, attrPart, inasPart, coccPart, spasPart}
+use Rattle.acting.specs.Acted.{Holding, PartActs, FieldActs, editAt, attrPart, inasPart, coccPart, spasPart}
 use Rattle.acting.specs.declared.part.Part.{Part}
 use Rattle.acting.specs.declared.part.Part.the-variants.{Wrong, Right}
-use Rattle.acting.proofs.WideLaws.{attr-area, inas-area, spas-area}
+use Rattle.acting.proofs.WideLaws.{list-area, list-same, list-flags, attr-area, inas-area, spas-area}
 use Rattle.acting.proofs.VersionLaws.{inas-every, same-ident, with-items, with-tuples, with-inas, with-spas}
 
 -- ---- the rules' acts by tag
@@ -118,10 +118,10 @@ module _ (u w : List ℕ) (v : Version) (from to : ℕ) (r : Ready u w v ATTR fr
 
   module _ (ys : List ℕ) (long : length ys ≡ 200000) (x : Edited) (s : Applied u from to (take 200000 w) (v .attr) ys x) where
     pub attr-same : length (lent 0 200000 ys w) ≡ length w
-    attr-same = let wide : 400000 ≤ length w = r .wide in length-lent 0 200000 ys w long (omega arith)
+    attr-same = list-same w (r .wide) ys long
 
     attr-flags : FlagsKept w (lent 0 200000 ys w)
-    attr-flags = let wide : 400000 ≤ length w = r .wide in lent-behind 0 200000 ys w long (omega arith) 386000 (omega arith)
+    attr-flags = list-flags w (r .wide) ys long
 
     attr-wrong : (k j : ℕ) → x ≡ Uneditable k j
         → ((d : List ℕ) (new : List Coord) → PartActs d u new (fieldAs ATTR attrBody) w v (lent 0 200000 ys w) (Wrong k j)) × FlagsKept w (lent 0 200000 ys w)
@@ -134,7 +134,7 @@ module _ (u w : List ℕ) (v : Version) (from to : ℕ) (r : Ready u w v ATTR fr
     )
 
     attr-right : (m : ℕ) → x ≡ Done m
-        → ((d : List ℕ) (new : List Coord) → PartActs d u new (fieldAs ATTR attrBody) w v (lent 0 200000 ys w) (Right (changed v m (v .inas) (v .coord) (v .spas))))
+        → ((d : List ℕ) (new : List Coord) → PartActs d u new (fieldAs ATTR attrBody) w v (lent 0 200000 ys w) (Right (counted v m (v .inas) (v .coord) (v .spas))))
         × FlagsKept w (lent 0 200000 ys w)
     unfolding PartActs Outcome
     attr-right m e =
@@ -180,7 +180,7 @@ module _ (d u w : List ℕ) (v : Version) (from to : ℕ) (r : Ready u w v INAS 
   pub inas-ready : Holding d u w v
       → (from ≤ to) × (to ≤ length u) × (to ≤ 16777216) × (to - from < 16777216) × (7 * v .inas + 7 ≤ length (take 92000 (drop 200000 w)))
       × (fill (headOf (inasFormat false (between u from to))) (tupleOf (inasFormat false (between u from to))) (between u from to) ≡ true)
-      × Every InasBody (bodiesOf d u (take 92000 (drop 200000 w)) (v .inas))
+      × Each InasBody (bodiesOf d u (take 92000 (drop 200000 w)) (v .inas))
   inas-ready h =
       let small : length u ≤ 16777216 = r .small in
       let inside : to ≤ length u = r .inside in
@@ -216,7 +216,7 @@ module _ (d u w : List ℕ) (v : Version) (from to : ℕ) (r : Ready u w v INAS 
         record { bytes = bytes-between u from to g; filled = rw (eqb-true (getD inasBody 9 0) 1 e) at (due .0); tree = due .1 }
 
     inas-right : (m : ℕ) → x ≡ Fit m
-        → ((new : List Coord) → PartActs d u new (fieldAs INAS inasBody) w v (lent 200000 92000 ys w) (Right (changed v (v .attr) m (v .coord) (v .spas))))
+        → ((new : List Coord) → PartActs d u new (fieldAs INAS inasBody) w v (lent 200000 92000 ys w) (Right (counted v (v .attr) m (v .coord) (v .spas))))
         × FlagsKept w (lent 200000 92000 ys w)
     unfolding PartActs InasActs
     inas-right m e =
@@ -230,11 +230,11 @@ module _ (d u w : List ℕ) (v : Version) (from to : ℕ) (r : Ready u w v INAS 
             held = λ p h.
                 let ls : List Assoc = each assocOf (bodiesOf d u ys m) in
                 let b : actInas inasBody (p .associations) ≡ ok ls = ap (actInas inasBody) (h .associations) ∙ a .0 .is in
-                let every : Every RightInas (bodiesOf d u ys m) =
-                acted-every RightInas inasKey 0 (eqb (getD inasBody 9 0) 1) inasBody oldInas (bodiesOf d u ys m) (all-every RightInas oldInas (h .inas-right)) right-inas (a .0 .bodies) in (
+                let every : Each RightInas (bodiesOf d u ys m) =
+                acted-every RightInas inasKey 0 (eqb (getD inasBody 9 0) 1) inasBody oldInas (bodiesOf d u ys m) (h .inas-right) right-inas (a .0 .bodies) in (
                   withAssociations ls p,
                   inas-by new inasBody p ∙ bind-ok (actInas inasBody (p .associations)) (λ ls. ok (withAssociations ls p)) ls b,
-                  with-inas d u w v p h (r .wide) ys long m ls refl (every-all RightInas (bodiesOf d u ys m) every) full,
+                  with-inas d u w v p h (r .wide) ys long m ls refl every full,
                 );
             same = same-ident v (v .attr) m (v .coord) (v .spas);
             rooms = λ n q. record { attr = omega (arith, q .attr); inas = omega (arith, q .inas); spas = omega (arith, q .spas) };
@@ -260,7 +260,7 @@ module _ (fs : List Field) (x n : ℕ) (w : List ℕ) (v : Version) (r : Placing
   sent-wide = let wide : 400000 ≤ length w = r .wide in omega arith
 
   pub sent-area : length (take 200000 w) ≡ 200000
-  sent-area = let wide : 400000 ≤ length w = r .wide in length-take 200000 w ∙ omega arith
+  sent-area = list-area w (r .wide)
 
   pub sent-ready : (h : Shape) → Bounded h
       → Bounded h × EvenLists fs × (8 * v .coord + sizes fs ≤ length (take 200000 w)) × (length (take 200000 w) < 524288) × (0 < x) × (x < 65536) × (n < 65536)
@@ -269,10 +269,10 @@ module _ (fs : List Field) (x n : ℕ) (w : List ℕ) (v : Version) (r : Placing
   module _ (i : ℕ) (ys : List ℕ) (long : length ys ≡ 200000) (e : Placed)
       (s : PlacedAs (placed (record { instruction = i; index = x; count = n }) (sent fs) (tuplesOf (take 200000 w) (v .coord))) ys e) where
     pub sent-same : length (lent 0 200000 ys w) ≡ length w
-    sent-same = let wide : 400000 ≤ length w = r .wide in length-lent 0 200000 ys w long (omega arith)
+    sent-same = list-same w (r .wide) ys long
 
     sent-flags : FlagsKept w (lent 0 200000 ys w)
-    sent-flags = let wide : 400000 ≤ length w = r .wide in lent-behind 0 200000 ys w long (omega arith) 386000 (omega arith)
+    sent-flags = list-flags w (r .wide) ys long
 
     abbrev sentTo : Check (List Coord)
     sentTo = placed (editAt i x n) (sent fs) (tuplesOf (take 200000 w) (v .coord))
@@ -286,7 +286,7 @@ module _ (fs : List Field) (x n : ℕ) (w : List ℕ) (v : Version) (r : Placing
         let a : sentTo ≡ refuse 9 0 = subst (PlacedAs sentTo ys) z s in
         λ d u b is p g. cocc-by (sent fs) b p ∙ bind-no (placed (placeIn b) (sent fs) (p .coordinates)) (λ cs. ok (withCoordinates cs p)) 9 0 (sent-so d u b is p g ∙ a)
 
-    sent-right : (m : ℕ) → e ≡ Inside m → ((d u b : List ℕ) → placeIn b ≡ editAt i x n → PartActs d u (sent fs) (fieldAs COCC b) w v (lent 0 200000 ys w) (Right (changed v (v .attr) (v .inas) m (v .spas))))
+    sent-right : (m : ℕ) → e ≡ Inside m → ((d u b : List ℕ) → placeIn b ≡ editAt i x n → PartActs d u (sent fs) (fieldAs COCC b) w v (lent 0 200000 ys w) (Right (counted v (v .attr) (v .inas) m (v .spas))))
     unfolding PartActs PlacedAs
     sent-right m z =
         let a : (sentTo ≡ ok (tuplesOf ys m)) × (8 * m ≤ length ys) = subst (PlacedAs sentTo ys) z s in
@@ -398,7 +398,7 @@ module _ (u w : List ℕ) (v : Version) (from to : ℕ) (r : Ready u w v C2IT fr
 
   pub point-right : (ys : List ℕ) → length ys ≡ 200000 → (m : ℕ)
       → (8 * m ≡ 8 * 0 + (to - from)) × (tuplesOf ys m ≡ take 0 (tuplesOf (take 200000 w) 0) ++ (coordsIn (between u from to) ++ drop 0 (tuplesOf (take 200000 w) 0)))
-      → (d : List ℕ) (new : List Coord) → FieldActs d u new (fieldAs C2IT pointBody) w v (lent 0 200000 ys w) (Right (changed v (v .attr) (v .inas) m (v .spas)))
+      → (d : List ℕ) (new : List Coord) → FieldActs d u new (fieldAs C2IT pointBody) w v (lent 0 200000 ys w) (Right (counted v (v .attr) (v .inas) m (v .spas)))
   unfolding PartActs
   point-right ys long m s d new =
       let wide : 400000 ≤ length w = r .wide in
@@ -417,7 +417,7 @@ module _ (u w : List ℕ) (v : Version) (from to : ℕ) (r : Ready u w v C2IT fr
           rooms = λ k q. record { attr = omega (arith, q .attr); inas = omega (arith, q .inas); spas = omega (arith, q .spas) };
           coord = λ _ _. omega arith;
         };
-        flags = lent-behind 0 200000 ys w long (omega arith) 386000 (omega arith);
+        flags = list-flags w wide ys long;
       }
 
 -- ---- SPAS
@@ -434,7 +434,7 @@ module _ (d u w : List ℕ) (v : Version) (from to : ℕ) (r : Ready u w v SPAS 
 
   pub spas-ready : Holding d u w v
       → (from ≤ to) × (to ≤ length u) × (to ≤ 16777216) × (7 * (v .spas + (to - from) / 15) ≤ length (take 94000 (drop 292000 w)))
-      × (fill (headOf Spas) (tupleOf Spas) (between u from to) ≡ true) × Every SpasBody (bodiesOf d u (take 94000 (drop 292000 w)) (v .spas))
+      × (fill (headOf Spas) (tupleOf Spas) (between u from to) ≡ true) × Each SpasBody (bodiesOf d u (take 94000 (drop 292000 w)) (v .spas))
   spas-ready h =
       let small : length u ≤ 16777216 = r .small in
       let inside : to ≤ length u = r .inside in
@@ -463,7 +463,7 @@ module _ (d u w : List ℕ) (v : Version) (from to : ℕ) (r : Ready u w v SPAS 
         (λ new p h. spas-by new spasBody p ∙ bind-no (spasTo (p .spatial)) (λ ss. ok (withSpatial ss p)) k j (ap spasTo (h .spatial) ∙ a), spas-flags)
 
     spas-right : (m : ℕ) → x ≡ Fit m
-        → ((new : List Coord) → PartActs d u new (fieldAs SPAS spasBody) w v (lent 292000 94000 ys w) (Right (changed v (v .attr) (v .inas) (v .coord) m)))
+        → ((new : List Coord) → PartActs d u new (fieldAs SPAS spasBody) w v (lent 292000 94000 ys w) (Right (counted v (v .attr) (v .inas) (v .coord) m)))
         × FlagsKept w (lent 292000 94000 ys w)
     unfolding PartActs SpasActs
     spas-right m e =
@@ -472,7 +472,7 @@ module _ (d u w : List ℕ) (v : Version) (from to : ℕ) (r : Ready u w v SPAS 
         let room = r .rooms .spas in
         let full : 7 * m ≤ 94000 = omega (arith, spas-long) in
         let ss : List Spatial = each spatialIn (bodiesOf d u ys m) in
-        let all : All RightSpas (bodiesOf d u ys m) = spas-all (bodiesOf d u ys m) (a .right) (every-all Bytes (bodiesOf d u ys m) (bodies-bytes d u ys gd gu m 0)) in (
+        let all : Each RightSpas (bodiesOf d u ys m) = spas-all (bodiesOf d u ys m) (a .right) (bodies-bytes d u ys gd gu m 0) in (
           λ new. record {
             held = λ p h. (
               withSpatial ss p,

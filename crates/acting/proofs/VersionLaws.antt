@@ -2,10 +2,11 @@
 use Prim.Native.Nat.{ℕ, _*_, _≤_}
 use mathlib.Core.Path.{_≡_, refl, sym, ap, _∙_, subst}
 use mathlib.Core.Bool.{true, false}
-use mathlib.Core.List.{List, [], _∷_}
+use mathlib.Core.List.{List}
 use native.Mathlib.Omega.{arith}
 use lib.ListN.{length, take}
-use Rattle.base.specs.Lists.{each}
+use Rattle.base.specs.Lists.{each, Each}
+use Rattle.base.proofs.EachLaws.{each-map}
 use Rattle.forest.specs.Forest.{Forest}
 use Rattle.forest.specs.Flat.{flat}
 use Rattle.rules.specs.Coordinates.{Coord, coordsIn}
@@ -13,23 +14,21 @@ use Rattle.rules.specs.Record.{Parts, Assoc, Spatial, assocOf}
 use Rattle.rules.specs.Modify.{withAssociations, withSpatial}
 use Rattle.items.specs.Items.{its, itemsFrom}
 use Rattle.cells.specs.Cells.{bodiesOf, spatialIn}
-use Rattle.cells.specs.Keys.{Every, InasBody}
+use Rattle.cells.specs.Keys.{InasBody}
 use Rattle.version.specs.Areas.{listArea, inasArea, spasArea}
-use Rattle.version.specs.Held.{All, RightInas, RightSpas, takesTree, HeldParts}
+use Rattle.version.specs.Held.{RightInas, RightSpas, takesTree, HeldParts, counted}
 use Rattle.version.specs.declared.Version.{Version}
 use Rattle.version.proofs.AreaLaws.{lent, lent-same, lent-before, lent-after}
-use Rattle.acting.specs.Acted.{SameIdent, changed}
+use Rattle.acting.specs.Acted.{SameIdent}
 
 -- ---- lists of bodies
 
-pub inas-every : (bs : List (List ℕ)) → All RightInas bs → Every InasBody bs
-unfolding All
-inas-every [] a = tt
-inas-every (b ∷ bs) a = (a .0 .filled, inas-every bs (a .1))
+pub inas-every : (bs : List (List ℕ)) → Each RightInas bs → Each InasBody bs
+inas-every bs a = each-map bs (λ b r. r .filled) a
 
 -- ---- versions
 
-pub same-ident : (v : Version) (a i c s : ℕ) → SameIdent v (changed v a i c s)
+pub same-ident : (v : Version) (a i c s : ℕ) → SameIdent v (counted v a i c s)
 same-ident v a i c s = record { kind = refl; rcid = refl; code = refl; rver = refl; foids = refl; foid = refl; slice = refl }
 
 -- no items are the same anywhere
@@ -43,7 +42,7 @@ module _ (d u w : List ℕ) (v : Version) (p : Parts) (h : HeldParts d u w v p) 
   -- the list area
   pub with-list : (ys : List ℕ) → length ys ≡ 200000 → (m n : ℕ) (g : Forest) (cs : List Coord) → its d u ys 0 m ≡ flat 0 g → cs ≡ coordsIn (take (8 * n) ys)
       → 8 * m ≤ 200000 → 8 * n ≤ 200000 → (takesTree (v .kind) ≡ false → m ≡ 0) → (takesTree (v .kind) ≡ true → n ≡ 0)
-      → HeldParts d u (lent 0 200000 ys w) (changed v m (v .inas) n (v .spas)) (record { attributes = g; associations = p .associations; coordinates = cs; spatial = p .spatial })
+      → HeldParts d u (lent 0 200000 ys w) (counted v m (v .inas) n (v .spas)) (record { attributes = g; associations = p .associations; coordinates = cs; spatial = p .spatial })
   with-list ys long m n g cs ea ec am cm nt nc =
       let o : List ℕ = lent 0 200000 ys w in
       let list : listArea o ≡ ys = lent-same 0 200000 ys w long (omega arith) in
@@ -52,10 +51,10 @@ module _ (d u w : List ℕ) (v : Version) (p : Parts) (h : HeldParts d u w v p) 
       record {
         attributes = ap (λ (a : List ℕ). its d u a 0 m) list ∙ ea;
         associations = h .associations ∙ ap (λ (a : List ℕ). each assocOf (bodiesOf d u a (v .inas))) (sym inas);
-        inas-right = subst (λ (a : List ℕ). All RightInas (bodiesOf d u a (v .inas))) (sym inas) (h .inas-right);
+        inas-right = subst (λ (a : List ℕ). Each RightInas (bodiesOf d u a (v .inas))) (sym inas) (h .inas-right);
         coordinates = ec ∙ ap (λ (a : List ℕ). coordsIn (take (8 * n) a)) (sym list);
         spatial = h .spatial ∙ ap (λ (a : List ℕ). each spatialIn (bodiesOf d u a (v .spas))) (sym spas);
-        spas-right = subst (λ (a : List ℕ). All RightSpas (bodiesOf d u a (v .spas))) (sym spas) (h .spas-right);
+        spas-right = subst (λ (a : List ℕ). Each RightSpas (bodiesOf d u a (v .spas))) (sym spas) (h .spas-right);
         attr-room = am;
         inas-room = h .inas-room;
         coord-room = cm;
@@ -67,7 +66,7 @@ module _ (d u w : List ℕ) (v : Version) (p : Parts) (h : HeldParts d u w v p) 
   -- items alone
   pub with-items : takesTree (v .kind) ≡ true → (ys : List ℕ) → length ys ≡ 200000 → (m : ℕ) (g : Forest) → its d u ys 0 m ≡ flat 0 g → 8 * m ≤ 200000
       → (takesTree (v .kind) ≡ false → m ≡ 0)
-      → HeldParts d u (lent 0 200000 ys w) (changed v m (v .inas) (v .coord) (v .spas)) (record { attributes = g; associations = p .associations; coordinates = p .coordinates; spatial = p .spatial })
+      → HeldParts d u (lent 0 200000 ys w) (counted v m (v .inas) (v .coord) (v .spas)) (record { attributes = g; associations = p .associations; coordinates = p .coordinates; spatial = p .spatial })
   with-items tree ys long m g e am nt =
       let z : v .coord ≡ 0 = h .no-coord tree in
       let c : p .coordinates ≡ coordsIn (take (8 * v .coord) ys) =
@@ -77,7 +76,7 @@ module _ (d u w : List ℕ) (v : Version) (p : Parts) (h : HeldParts d u w v p) 
   -- coordinates alone
   pub with-tuples : takesTree (v .kind) ≡ false → (ys : List ℕ) → length ys ≡ 200000 → (n : ℕ) (cs : List Coord) → cs ≡ coordsIn (take (8 * n) ys) → 8 * n ≤ 200000
       → (takesTree (v .kind) ≡ true → n ≡ 0)
-      → HeldParts d u (lent 0 200000 ys w) (changed v (v .attr) (v .inas) n (v .spas)) (record { attributes = p .attributes; associations = p .associations; coordinates = cs; spatial = p .spatial })
+      → HeldParts d u (lent 0 200000 ys w) (counted v (v .attr) (v .inas) n (v .spas)) (record { attributes = p .attributes; associations = p .associations; coordinates = cs; spatial = p .spatial })
   with-tuples bare ys long n cs e cm nc =
       let z : v .attr ≡ 0 = h .no-tree bare in
       let a : its d u ys 0 (v .attr) ≡ flat 0 (p .attributes) =
@@ -85,8 +84,8 @@ module _ (d u w : List ℕ) (v : Version) (p : Parts) (h : HeldParts d u w v p) 
       with-list ys long (v .attr) n (p .attributes) cs a e (h .attr-room) cm (h .no-tree) nc
 
   -- the area of INAS
-  pub with-inas : (ys : List ℕ) → length ys ≡ 92000 → (m : ℕ) (ls : List Assoc) → ls ≡ each assocOf (bodiesOf d u ys m) → All RightInas (bodiesOf d u ys m) → 7 * m ≤ 92000
-      → HeldParts d u (lent 200000 92000 ys w) (changed v (v .attr) m (v .coord) (v .spas)) (withAssociations ls p)
+  pub with-inas : (ys : List ℕ) → length ys ≡ 92000 → (m : ℕ) (ls : List Assoc) → ls ≡ each assocOf (bodiesOf d u ys m) → Each RightInas (bodiesOf d u ys m) → 7 * m ≤ 92000
+      → HeldParts d u (lent 200000 92000 ys w) (counted v (v .attr) m (v .coord) (v .spas)) (withAssociations ls p)
   with-inas ys long m ls e a r =
       let o : List ℕ = lent 200000 92000 ys w in
       let list : listArea o ≡ listArea w = lent-before 200000 92000 ys w long (omega arith) 0 200000 (omega arith) in
@@ -95,10 +94,10 @@ module _ (d u w : List ℕ) (v : Version) (p : Parts) (h : HeldParts d u w v p) 
       record {
         attributes = ap (λ (x : List ℕ). its d u x 0 (v .attr)) list ∙ h .attributes;
         associations = e ∙ ap (λ (x : List ℕ). each assocOf (bodiesOf d u x m)) (sym inas);
-        inas-right = subst (λ (x : List ℕ). All RightInas (bodiesOf d u x m)) (sym inas) a;
+        inas-right = subst (λ (x : List ℕ). Each RightInas (bodiesOf d u x m)) (sym inas) a;
         coordinates = h .coordinates ∙ ap (λ (x : List ℕ). coordsIn (take (8 * v .coord) x)) (sym list);
         spatial = h .spatial ∙ ap (λ (x : List ℕ). each spatialIn (bodiesOf d u x (v .spas))) (sym spas);
-        spas-right = subst (λ (x : List ℕ). All RightSpas (bodiesOf d u x (v .spas))) (sym spas) (h .spas-right);
+        spas-right = subst (λ (x : List ℕ). Each RightSpas (bodiesOf d u x (v .spas))) (sym spas) (h .spas-right);
         attr-room = h .attr-room;
         inas-room = r;
         coord-room = h .coord-room;
@@ -108,8 +107,8 @@ module _ (d u w : List ℕ) (v : Version) (p : Parts) (h : HeldParts d u w v p) 
       }
 
   -- the area of SPAS
-  pub with-spas : (ys : List ℕ) → length ys ≡ 94000 → (m : ℕ) (ss : List Spatial) → ss ≡ each spatialIn (bodiesOf d u ys m) → All RightSpas (bodiesOf d u ys m) → 7 * m ≤ 94000
-      → HeldParts d u (lent 292000 94000 ys w) (changed v (v .attr) (v .inas) (v .coord) m) (withSpatial ss p)
+  pub with-spas : (ys : List ℕ) → length ys ≡ 94000 → (m : ℕ) (ss : List Spatial) → ss ≡ each spatialIn (bodiesOf d u ys m) → Each RightSpas (bodiesOf d u ys m) → 7 * m ≤ 94000
+      → HeldParts d u (lent 292000 94000 ys w) (counted v (v .attr) (v .inas) (v .coord) m) (withSpatial ss p)
   with-spas ys long m ss e a r =
       let o : List ℕ = lent 292000 94000 ys w in
       let list : listArea o ≡ listArea w = lent-before 292000 94000 ys w long (omega arith) 0 200000 (omega arith) in
@@ -118,10 +117,10 @@ module _ (d u w : List ℕ) (v : Version) (p : Parts) (h : HeldParts d u w v p) 
       record {
         attributes = ap (λ (x : List ℕ). its d u x 0 (v .attr)) list ∙ h .attributes;
         associations = h .associations ∙ ap (λ (x : List ℕ). each assocOf (bodiesOf d u x (v .inas))) (sym inas);
-        inas-right = subst (λ (x : List ℕ). All RightInas (bodiesOf d u x (v .inas))) (sym inas) (h .inas-right);
+        inas-right = subst (λ (x : List ℕ). Each RightInas (bodiesOf d u x (v .inas))) (sym inas) (h .inas-right);
         coordinates = h .coordinates ∙ ap (λ (x : List ℕ). coordsIn (take (8 * v .coord) x)) (sym list);
         spatial = e ∙ ap (λ (x : List ℕ). each spatialIn (bodiesOf d u x m)) (sym spas);
-        spas-right = subst (λ (x : List ℕ). All RightSpas (bodiesOf d u x m)) (sym spas) a;
+        spas-right = subst (λ (x : List ℕ). Each RightSpas (bodiesOf d u x m)) (sym spas) a;
         attr-room = h .attr-room;
         inas-room = h .inas-room;
         coord-room = h .coord-room;

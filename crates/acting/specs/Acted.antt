@@ -16,7 +16,7 @@ use Rattle.coords.specs.declared.placing.Placed.{Placed}
 use Rattle.coords.specs.declared.placing.Placed.the-variants.{Refused as Outside, Now as Inside}
 use Rattle.edits.specs.declared.Edited.{Edited}
 use Rattle.edits.specs.declared.Edited.the-variants.{Refused as Uneditable, Done}
-use Rattle.version.specs.Held.{HeldParts}
+use Rattle.version.specs.Held.{HeldParts, counted}
 use Rattle.version.specs.Present.{FlagsKept}
 use Rattle.version.specs.declared.Version.{Version}
 use Rattle.acting.specs.Ready.{Rooms}
@@ -39,11 +39,6 @@ pub record SameIdent (v e : Version) : Type 0 where
 abbrev pub Holding : (d u w : List ℕ) → Version → Type 0
 Holding d u w v = (p : Parts) × HeldParts d u w v p
 
--- with so many items, associations, coordinate tuples and spatial associations
-abbrev pub changed : Version → ℕ → ℕ → ℕ → ℕ → Version
-changed v a i c s =
-    record { kind = v .kind; rcid = v .rcid; code = v .code; rver = v .rver; foids = v .foids; foid = v .foid; slice = v .slice; attr = a; inas = i; coord = c; spas = s }
-
 -- an edit by place
 abbrev pub editAt : ℕ → ℕ → ℕ → Edit
 editAt i x n = record { instruction = i; index = x; count = n }
@@ -53,22 +48,22 @@ editAt i x n = record { instruction = i; index = x; count = n }
 -- what an edited tree makes of the version
 unfoldable pub attrPart : Version → Edited → Part
 attrPart v (Uneditable k j) = Wrong k j
-attrPart v (Done m) = Right (changed v m (v .inas) (v .coord) (v .spas))
+attrPart v (Done m) = Right (counted v m (v .inas) (v .coord) (v .spas))
 
 -- what the associations are now
 unfoldable pub inasPart : Version → Acted → Part
 inasPart v (Unfit k j) = Wrong k j
-inasPart v (Fit m) = Right (changed v (v .attr) m (v .coord) (v .spas))
+inasPart v (Fit m) = Right (counted v (v .attr) m (v .coord) (v .spas))
 
 -- what the coordinate tuples are now
 unfoldable pub coccPart : Version → Placed → Part
 coccPart v Outside = Wrong 9 0
-coccPart v (Inside m) = Right (changed v (v .attr) (v .inas) m (v .spas))
+coccPart v (Inside m) = Right (counted v (v .attr) (v .inas) m (v .spas))
 
 -- what the spatial associations are now
 unfoldable pub spasPart : Version → Acted → Part
 spasPart v (Unfit k j) = Wrong k j
-spasPart v (Fit m) = Right (changed v (v .attr) (v .inas) (v .coord) m)
+spasPart v (Fit m) = Right (counted v (v .attr) (v .inas) (v .coord) m)
 
 -- the field f acted on version v of workspace w, which is version e of workspace o now; new: the coordinate tuples that its record sends
 pub record PartNow (d u : List ℕ) (new : List Coord) (f : Field) (w : List ℕ) (v : Version) (o : List ℕ) (e : Version) : Type 0 where

@@ -11,9 +11,7 @@ use Rattle.skeleton.specs.Place.{between, fieldsAt}
 use Rattle.skeleton.specs.Record.{recordAt}
 use Rattle.skeleton.specs.declared.directory.Shape.{Shape}
 use Rattle.skeleton.specs.declared.leader.Head.the-variants.{Good}
-use Rattle.fields.specs.Table.{headOf, tupleOf}
-use Rattle.fields.specs.Content.{fill}
-use Rattle.fields.specs.declared.Format.{Format}
+use Rattle.fields.specs.Valid.{Has}
 use Rattle.fields.specs.declared.Format.the-variants.{Attr, Spas, Cocc, C2it}
 use Rattle.rules.specs.Tags.{ATTR, INAS, SPAS, COCC, C2IT, C2IL}
 use Rattle.rules.specs.ByTag.{front}
@@ -26,10 +24,6 @@ use Rattle.rules.specs.declared.Kind.{Kind}
 use Rattle.coords.specs.Placing.{EvenLists}
 use Rattle.version.specs.Held.{takesTree}
 use Rattle.version.specs.declared.Version.{Version}
-
--- the subfields of a format fill a body
-abbrev pub Has : Format → List ℕ → Type 0
-Has k b = fill (headOf k) (tupleOf k) b ≡ true
 
 -- what a field of a modify on a record of kind k has passed, by its tag
 pub record Due (k : Kind) (f : Field) : Type 0 where

@@ -1,4 +1,4 @@
--- What a check that passes went through. Assumes nothing.
+-- What a check that passes went through, and what a refusal is. Assumes nothing.
 use mathlib.Core.Path.{_≡_, refl}
 use mathlib.Core.Bool.{Bool, true, false}
 use Prim.Native.Nat.{ℕ}
@@ -7,11 +7,15 @@ use Rattle.base.specs.Choice.{pick}
 use Rattle.base.specs.Check.{Check, Passed, ok, no, bind, fault, inField, pass, passed}
 use Rattle.base.specs.declared.Fault.{Fault}
 use Rattle.base.specs.Verdict.{verdictOf}
-use Rattle.base.specs.declared.Verdict.the-variants.{Passed as Through}
+use Rattle.base.specs.declared.Verdict.the-variants.{Passed as Through, Refused}
 
 -- a refusal is no value
 pub refused : {A X : Type 0} {x : Fault} {a : A} → no x ≡ ok a → X
 refused e = absurd (let z : _≡_ {A = ℕ} 0 1 = cc in omega arith)
+
+-- a value is no refusal
+pub ok-no : {A X : Type 0} {a : A} {f : Fault} → ok a ≡ no f → X
+ok-no e = absurd (let z : _≡_ {A = ℕ} 0 1 = cc in omega arith)
 
 -- two tests that pass: the first gave a value, and the second passed on it
 pub bind-inv : {A B : Type 0} (m : Check A) (k : A → Check B) (b : B) → bind m k ≡ ok b → (a : A) × (m ≡ ok a) × (k a ≡ ok b)
@@ -44,3 +48,13 @@ pub passed-is : (c : Passed) → Through ≡ verdictOf c → c ≡ pass
 unfolding verdictOf
 passed-is (ok tt) e = refl
 passed-is (no x) e = absurd (let y : _≡_ {A = ℕ} 0 1 = cc in omega arith)
+
+-- the refusal that a verdict tells of
+pub refused-is : {A : Type 0} (c : Check A) (k i j : ℕ) → Refused k i j ≡ verdictOf c → c ≡ no (fault k i j)
+unfolding verdictOf
+refused-is (ok u) k i j e = absurd (let y : _≡_ {A = ℕ} 0 1 = cc in omega arith)
+refused-is (no x) k i j e =
+    let a : k ≡ x .number = cc in
+    let b : i ≡ x .field = cc in
+    let d : j ≡ x .tuple = cc in
+    rw (a, b, d)

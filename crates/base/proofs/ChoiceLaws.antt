@@ -1,9 +1,11 @@
 -- What a choice by a test says. Assumes nothing.
 use mathlib.Core.Path.{_≡_, refl, sym}
 use mathlib.Core.Bool.{Bool, true, false, true≢false}
-use Prim.Native.Nat.{ℕ}
+use Prim.Native.Nat.{ℕ, _≤_, _<_}
 use native.Mathlib.Omega.{arith}
-use Rattle.base.specs.Choice.{pick, both, either}
+use borrow.Author.Tests.{lt-ltb, le-ltb, ltb-true, ltb-false}
+use lib.Dec.{ltb}
+use Rattle.base.specs.Choice.{pick, both, either, largerOf}
 
 -- what holds of both arms of a test holds of the choice
 pub by-test : {A : Type 0} (P : A → Type 0) (b : Bool) (x y : A) → (b ≡ true → P x) → (b ≡ false → P y) → P (pick b x y)
@@ -43,3 +45,17 @@ either-true false = refl
 pub neither : (a b : Bool) → either a b ≡ false → (a ≡ false) × (b ≡ false)
 neither true b e = absurd (let z : _≡_ {A = ℕ} 0 1 = cc in omega arith)
 neither false b e = (refl, e)
+
+-- which of two numbers is the larger
+pub larger-second : (a b : ℕ) → a < b → b ≡ largerOf a b
+larger-second a b h = simp (lt-ltb a b h)
+
+pub larger-first : (a b : ℕ) → b ≤ a → a ≡ largerOf a b
+larger-first a b h = simp (le-ltb a b h)
+
+-- it is not below either
+pub larger-left : (a b : ℕ) → a ≤ largerOf a b
+larger-left a b = by-test (λ n. a ≤ n) (ltb a b) b a (λ e. omega (arith, ltb-true a b e)) (λ e. omega arith)
+
+pub larger-right : (a b : ℕ) → b ≤ largerOf a b
+larger-right a b = by-test (λ n. b ≤ n) (ltb a b) b a (λ e. omega arith) (λ e. omega (arith, ltb-false a b e))

@@ -1,5 +1,7 @@
 -- Choices by a test.
+use Prim.Native.Nat.{ℕ}
 use mathlib.Core.Bool.{Bool, true, false}
+use lib.Dec.{ltb}
 
 -- the first where the test holds, else the second
 abbrev pub pick {ℓ} : {A : Type ℓ} → Bool → A → A → A
@@ -15,3 +17,7 @@ both false b = false
 abbrev pub either : Bool → Bool → Bool
 either true b = true
 either false b = b
+
+-- the larger of two numbers
+abbrev pub largerOf : ℕ → ℕ → ℕ
+largerOf a b = pick (ltb a b) b a

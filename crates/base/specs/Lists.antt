@@ -16,3 +16,8 @@ each f (x ∷ xs) = f x ∷ each f xs
 unfoldable pub gather : {A B : Type 0} → (A → List B) → List A → List B
 gather f [] = []
 gather f (x ∷ xs) = f x ++ gather f xs
+
+-- each has Q
+unfoldable pub Each : {A : Type 0} → (A → Type 0) → List A → Type 0
+Each Q [] = Unit {0}
+Each Q (x ∷ xs) = Q x × Each Q xs

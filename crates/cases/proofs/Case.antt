@@ -1,24 +1,19 @@
 -- A case, and whether the definitions answer it as the second program does. Assumes nothing.
-use Prim.Native.Nat.{ℕ, zero, suc, _*_, _/_, _%_}
+use Prim.Native.Nat.{ℕ, _*_, _%_}
 use mathlib.Core.Bool.{Bool, true}
 use mathlib.Core.List.{List, [], _∷_}
 use lib.ListN.{length}
 use lib.Bits.{bitXor}
 use Rattle.base.specs.Choice.{both}
 use Rattle.base.specs.Keys.{same}
+use Rattle.base.specs.Opened.{opened as baseOpened}
 use Rattle.rules.specs.Answers.{Output, read, write, update}
 use Rattle.rules.specs.Listing.{listing}
 use Rattle.rules.specs.declared.Answer.{Answer}
-use Rattle.base.specs.Opened.{opened as baseOpened}
+use Rattle.rules.specs.Opened.{opened as rulesOpened}
 use Rattle.skeleton.specs.Opened.{opened as skeletonOpened}
 use Rattle.fields.specs.Opened.{opened as fieldsOpened}
 use Rattle.forest.specs.Opened.{opened as forestOpened}
-use Rattle.rules.specs.Opened.{opened as rulesOpened}
-
--- n bytes as one number, the first byte the lowest
-unfoldable pub bytes : ℕ → ℕ → List ℕ
-bytes zero v = []
-bytes (suc n) v = v % 256 ∷ bytes n (v / 256)
 
 -- the hash FNV-1a of bytes, 64 bits, from h on
 unfoldable pub fnv : ℕ → List ℕ → ℕ
@@ -62,5 +57,5 @@ all (c ∷ cs) = both (agrees c) (all cs)
 
 -- all that a case computes with
 unfoldable pub casesOpened : Unit {0}
-unfolding baseOpened skeletonOpened fieldsOpened forestOpened rulesOpened bytes fnv hash shown shownOf printed agrees all
+unfolding baseOpened skeletonOpened fieldsOpened forestOpened rulesOpened fnv hash shown shownOf printed agrees all
 casesOpened = tt

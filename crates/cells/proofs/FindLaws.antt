@@ -5,47 +5,33 @@ use mathlib.Core.Bool.{Bool, true, false}
 use mathlib.Core.List.{List, [], _∷_, _++_}
 use native.Mathlib.Nat.{zero-add, sub-zero}
 use native.Mathlib.Omega.{arith}
-use lib.ListN.{length, take, drop, length-take, length-drop, List·getD-eq-default}
-use lib.Seq.{getD-take}
+use lib.ListN.{length, take, drop, length-take, length-drop}
 use lib.Dec.{eqb}
 use borrow.Author.Tests.{eq-eqb, ne-eqb}
 use Rattle.base.specs.Choice.{pick}
 use Rattle.base.specs.Check.{ok, bind, refuse}
 use Rattle.base.specs.Keys.{same, among, leave}
-use Rattle.base.specs.Lists.{each}
+use Rattle.base.specs.Lists.{each, Each}
 use Rattle.base.proofs.KeysLaws.{same-comm}
 use Rattle.fields.specs.Valid.{Bytes}
-use Rattle.fields.proofs.ByteLaws.{bytes-drop}
+use Rattle.fields.proofs.ByteLaws.{bytes-drop, bytes-take}
 use Rattle.fields.proofs.TupleLaws.{split}
 use Rattle.items.specs.Items.{source}
 use Rattle.cells.specs.Cells.{u24, startOf, sliceOf, sizeOf, bodyAt, bodiesFrom}
-use Rattle.cells.specs.Keys.{keyIn, keySize, firstWith, Every, Long}
+use Rattle.cells.specs.Keys.{keyIn, keySize, firstWith, Long}
 use Rattle.cells.proofs.CellLaws.{bodies-more}
 use Rattle.cells.proofs.KeyLaws.{key-part, key-least}
 
 -- ---- each of some bodies
 
 -- one of them
-pub every-at : (P : List ℕ → Type 0) (d u c : List ℕ) (m i j : ℕ) → Every P (bodiesFrom d u c i m) → i ≤ j → j < i + m → P (bodyAt d u c j)
-unfolding bodiesFrom
+pub every-at : (P : List ℕ → Type 0) (d u c : List ℕ) (m i j : ℕ) → Each P (bodiesFrom d u c i m) → i ≤ j → j < i + m → P (bodyAt d u c j)
+unfolding bodiesFrom Each
 every-at P d u c zero i j e h l = absurd (omega arith)
 every-at P d u c (suc m) i j e h l =
     split j i (λ g. let s : j ≡ i = omega arith in rw s (e .0)) (λ g. every-at P d u c m (i + 1) j (e .1) (omega arith) (omega arith))
 
-pub every-append : (P : List ℕ → Type 0) (xs ys : List (List ℕ)) → Every P xs → Every P ys → Every P (xs ++ ys)
-every-append P [] ys p q = q
-every-append P (x ∷ xs) ys p q = (p .0, every-append P xs ys (p .1) q)
-
-pub every-map : (P Q : List ℕ → Type 0) → ((b : List ℕ) → P b → Q b) → (bs : List (List ℕ)) → Every P bs → Every Q bs
-every-map P Q f [] p = tt
-every-map P Q f (b ∷ bs) p = (f b (p .0), every-map P Q f bs (p .1))
-
 -- the bodies are bytes, as the slices are
-bytes-take : (n : ℕ) (l : List ℕ) → Bytes l → Bytes (take n l)
-bytes-take n l h k =
-    split (suc k) n (λ g. rw (getD-take n l k 0 g) (h k))
-    (λ g. rw (List·getD-eq-default (take n l) 0 {n = k} (omega (arith, length-take n l))) (omega arith))
-
 bytes-source : (x : ℕ) (d u : List ℕ) → Bytes d → Bytes u → Bytes (source x d u)
 unfolding source
 bytes-source x d u p q = go (eqb x 0)
@@ -54,8 +40,8 @@ bytes-source x d u p q = go (eqb x 0)
     go true = p
     go false = q
 
-pub bodies-bytes : (d u c : List ℕ) → Bytes d → Bytes u → (m i : ℕ) → Every Bytes (bodiesFrom d u c i m)
-unfolding bodiesFrom bodyAt
+pub bodies-bytes : (d u c : List ℕ) → Bytes d → Bytes u → (m i : ℕ) → Each Bytes (bodiesFrom d u c i m)
+unfolding bodiesFrom bodyAt Each
 bodies-bytes d u c p q zero i = tt
 bodies-bytes d u c p q (suc m) i =
     let src : List ℕ = source (sliceOf c i) d u in
@@ -142,7 +128,7 @@ pub search-start : (d u c : List ℕ) (n : ℕ) (key : List ℕ → List ℕ) (k
 search-start d u c n key k = rw (zero-add, sub-zero)
 
 -- a body that the search reads
-pub search-reads : (k : ℕ) (d u c : List ℕ) (n i : ℕ) → Every (Long k) (bodiesFrom d u c 0 n) → i < n → k ≤ length (bodyAt d u c i)
+pub search-reads : (k : ℕ) (d u c : List ℕ) (n i : ℕ) → Each (Long k) (bodiesFrom d u c 0 n) → i < n → k ≤ length (bodyAt d u c i)
 search-reads k d u c n i e h = every-at (Long k) d u c n 0 i e (omega arith) (omega arith)
 
 pub ruleset search-turn = (search-start, search-here, search-on, search-over, search-reads, arith)

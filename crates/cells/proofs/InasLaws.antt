@@ -11,7 +11,8 @@ use lib.Dec.{eqb}
 use Rattle.base.specs.Choice.{pick}
 use Rattle.base.specs.Check.{ok, bind}
 use Rattle.base.specs.Keys.{join, leave}
-use Rattle.base.specs.Lists.{each}
+use Rattle.base.specs.Lists.{each, Each}
+use Rattle.base.proofs.EachLaws.{each-map}
 use Rattle.skeleton.specs.Place.{between}
 use Rattle.fields.specs.Bytes.{le}
 use Rattle.fields.specs.Table.{headOf, tupleOf}
@@ -25,11 +26,10 @@ use Rattle.rules.specs.Associations.{inasKey}
 use Rattle.rules.specs.Record.{assocOf}
 use Rattle.rules.specs.Modify.{assocKey, actInas}
 use Rattle.cells.specs.Cells.{bodiesOf}
-use Rattle.cells.specs.Keys.{keyIn, Every, Long, InasBody}
+use Rattle.cells.specs.Keys.{keyIn, Long, InasBody}
 use Rattle.cells.specs.Acts.{actOn, Acts, InasActs}
 use Rattle.cells.specs.declared.acting.Acted.{Acted}
 use Rattle.cells.specs.declared.acting.Acted.the-variants.{Refused, Now}
-use Rattle.cells.proofs.FindLaws.{every-map}
 use Rattle.cells.proofs.LiftLaws.{joins-by, leaves-by, act-each}
 
 -- ---- the key of an INAS, inserted or deleted
@@ -76,11 +76,11 @@ module _ (gone : Bool) (b : List ℕ) (e : fill (headOf (format gone)) (tupleOf 
   inas-key = sym key-by ∙ keys-alike gone b ∙ sym (keys-alike (eqb (getD b 9 0) 2) b)
 
 -- stored ones
-pub stored-keys : (bs : List (List ℕ)) → Every InasBody bs → Every (λ (b : List ℕ). keyIn true b ≡ inasKey b) bs
-stored-keys bs p = every-map InasBody (λ (b : List ℕ). keyIn true b ≡ inasKey b) (λ b e. inas-key false b e) bs p
+pub stored-keys : (bs : List (List ℕ)) → Each InasBody bs → Each (λ (b : List ℕ). keyIn true b ≡ inasKey b) bs
+stored-keys bs p = each-map bs (λ b e. inas-key false b e) p
 
-pub stored-long : (bs : List (List ℕ)) → Every InasBody bs → Every (Long 9) bs
-stored-long bs p = every-map InasBody (Long 9) (λ b e. omega (arith, inas-bytes false b e)) bs p
+pub stored-long : (bs : List (List ℕ)) → Each InasBody bs → Each (Long 9) bs
+stored-long bs p = each-map bs (λ b e. omega (arith, inas-bytes false b e)) p
 
 -- ---- what it does to bodies, and to what they say
 
@@ -121,7 +121,7 @@ module _ (d u c : List ℕ) (at end n : ℕ) (g : at ≤ end) (l : end ≤ lengt
   tenth : getD body 9 0 ≡ getD u (at + 9) 0
   tenth = getD-take (end - at) (drop at u) 9 0 (omega (arith, inas-end)) ∙ getD-drop at u 9 0
 
-  module _ (right : Every InasBody (bodiesOf d u c n)) (e : List ℕ) (r : Acted) where
+  module _ (right : Each InasBody (bodiesOf d u c n)) (e : List ℕ) (r : Acted) where
     key-is : keyIn true body ≡ inasKey body
     key-is = inas-key (eqb (getD body 9 0) 2) body by-format
 

@@ -7,13 +7,12 @@ use native.Mathlib.Omega.{arith}
 use Rattle.base.specs.Choice.{pick}
 use Rattle.base.specs.Check.{Check, ok, no, bind, refuse}
 use Rattle.base.specs.Keys.{same, among, join, leave}
-use Rattle.base.specs.Lists.{each}
+use Rattle.base.specs.Lists.{each, Each}
 use Rattle.base.proofs.CheckLaws.{bind-inv, ok-inj}
 use Rattle.base.proofs.ListLaws.{each-append, each-each}
-use Rattle.cells.specs.Keys.{Every}
+use Rattle.base.proofs.EachLaws.{each-join}
 use Rattle.cells.specs.Acts.{actOn, Acts}
 use Rattle.cells.specs.declared.acting.Acted.{Acted}
-use Rattle.cells.proofs.FindLaws.{every-append}
 
 -- ---- keys that are alike
 
@@ -22,22 +21,22 @@ module _ (key other : List ℕ → List ℕ) (j : ℕ) where
   abbrev Alike : List ℕ → Type 0
   Alike b = key b ≡ other b
 
-  each-key : (bs : List (List ℕ)) → Every Alike bs → each key bs ≡ each other bs
-  unfolding each
+  each-key : (bs : List (List ℕ)) → Each Alike bs → each key bs ≡ each other bs
+  unfolding each Each
   each-key [] p = refl
   each-key (b ∷ bs) p = rw (p .0, each-key bs (p .1))
 
-  join-key : (b : List ℕ) (bs : List (List ℕ)) → Alike b → Every Alike bs → join key j b bs ≡ join other j b bs
+  join-key : (b : List ℕ) (bs : List (List ℕ)) → Alike b → Each Alike bs → join key j b bs ≡ join other j b bs
   unfolding join
   join-key b bs e p = rw (e, each-key bs p)
 
-  leave-key : (k : List ℕ) (bs : List (List ℕ)) → Every Alike bs → leave key j k bs ≡ leave other j k bs
-  unfolding leave
+  leave-key : (k : List ℕ) (bs : List (List ℕ)) → Each Alike bs → leave key j k bs ≡ leave other j k bs
+  unfolding leave Each
   leave-key k [] p = refl
   leave-key k (b ∷ bs) p = rw (p .0, leave-key k bs (p .1))
 
   -- what the code answers by one key it answers by the other
-  module _ (b : List ℕ) (bs : List (List ℕ)) (e : Alike b) (p : Every Alike bs) (d u c : List ℕ) (most : ℕ) (r : Acted) (t : Bool) where
+  module _ (b : List ℕ) (bs : List (List ℕ)) (e : Alike b) (p : Each Alike bs) (d u c : List ℕ) (most : ℕ) (r : Acted) (t : Bool) where
     pub joins-by : t ≡ true → Acts (join key j b bs) d u c most r → Acts (actOn other t j b bs) d u c most r
     unfolding actOn
     joins-by x a = rw x (rw (join-key b bs e p) at a)
@@ -85,29 +84,29 @@ module _ {A : Type 0} (f : List ℕ → A) (key : A → List ℕ) (j : ℕ) wher
 -- ---- what holds of each body, and of one that joins, holds of each afterwards
 
 module _ (P : List ℕ → Type 0) (key : List ℕ → List ℕ) (j : ℕ) where
-  join-every : (b : List ℕ) (bs cs : List (List ℕ)) → P b → Every P bs → join key j b bs ≡ ok cs → Every P cs
-  unfolding join
+  join-every : (b : List ℕ) (bs cs : List (List ℕ)) → P b → Each P bs → join key j b bs ≡ ok cs → Each P cs
+  unfolding join Each
   join-every b bs cs p q e = go (among (key b) (each key bs)) e
     where
-      go : (t : Bool) → pick t (refuse 7 j) (ok (bs ++ (b ∷ []))) ≡ ok cs → Every P cs
+      go : (t : Bool) → pick t (refuse 7 j) (ok (bs ++ (b ∷ []))) ≡ ok cs → Each P cs
       go true x = absurd (let z : _≡_ {A = ℕ} 0 1 = cc in omega arith)
-      go false x = let s : bs ++ (b ∷ []) ≡ cs = cc in rw s at (every-append P bs (b ∷ []) q (p, tt))
+      go false x = let s : bs ++ (b ∷ []) ≡ cs = cc in rw s at (each-join P bs (b ∷ []) q (p, tt))
 
-  leave-every : (k : List ℕ) (bs cs : List (List ℕ)) → Every P bs → leave key j k bs ≡ ok cs → Every P cs
-  unfolding leave
+  leave-every : (k : List ℕ) (bs cs : List (List ℕ)) → Each P bs → leave key j k bs ≡ ok cs → Each P cs
+  unfolding leave Each
   leave-every k [] cs q e = absurd (let z : _≡_ {A = ℕ} 0 1 = cc in omega arith)
   leave-every k (b ∷ bs) cs q e = go (same (key b) k) (leave key j k bs) (λ ys x. leave-every k bs ys (q .1) x) e
     where
-      go : (t : Bool) (m : Check (List (List ℕ))) → ((ys : List (List ℕ)) → m ≡ ok ys → Every P ys)
-          → pick t (ok bs) (bind m (λ ys. ok (b ∷ ys))) ≡ ok cs → Every P cs
+      go : (t : Bool) (m : Check (List (List ℕ))) → ((ys : List (List ℕ)) → m ≡ ok ys → Each P ys)
+          → pick t (ok bs) (bind m (λ ys. ok (b ∷ ys))) ≡ ok cs → Each P cs
       go true m ih x = let s : bs ≡ cs = cc in rw s at (q .1)
       go false m ih x =
           let r = bind-inv m (λ (ys : List (List ℕ)). ok (b ∷ ys)) cs x in
           let s : b ∷ r .0 ≡ cs = ok-inj (b ∷ r .0) cs (r .2) in
-          let every : Every P (b ∷ r .0) = (q .0, ih (r .0) (r .1)) in
-          subst (Every P) s every
+          let every : Each P (b ∷ r .0) = (q .0, ih (r .0) (r .1)) in
+          subst (Each P) s every
 
-  pub acted-every : (inserted : Bool) (b : List ℕ) (bs cs : List (List ℕ)) → Every P bs → (inserted ≡ true → P b) → actOn key inserted j b bs ≡ ok cs → Every P cs
+  pub acted-every : (inserted : Bool) (b : List ℕ) (bs cs : List (List ℕ)) → Each P bs → (inserted ≡ true → P b) → actOn key inserted j b bs ≡ ok cs → Each P cs
   unfolding actOn
   acted-every true b bs cs q p e = join-every b bs cs (p refl) q e
   acted-every false b bs cs q p e = leave-every (key b) bs cs q e

@@ -6,8 +6,9 @@ use mathlib.Core.List.{List, [], _∷_, _++_, append-assoc, append-nil}
 use native.Mathlib.Omega.{arith}
 use lib.ListN.{length}
 use lib.Seq.{take-add, drop-drop}
-use Rattle.base.specs.Lists.{each, gather}
+use Rattle.base.specs.Lists.{each, gather, Each}
 use Rattle.base.proofs.ListLaws.{each-append}
+use Rattle.base.proofs.EachLaws.{each-join}
 use Rattle.skeleton.specs.Place.{between}
 use Rattle.fields.specs.Table.{headOf, tupleOf}
 use Rattle.fields.specs.Content.{tuples, many, fill}
@@ -18,9 +19,8 @@ use Rattle.fields.proofs.FieldLaws.{fill-list}
 use Rattle.rules.specs.Record.{Spatial, spatialOf}
 use Rattle.items.specs.Items.{source}
 use Rattle.cells.specs.Cells.{bodiesOf, spatialIn, tupleBodies}
-use Rattle.cells.specs.Keys.{Every, SpasBody}
+use Rattle.cells.specs.Keys.{SpasBody}
 use Rattle.cells.specs.Acts.{SpasLoaded}
-use Rattle.cells.proofs.FindLaws.{every-append}
 use Rattle.cells.proofs.TupleLaws.{step, step-fill, no-tuple}
 
 -- ---- tuples one after the other
@@ -50,8 +50,8 @@ module _ (s : List ℕ) (end : ℕ) (l : end ≤ length s) where
       rw (f .first, tuples-say k (at + 15) (omega arith) (f .rest))
 
   -- each is one of a stored SPAS where the field is
-  tuples-right : (k at : ℕ) → end ≡ at + 15 * k → (tuples (tupleOf SpasNew) (between s at end)) .ending ≡ 0 → Every SpasBody (tupleBodies s at k)
-  unfolding tupleBodies headOf tupleOf
+  tuples-right : (k at : ℕ) → end ≡ at + 15 * k → (tuples (tupleOf SpasNew) (between s at end)) .ending ≡ 0 → Each SpasBody (tupleBodies s at k)
+  unfolding tupleBodies headOf tupleOf Each
   tuples-right zero at e z = tt
   tuples-right (suc k) at e z =
       let f = step (tupleOf SpasNew) refl refl s at end (omega arith) l z in
@@ -139,7 +139,7 @@ module _ (at end x : ℕ) (c₀ : List ℕ) (n : ℕ) (c : List ℕ) (p m : ℕ)
           bodies = is;
           bytes = rw is (gather-append old (tupleBodies src at k) ∙ ap (λ (b : List ℕ). gather (λ (y : List ℕ). y) old ++ b) (tuples-bytes src k at end ends));
           is = λ e l. rw is (each-append spatialIn old (tupleBodies src at k) ∙ ap (λ (b : List Spatial). each spatialIn old ++ b) (tuples-say src end l k at ends (listed (tupleOf Spas) (between src at end) e)));
-          right = λ e l q. rw is (every-append SpasBody old (tupleBodies src at k) q (tuples-right src end l k at ends (listed (tupleOf SpasNew) (between src at end) e)));
+          right = λ e l q. rw is (each-join SpasBody old (tupleBodies src at k) q (tuples-right src end l k at ends (listed (tupleOf SpasNew) (between src at end) e)));
         }
 
 pub ruleset load-turns = (load-start, load-inside, load-room, load-turn, load-count, load-done, arith)

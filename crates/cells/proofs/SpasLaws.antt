@@ -11,7 +11,8 @@ use lib.Seq.{getD-take, getD-drop}
 use lib.Dec.{eqb}
 use Rattle.base.specs.Check.{Check, ok, bind}
 use Rattle.base.specs.Keys.{join, leave}
-use Rattle.base.specs.Lists.{each}
+use Rattle.base.specs.Lists.{each, Each}
+use Rattle.base.proofs.EachLaws.{each-map}
 use Rattle.skeleton.specs.Place.{between}
 use Rattle.skeleton.proofs.BetweenLaws.{length-between}
 use Rattle.fields.specs.Bytes.{le}
@@ -32,11 +33,10 @@ use Rattle.rules.specs.Associations.{spasKey}
 use Rattle.rules.specs.Record.{Spatial, spatialOf}
 use Rattle.rules.specs.Modify.{spatialKey, actSpas}
 use Rattle.cells.specs.Cells.{bodiesOf, spatialIn}
-use Rattle.cells.specs.Keys.{keyIn, Every, Long, SpasBody}
+use Rattle.cells.specs.Keys.{keyIn, Long, SpasBody}
 use Rattle.cells.specs.Acts.{actOn, Acts, actTuple, SpasNow, SpasActs}
 use Rattle.cells.specs.declared.acting.Acted.{Acted}
 use Rattle.cells.specs.declared.acting.Acted.the-variants.{Refused, Now}
-use Rattle.cells.proofs.FindLaws.{every-map}
 use Rattle.cells.proofs.LiftLaws.{joins-by, leaves-by, act-each, acted-every}
 use Rattle.cells.proofs.FrontLaws.{last-insert, one-tuple}
 use Rattle.cells.proofs.TupleLaws.{Step, step, step-fill, no-tuple}
@@ -44,8 +44,8 @@ use Rattle.cells.proofs.TupleLaws.{Step, step, step-fill, no-tuple}
 -- ---- one tuple
 
 -- the key of the spatial association that a tuple is
-abbrev pub keyOf : List ℕ → List ℕ
-keyOf b = spatialKey (spatialIn b)
+abbrev pub tupleKey : List ℕ → List ℕ
+tupleKey b = spatialKey (spatialIn b)
 
 -- the subfields before SAUI
 abbrev front : List Sub
@@ -57,7 +57,7 @@ module _ (b : List ℕ) (size : length b ≡ 15) (e : fill (headOf Spas) (tupleO
   unfolding headOf tupleOf
   next = even-next (tupleOf Spas) refl b 0 (omega arith) (fill-list (tupleOf Spas) b e)
 
-  pub tuple-key : keyIn false b ≡ keyOf b
+  pub tuple-key : keyIn false b ≡ tupleKey b
   unfolding tupleOf keyIn spatialOf spasKey
   tuple-key = sym (rw (tuple-number (tupleOf Spas) b 0 15 next 0 0 1 refl refl .1, tuple-number (tupleOf Spas) b 0 15 next 1 1 4 refl refl .1))
 
@@ -75,11 +75,11 @@ module _ (b : List ℕ) (size : length b ≡ 15) (e : fill (headOf Spas) (tupleO
 pub stored-fill : (b : List ℕ) → SpasBody b → fill (headOf Spas) (tupleOf Spas) b ≡ true
 stored-fill b p = format-wider spas b (p .1) .0
 
-pub stored-keys : (bs : List (List ℕ)) → Every SpasBody bs → Every (λ (b : List ℕ). keyIn false b ≡ keyOf b) bs
-stored-keys bs p = every-map SpasBody (λ (b : List ℕ). keyIn false b ≡ keyOf b) (λ b q. tuple-key b (q .0) (stored-fill b q)) bs p
+pub stored-keys : (bs : List (List ℕ)) → Each SpasBody bs → Each (λ (b : List ℕ). keyIn false b ≡ tupleKey b) bs
+stored-keys bs p = each-map bs (λ b q. tuple-key b (q .0) (stored-fill b q)) p
 
-pub stored-long : (bs : List (List ℕ)) → Every SpasBody bs → Every (Long 5) bs
-stored-long bs p = every-map SpasBody (Long 5) (λ b q. omega (arith, q .0)) bs p
+pub stored-long : (bs : List (List ℕ)) → Each SpasBody bs → Each (Long 5) bs
+stored-long bs p = each-map bs (λ b q. omega (arith, q .0)) p
 
 -- ---- what it does to bodies, and to what they say
 
@@ -87,20 +87,20 @@ stored-long bs p = every-map SpasBody (Long 5) (λ b q. omega (arith, q .0)) bs 
 abbrev inserts : List ℕ → Bool
 inserts b = eqb (numAt (values (tupleOf Spas) b) 5) 1
 
-acts-each : (j : ℕ) (b : List ℕ) (bs : List (List ℕ)) → actTuple j b (each spatialIn bs) ≡ bind (actOn keyOf (inserts b) j b bs) (λ ys. ok (each spatialIn ys))
+acts-each : (j : ℕ) (b : List ℕ) (bs : List (List ℕ)) → actTuple j b (each spatialIn bs) ≡ bind (actOn tupleKey (inserts b) j b bs) (λ ys. ok (each spatialIn ys))
 unfolding actTuple
 acts-each j b bs = act-each spatialIn spatialKey j (inserts b) b bs
 
 -- the code's answer for the bodies is that for what they say
-answered : (j : ℕ) (b : List ℕ) (bs : List (List ℕ)) (d u c : List ℕ) (most n : ℕ) → most ≤ n + 1 → Every SpasBody bs → (inserts b ≡ true → SpasBody b) → (r : Acted)
-    → Acts (actOn keyOf (inserts b) j b bs) d u c most r → SpasActs (actTuple j b (each spatialIn bs)) d u c (n + 1) r
+answered : (j : ℕ) (b : List ℕ) (bs : List (List ℕ)) (d u c : List ℕ) (most n : ℕ) → most ≤ n + 1 → Each SpasBody bs → (inserts b ≡ true → SpasBody b) → (r : Acted)
+    → Acts (actOn tupleKey (inserts b) j b bs) d u c most r → SpasActs (actTuple j b (each spatialIn bs)) d u c (n + 1) r
 unfolding Acts SpasActs bind
 answered j b bs d u c most n h q p (Refused k i) e = acts-each j b bs ∙ rw e
 answered j b bs d u c most n h q p (Now m) e =
-    record { is = acts-each j b bs ∙ rw (e .0); few = omega (arith, e .1); right = acted-every SpasBody keyOf j (inserts b) b bs (bodiesOf d u c m) q p (e .0) }
+    record { is = acts-each j b bs ∙ rw (e .0); few = omega (arith, e .1); right = acted-every SpasBody tupleKey j (inserts b) b bs (bodiesOf d u c m) q p (e .0) }
 
 -- tuple j of a modify, at p of u
-module _ (d u c : List ℕ) (p j n : ℕ) (l : p + 15 ≤ length u) (filled : fill (headOf Spas) (tupleOf Spas) (between u p (p + 15)) ≡ true) (right : Every SpasBody (bodiesOf d u c n))
+module _ (d u c : List ℕ) (p j n : ℕ) (l : p + 15 ≤ length u) (filled : fill (headOf Spas) (tupleOf Spas) (between u p (p + 15)) ≡ true) (right : Each SpasBody (bodiesOf d u c n))
     (e : List ℕ) (r : Acted) where
   abbrev body : List ℕ
   body = between u p (p + 15)
@@ -118,13 +118,13 @@ module _ (d u c : List ℕ) (p j n : ℕ) (l : p + 15 ≤ length u) (filled : fi
       → SpasActs (actTuple j body (each spatialIn (bodiesOf d u c n))) d u e (n + 1) r
   tuple-joins x a =
       answered j body (bodiesOf d u c n) d u e (n + 1) n (omega arith) right stored r
-      (joins-by (keyIn false) keyOf j body (bodiesOf d u c n) (tuple-key body size filled) (stored-keys (bodiesOf d u c n) right) d u e (n + 1) r _ (eq-eqb _ 1 (last ∙ x)) a)
+      (joins-by (keyIn false) tupleKey j body (bodiesOf d u c n) (tuple-key body size filled) (stored-keys (bodiesOf d u c n) right) d u e (n + 1) r _ (eq-eqb _ 1 (last ∙ x)) a)
 
   pub tuple-leaves : (getD u (p + 14) 0 ≡ 1 → ⊥) → Acts (leave (keyIn false) j (keyIn false body) (bodiesOf d u c n)) d u e n r
       → SpasActs (actTuple j body (each spatialIn (bodiesOf d u c n))) d u e (n + 1) r
   tuple-leaves x a =
       answered j body (bodiesOf d u c n) d u e n n (omega arith) right stored r
-      (leaves-by (keyIn false) keyOf j body (bodiesOf d u c n) (tuple-key body size filled) (stored-keys (bodiesOf d u c n) right) d u e n r _ (ne-eqb _ 1 (λ y. x (sym last ∙ y))) a)
+      (leaves-by (keyIn false) tupleKey j body (bodiesOf d u c n) (tuple-key body size filled) (stored-keys (bodiesOf d u c n) right) d u e n r _ (ne-eqb _ 1 (λ y. x (sym last ∙ y))) a)
 
 pub ruleset tuple-ways = (tuple-joins, tuple-leaves, stored-long, arith)
 
@@ -137,11 +137,11 @@ pub record SpasAt (d u : List ℕ) (at end : ℕ) (c₀ : List ℕ) (n : ℕ) (c
   pub room : m + (end - p) / 15 ≤ n + (end - at) / 15
   pub long : length c ≡ length c₀
   pub ending : (tuples (tupleOf Spas) (between u p end)) .ending ≡ 0
-  pub right : Every SpasBody (bodiesOf d u c m)
+  pub right : Each SpasBody (bodiesOf d u c m)
   pub same : actSpas j (many (tupleOf Spas) (between u p end)) (each spatialIn (bodiesOf d u c m))
       ≡ actSpas 1 (many (tupleOf Spas) (between u at end)) (each spatialIn (bodiesOf d u c₀ n))
 
-pub spas-start : (d u : List ℕ) (at end : ℕ) (c : List ℕ) (n : ℕ) → at ≤ end → fill (headOf Spas) (tupleOf Spas) (between u at end) ≡ true → Every SpasBody (bodiesOf d u c n)
+pub spas-start : (d u : List ℕ) (at end : ℕ) (c : List ℕ) (n : ℕ) → at ≤ end → fill (headOf Spas) (tupleOf Spas) (between u at end) ≡ true → Each SpasBody (bodiesOf d u c n)
     → SpasAt d u at end c n c at 1 n
 unfolding headOf endingAt
 spas-start d u at end c n h e q =

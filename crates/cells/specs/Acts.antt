@@ -8,7 +8,7 @@ use lib.Dec.{eqb}
 use Rattle.base.specs.Choice.{pick}
 use Rattle.base.specs.Check.{Check, ok, refuse}
 use Rattle.base.specs.Keys.{join, leave}
-use Rattle.base.specs.Lists.{each, gather}
+use Rattle.base.specs.Lists.{each, gather, Each}
 use Rattle.skeleton.specs.Place.{between}
 use Rattle.fields.specs.Table.{headOf, tupleOf}
 use Rattle.fields.specs.Values.{values, numAt}
@@ -19,7 +19,7 @@ use Rattle.rules.specs.Record.{Spatial, assocOf, spatialOf}
 use Rattle.rules.specs.Modify.{actInas, spatialKey}
 use Rattle.items.specs.Items.{source}
 use Rattle.cells.specs.Cells.{bodiesOf, spatialIn, tupleBodies}
-use Rattle.cells.specs.Keys.{Every, SpasBody}
+use Rattle.cells.specs.Keys.{SpasBody}
 use Rattle.cells.specs.declared.acting.Acted.{Acted}
 use Rattle.cells.specs.declared.acting.Acted.the-variants.{Refused, Now}
 
@@ -32,7 +32,7 @@ pub record SpasLoaded (d u : List ℕ) (at end x : ℕ) (c : List ℕ) (n : ℕ)
   pub is : fill (headOf Spas) (tupleOf Spas) (between (source x d u) at end) ≡ true → end ≤ length (source x d u)
       → each spatialIn (bodiesOf d u e m) ≡ each spatialIn (bodiesOf d u c n) ++ each spatialOf (many (tupleOf Spas) (between (source x d u) at end))
   pub right : fill (headOf SpasNew) (tupleOf SpasNew) (between (source x d u) at end) ≡ true → end ≤ length (source x d u)
-      → Every SpasBody (bodiesOf d u c n) → Every SpasBody (bodiesOf d u e m)
+      → Each SpasBody (bodiesOf d u c n) → Each SpasBody (bodiesOf d u e m)
 
 -- ---- one association joins or leaves
 
@@ -68,7 +68,7 @@ actTuple j b ss =
 pub record SpasNow (x : Check (List Spatial)) (d u c : List ℕ) (most m : ℕ) : Type 0 where
   pub is : x ≡ ok (each spatialIn (bodiesOf d u c m))
   pub few : m ≤ most
-  pub right : Every SpasBody (bodiesOf d u c m)
+  pub right : Each SpasBody (bodiesOf d u c m)
 
 unfoldable pub SpasActs : (x : Check (List Spatial)) (d u c : List ℕ) → ℕ → Acted → Type 0
 SpasActs x d u c most (Refused k j) = x ≡ refuse k j

@@ -29,11 +29,6 @@ firstWith key k (b ∷ bs) = pick (same (key b) k) 0 (suc (firstWith key k bs))
 
 -- ---- what is known of bodies
 
--- each is so
-abbrev pub Every : (List ℕ → Type 0) → List (List ℕ) → Type 0
-Every P [] = Unit {0}
-Every P (b ∷ bs) = P b × Every P bs
-
 -- it has this many bytes at least
 abbrev pub Long : ℕ → List ℕ → Type 0
 Long k b = k ≤ length b

@@ -5,9 +5,10 @@ use memory::close_gap;
 ghost use Prim.Native.Nat.{_+_, _-_, _*_, _≤_, _<_};
 ghost use lib.ListN.{length};
 ghost use Rattle.base.specs.Keys.{join, leave};
+ghost use Rattle.base.specs.Lists.{Each};
 ghost use Rattle.skeleton.specs.Place.{between};
 ghost use Rattle.cells.specs.Cells.{bodiesOf};
-ghost use Rattle.cells.specs.Keys.{keyIn, keySize, Every, Long};
+ghost use Rattle.cells.specs.Keys.{keyIn, keySize, Long};
 ghost use Rattle.cells.specs.Acts.{Acts};
 
 // What a modify's field answers: the number and the tuple of a refusal, or how many cells there are now.
@@ -28,7 +29,7 @@ pub fn join_cells(
     n: usize,
 ) -> Acted
     requires { ⌜ (at + keySize inas ≤ end) × (end ≤ length (now u)) × (end ≤ 16777216) × (end - at < 16777216) × (7 * n + 7 ≤ length (now c))
-        × Every (Long (keySize inas)) (bodiesOf (now d) (now u) (now c) n) ⌝ }
+        × Each (Long (keySize inas)) (bodiesOf (now d) (now u) (now c) n) ⌝ }
     ensures { λ r. ⌜ Acts (join (keyIn inas) j (between (now (u .entry)) at end) (bodiesOf (now (d .entry)) (now (u .entry)) (now (c .entry)) n))
         (now (d .entry)) (now (u .entry)) (now (c .exit)) (n + 1) r ⌝ }
 {
@@ -49,7 +50,7 @@ pub fn leave_cells(
     c: &mut [u8],
     n: usize,
 ) -> Acted
-    requires { ⌜ (at + keySize inas ≤ end) × (end ≤ length (now u)) × (7 * n ≤ length (now c)) × Every (Long (keySize inas)) (bodiesOf (now d) (now u) (now c) n) ⌝ }
+    requires { ⌜ (at + keySize inas ≤ end) × (end ≤ length (now u)) × (7 * n ≤ length (now c)) × Each (Long (keySize inas)) (bodiesOf (now d) (now u) (now c) n) ⌝ }
     ensures { λ r. ⌜ Acts (leave (keyIn inas) j (keyIn inas (between (now (u .entry)) at end)) (bodiesOf (now (d .entry)) (now (u .entry)) (now (c .entry)) n))
         (now (d .entry)) (now (u .entry)) (now (c .exit)) n r ⌝ }
 {

@@ -8,13 +8,14 @@ ghost use mathlib.Core.Bool.{true, false};
 ghost use mathlib.Core.List.{List, [], _∷_, _++_};
 ghost use Prim.Native.Nat.{ℕ, _+_, _-_, _*_, _≤_, _<_};
 ghost use lib.ListN.{length};
+ghost use Rattle.base.specs.Lists.{Each};
 ghost use Rattle.skeleton.specs.Place.{between};
 ghost use Rattle.fields.specs.Table.{headOf, tupleOf};
 ghost use Rattle.fields.specs.Content.{fill};
 ghost use Rattle.rules.specs.Content.{inasFormat};
 ghost use Rattle.items.specs.Items.{source};
 ghost use Rattle.cells.specs.Cells.{bodiesOf};
-ghost use Rattle.cells.specs.Keys.{Every, InasBody};
+ghost use Rattle.cells.specs.Keys.{InasBody};
 ghost use Rattle.cells.specs.Acts.{InasActs};
 
 // A stored INAS, from at to end in the slice that x names, is added behind the first n; how many there are then.
@@ -29,7 +30,7 @@ pub fn load_inas(at: usize, end: usize, x: u8, c: &mut [u8], n: usize) -> usize
 pub fn act_inas(d: &[u8], u: &[u8], at: usize, end: usize, c: &mut [u8], n: usize) -> Acted
     requires { ⌜ (at ≤ end) × (end ≤ length (now u)) × (end ≤ 16777216) × (end - at < 16777216) × (7 * n + 7 ≤ length (now c))
         × (fill (headOf (inasFormat false (between (now u) at end))) (tupleOf (inasFormat false (between (now u) at end))) (between (now u) at end) ≡ true)
-        × Every InasBody (bodiesOf (now d) (now u) (now c) n) ⌝ }
+        × Each InasBody (bodiesOf (now d) (now u) (now c) n) ⌝ }
     ensures { λ r. ⌜ InasActs (between (now (u .entry)) at end) (bodiesOf (now (d .entry)) (now (u .entry)) (now (c .entry)) n)
         (now (d .entry)) (now (u .entry)) (now (c .exit)) n r ⌝ }
 {

@@ -7,8 +7,9 @@ ghost use mathlib.Core.Path.{_≡_};
 ghost use Prim.Native.Nat.{_+_, _*_, _≤_, _<_};
 ghost use lib.ListN.{length, drop};
 ghost use Rattle.base.specs.Keys.{same};
+ghost use Rattle.base.specs.Lists.{Each};
 ghost use Rattle.cells.specs.Cells.{bodyAt, bodiesOf};
-ghost use Rattle.cells.specs.Keys.{keyIn, keySize, firstWith, Every, Long};
+ghost use Rattle.cells.specs.Keys.{keyIn, keySize, firstWith, Long};
 
 // Whether the bytes of a from i on begin with the key with which those of b from j on begin.
 fn same_key(a: &[u8], i: usize, b: &[u8], j: usize, inas: bool) -> bool
@@ -44,7 +45,7 @@ fn has_key(d: &[u8], u: &[u8], c: &[u8], i: usize, at: usize, inas: bool) -> boo
 
 // The first of n cells whose body has the key at `at` of u; n where none has it.
 pub fn find(d: &[u8], u: &[u8], c: &[u8], n: usize, at: usize, inas: bool) -> usize
-    requires { ⌜ (7 * n ≤ length (now c)) × (at + keySize inas ≤ length (now u)) × Every (Long (keySize inas)) (bodiesOf (now d) (now u) (now c) n) ⌝ }
+    requires { ⌜ (7 * n ≤ length (now c)) × (at + keySize inas ≤ length (now u)) × Each (Long (keySize inas)) (bodiesOf (now d) (now u) (now c) n) ⌝ }
     ensures { λ r. ⌜ r ≡ firstWith (keyIn inas) (keyIn inas (drop at (now (u .entry)))) (bodiesOf (now (d .entry)) (now (u .entry)) (now (c .entry)) n) ⌝ }
 {
     let mut i = 0;

@@ -9,7 +9,7 @@ use lib.Dec.{eqb}
 use lib.ListN.{length, drop, length-take, length-drop}
 use Rattle.base.specs.Choice.{both}
 use Rattle.base.specs.Keys.{same}
-use Rattle.base.specs.Lists.{gather}
+use Rattle.base.specs.Lists.{gather, Each}
 use Rattle.base.proofs.ChoiceLaws.{both-true}
 use Rattle.skeleton.specs.Place.{between}
 use Rattle.fields.specs.Bytes.{le}
@@ -21,7 +21,7 @@ use Rattle.fields.proofs.FieldLaws.{head-length}
 use Rattle.fields.proofs.ValueLaws.{head-number}
 use Rattle.rules.specs.Record.{foidOf}
 use Rattle.items.specs.Items.{source}
-use Rattle.version.specs.Held.{All, RightFoid, foidBodies}
+use Rattle.version.specs.Held.{RightFoid, foidBodies}
 use Rattle.version.specs.declared.Version.{Version}
 
 -- ---- one FOID
@@ -74,7 +74,7 @@ eight-inside : (s : List ℕ) (i : ℕ) → length (between s i (i + 8)) ≡ 8 �
 eight-inside s i e = let l : length (between s i (i + 8)) ≤ length s - i = simp (length-take, length-drop) (omega arith) in omega (arith, l, e)
 
 module _ (d u : List ℕ) (from to : ℕ) (v : Version) (pre : (from ≤ to) × (to ≤ length u) × (length d ≤ 16777216) × (length u ≤ 16777216)
-    × (fill (headOf Foid) [] (between u from to) ≡ true) × All RightFoid (foidBodies d u v)) where
+    × (fill (headOf Foid) [] (between u from to) ≡ true) × Each RightFoid (foidBodies d u v)) where
   pub held-none : v .foids ≡ 0 → false ≡ same (foidOf (between u from to)) (gather foidOf (foidBodies d u v))
   unfolding foidBodies gather foidOf same
   held-none z = rw z refl
@@ -85,8 +85,8 @@ module _ (d u : List ℕ) (from to : ℕ) (v : Version) (pre : (from ≤ to) × 
     bodies-are = rw (ne-eqb (v .foids) 0 some, is) refl
 
     pub held-right : fill (headOf Foid) [] (between s (v .foid) (v .foid + 8)) ≡ true
-    unfolding All
-    held-right = (subst (All RightFoid) bodies-are (pre .5)) .0 .filled
+    unfolding Each
+    held-right = (subst (Each RightFoid) bodies-are (pre .5)) .0 .filled
 
     pub held-inside : v .foid + 8 ≤ length s
     held-inside = eight-inside s (v .foid) (foid-long (between s (v .foid) (v .foid + 8)) held-right)

@@ -6,8 +6,10 @@ use mathlib.Core.List.{List, [], _∷_}
 use native.Mathlib.Omega.{arith}
 use lib.ListN.{length}
 use Rattle.base.specs.Check.{ok}
+use Rattle.base.specs.Lists.{Each}
 use Rattle.base.proofs.CheckLaws.{bind-inv, refused}
 use Rattle.base.proofs.OptionLaws.{never}
+use Rattle.base.proofs.EachLaws.{each-map}
 use Rattle.skeleton.specs.File.{Field}
 use Rattle.skeleton.specs.Place.{between, placeAt, fieldsAt}
 use Rattle.skeleton.specs.Record.{recordAt}
@@ -19,11 +21,10 @@ use Rattle.skeleton.specs.declared.place.Place.the-variants.{At, Done}
 use Rattle.skeleton.proofs.PlaceLaws.{place-runs, place-in, fields-more, fields-done}
 use Rattle.skeleton.proofs.RecordLaws.{right}
 use Rattle.fields.specs.Table.{headOf, tupleOf}
-use Rattle.fields.specs.Valid.{allows}
+use Rattle.fields.specs.Valid.{allows, Has}
 use Rattle.fields.specs.declared.Format.the-variants.{Irid, Prid, Mrid, Frid}
 use Rattle.fields.proofs.ValueLaws.{head-allowed}
 use Rattle.fields.proofs.SizeLaws.{in-range}
-use Rattle.rules.specs.Tags.{FOID}
 use Rattle.rules.specs.ByTag.{front, firstTag}
 use Rattle.rules.specs.Kind.{kindOf, coded}
 use Rattle.rules.specs.Grammar.{ruinByte, asStored, number4}
@@ -33,10 +34,8 @@ use Rattle.rules.specs.declared.Kind.{Kind}
 use Rattle.rules.specs.declared.Kind.the-variants.{Info, Point, Multi, Feature}
 use Rattle.rules.specs.declared.Mode.the-variants.{InUpdate}
 use Rattle.rules.proofs.FilledLaws.{stands-fill}
-use Rattle.sequence.specs.Keyed.{Each}
 use Rattle.updates.proofs.ReadEach.{passes-kind}
-use Rattle.sound.proofs.Lists.{each-map}
-use Rattle.sound.proofs.Stand.{Has, Formed, all-formed}
+use Rattle.sound.proofs.Stand.{Formed, all-formed}
 use Rattle.sound.proofs.Records.{ruin-byte}
 use Rattle.sound.proofs.Changed.{tests}
 use Rattle.contents.specs.Fit.{identified}

@@ -5,7 +5,7 @@ use mathlib.Core.Option.{Option, some as there}
 use mathlib.Core.List.{List}
 use native.Mathlib.Omega.{arith}
 use Rattle.base.specs.Check.{ok, bind}
-use Rattle.base.specs.Lists.{gather}
+use Rattle.base.specs.Lists.{gather, Each}
 use Rattle.skeleton.specs.File.{Field}
 use Rattle.skeleton.specs.Place.{between, fieldsAt}
 use Rattle.skeleton.specs.declared.directory.Shape.{Shape}
@@ -20,7 +20,7 @@ use Rattle.sequence.specs.Keyed.{Under}
 use Rattle.updates.specs.Acts.{chart}
 use Rattle.sound.proofs.Changed.{key-names}
 use Rattle.emission.proofs.SmallLaws.{small-attr, small-inas, small-coord, small-spas}
-use Rattle.version.specs.Held.{All, RightFoid, foidBodies, HeldParts, Held}
+use Rattle.version.specs.Held.{RightFoid, foidBodies, HeldParts, Held}
 use Rattle.version.specs.Present.{HeldAs, ChangedTo, FlagsKept}
 use Rattle.version.specs.declared.Version.{Version}
 use Rattle.version.specs.declared.Present.{Present}
@@ -73,7 +73,7 @@ held-revised d u w o v e n r q h s p =
       code = s .code ∙ h .code;
       rver = refl;
       foid = h .foid ∙ ap (gather foidOf) (bodies-kept d u v e n s);
-      foid-right = subst (All RightFoid) (bodies-kept d u v e n s) (h .foid-right);
+      foid-right = subst (Each RightFoid) (bodies-kept d u v e n s) (h .foid-right);
       parts = parts-now d u o e n q p;
     }
 
@@ -117,7 +117,7 @@ module _ (d u w : List ℕ) (at len : ℕ) (h : Shape) (k : Kind) (s : Said) (p 
   pub modify-held : (r : Rec) × Held d u w v r
   modify-held = (stands .old, stands .held)
 
-  pub modify-right : All RightFoid (foidBodies d u v)
+  pub modify-right : Each RightFoid (foidBodies d u v)
   modify-right = stands .held .foid-right
 
   kind-is : k ≡ v .kind

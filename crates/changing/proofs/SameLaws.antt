@@ -10,7 +10,7 @@ use lib.ListN.{length}
 use Rattle.base.specs.Choice.{pick}
 use Rattle.base.specs.Check.{Passed, pass, no, fault}
 use Rattle.base.specs.Keys.{same}
-use Rattle.base.specs.Lists.{gather}
+use Rattle.base.specs.Lists.{gather, Each}
 use Rattle.skeleton.specs.File.{Field}
 use Rattle.skeleton.specs.Place.{between, placeAt, fieldsAt}
 use Rattle.skeleton.specs.Record.{recordAt}
@@ -26,8 +26,7 @@ use Rattle.rules.specs.Tags.{FOID}
 use Rattle.rules.specs.Record.{Rec, foidOf}
 use Rattle.rules.specs.Change.{sameFoid}
 use Rattle.rules.specs.Written.{fieldAs}
-use Rattle.sequence.specs.Keyed.{Each}
-use Rattle.version.specs.Held.{All, RightFoid, foidBodies}
+use Rattle.version.specs.Held.{RightFoid, foidBodies}
 use Rattle.version.specs.declared.Version.{Version}
 use Rattle.changing.specs.Foids.{FoidFilled, agreeing, sameFrom}
 use Rattle.changing.specs.declared.foid.Foids.{Foids}
@@ -76,7 +75,7 @@ pub record SameAt (d u : List ℕ) (at len : ℕ) (h : Shape) (v : Version) (q i
 
 module _ (d u : List ℕ) (at len : ℕ) (h : Shape) (v : Version)
     (pre : (recordAt u at ≡ Good len (h .base) (h .a) (h .b)) × (length d ≤ 16777216) × (length u ≤ 16777216) × Each FoidFilled (fieldsAt (between u at (at + len)) h 24)
-    × All RightFoid (foidBodies d u v)) where
+    × Each RightFoid (foidBodies d u v)) where
   pub same-inside : at + len ≤ length u
   same-inside = right u at (recordAt u at) refl len (h .base) (h .a) (h .b) (pre .0) .inside
 

@@ -11,7 +11,7 @@ ghost use mathlib.Core.List.{[]};
 ghost use Prim.Native.Nat.{_+_, _≤_};
 ghost use lib.ListN.{length};
 ghost use Rattle.base.specs.Keys.{same};
-ghost use Rattle.base.specs.Lists.{gather};
+ghost use Rattle.base.specs.Lists.{gather, Each};
 ghost use Rattle.skeleton.specs.Place.{between, fieldsAt};
 ghost use Rattle.skeleton.specs.Record.{recordAt};
 ghost use Rattle.skeleton.specs.declared.leader.Head.the-variants.{Good};
@@ -20,8 +20,7 @@ ghost use Rattle.fields.specs.Content.{fill};
 ghost use Rattle.fields.specs.declared.Format.the-variants.{Foid};
 ghost use Rattle.rules.specs.Record.{foidOf};
 ghost use Rattle.rules.specs.Written.{fieldAs};
-ghost use Rattle.sequence.specs.Keyed.{Each};
-ghost use Rattle.version.specs.Held.{All, RightFoid, foidBodies};
+ghost use Rattle.version.specs.Held.{RightFoid, foidBodies};
 ghost use Rattle.changing.specs.Foids.{FoidFilled, agreeing, sameFrom};
 
 // Each FOID is the version's; or the number of the field that is another.
@@ -46,7 +45,7 @@ fn equal_foids(a: &[u8], b: &[u8]) -> bool
 // The FOID from `from` up to `to` of u is that of version v, if v has one.
 fn held_foid(d: &[u8], u: &[u8], from: usize, to: usize, v: Version) -> bool
     requires { ⌜ (from ≤ to) × (to ≤ length (now u)) × (length (now d) ≤ 16777216) × (length (now u) ≤ 16777216)
-        × (fill (headOf Foid) [] (between (now u) from to) ≡ true) × All RightFoid (foidBodies (now d) (now u) v) ⌝ }
+        × (fill (headOf Foid) [] (between (now u) from to) ≡ true) × Each RightFoid (foidBodies (now d) (now u) v) ⌝ }
     ensures { λ r. ⌜ r ≡ same (foidOf (between (now (u .entry)) from to)) (gather foidOf (foidBodies (now (d .entry)) (now (u .entry)) v)) ⌝ }
 {
     if v.foids == 0 {
@@ -62,7 +61,7 @@ fn held_foid(d: &[u8], u: &[u8], from: usize, to: usize, v: Version) -> bool
 // A field from `from` up to `to` of u agrees with version v: it is no FOID (0x464f4944), or that of v.
 fn agrees(d: &[u8], u: &[u8], tag: u32, from: usize, to: usize, v: Version) -> bool
     requires { ⌜ (from ≤ to) × (to ≤ length (now u)) × (length (now d) ≤ 16777216) × (length (now u) ≤ 16777216)
-        × FoidFilled (fieldAs tag (between (now u) from to)) × All RightFoid (foidBodies (now d) (now u) v) ⌝ }
+        × FoidFilled (fieldAs tag (between (now u) from to)) × Each RightFoid (foidBodies (now d) (now u) v) ⌝ }
     ensures { λ r. ⌜ r ≡ agreeing (gather foidOf (foidBodies (now (d .entry)) (now (u .entry)) v)) (fieldAs tag (between (now (u .entry)) from to)) ⌝ }
 {
     if tag == 0x464f4944 {
@@ -74,7 +73,7 @@ fn agrees(d: &[u8], u: &[u8], tag: u32, from: usize, to: usize, v: Version) -> b
 // The fields of the record u[at..at + len], numbered from 1, agree with version v.
 pub fn same_foid(d: &[u8], u: &[u8], at: usize, len: usize, h: Shape, v: Version) -> Foids
     requires { ⌜ (recordAt (now u) at ≡ Good len (h .base) (h .a) (h .b)) × (length (now d) ≤ 16777216) × (length (now u) ≤ 16777216)
-        × Each FoidFilled (fieldsAt (between (now u) at (at + len)) h 24) × All RightFoid (foidBodies (now d) (now u) v) ⌝ }
+        × Each FoidFilled (fieldsAt (between (now u) at (at + len)) h 24) × Each RightFoid (foidBodies (now d) (now u) v) ⌝ }
     ensures { λ r. ⌜ r ≡ sameFrom (gather foidOf (foidBodies (now (d .entry)) (now (u .entry)) v)) 1 (fieldsAt (between (now (u .entry)) at (at + len)) h 24) ⌝ }
 {
     let stop = at + len;

@@ -2,36 +2,37 @@
 use Prim.Native.Nat.{ℕ, suc, _+_, _-_, _*_, _≤_, _<_}
 use mathlib.Core.Path.{_≡_, sym, ap, _∙_}
 use mathlib.Core.Bool.{Bool, true, false, not}
-use mathlib.Core.List.{List, [], _∷_}
+use mathlib.Core.List.{List, _∷_}
 use native.Mathlib.Omega.{arith}
 use borrow.Author.Tests.{eq-eqb, ne-eqb, not-true, not-false}
 use lib.ListN.{length, getD, take, drop, length-take, length-drop}
+use Rattle.base.specs.Lists.{each, Each}
+use Rattle.base.specs.Walk.{Got}
+use Rattle.base.proofs.EachLaws.{each-map}
 use Rattle.items.specs.Items.{source}
 use Rattle.cells.specs.Cells.{u24, bodyAt, bodiesFrom, bodiesOf}
+use Rattle.cells.proofs.SpasLaws.{tupleKey}
 use Rattle.keys.specs.Key.{keyAt}
-use Rattle.keys.proofs.KeyLaws.{key-part}
 use Rattle.keys.specs.Key.{KeyFits}
 use Rattle.keys.specs.Numbered.{numberOf, Ranged}
+use Rattle.keys.proofs.KeyLaws.{key-part}
 use Rattle.keys.proofs.NamedLaws.{Names, inas-names, spas-names}
 use Rattle.fields.specs.Valid.{Bytes}
-use Rattle.fields.specs.declared.Format.the-variants.{InasNew, Spas, SpasNew}
 use Rattle.fields.proofs.ByteLaws.{bytes-drop, le-bound}
 use Rattle.fields.proofs.WiderLaws.{spas, format-wider}
 use Rattle.skeleton.specs.File.{recordsFrom}
-use Rattle.base.specs.Lists.{each}
-use Rattle.base.specs.Walk.{Got}
 use Rattle.rules.specs.Associations.{inasKey, spasKey}
 use Rattle.rules.specs.Record.{Rec, spatialOf}
 use Rattle.sequence.specs.Stream.{standing}
 use Rattle.updates.specs.Acts.{chart}
 use Rattle.contents.proofs.SpatialLaws.{spas-next, spas-ends}
 use Rattle.version.specs.Areas.{inasArea, spasArea}
-use Rattle.version.specs.Held.{All, RightInas, RightSpas, HeldParts, Held}
+use Rattle.version.specs.Held.{RightInas, RightSpas, HeldParts, Held}
 use Rattle.version.specs.declared.Version.{Version}
 use Rattle.composing.specs.Keys.{Begins, KeyOf}
 use Rattle.composing.specs.Settled.{Settled, Tells, TellsAll, Alike, TellsOf}
 use Rattle.composing.specs.Told.{TellsCells, TellsHeld}
-use Rattle.composing.proofs.LinkedLaws.{tupleKey, held-linked}
+use Rattle.composing.proofs.LinkedLaws.{held-linked}
 use Rattle.composing.proofs.NamingLaws.{alike-same, alike-over, first-more, first-loose}
 
 -- ---- the key of one cell
@@ -58,8 +59,8 @@ pub ruleset cell-ways = (cell-old, cell-new)
 
 pub record Left (d : List ℕ) (ds : ℕ) (u : List ℕ) (us : ℕ) (flags c : List ℕ) (m i : ℕ) : Type 0 where
   pub count : i ≤ m
-  pub begins : (f : List ℕ → List ℕ) → All (Begins f) (bodiesOf d u c m) → All (Begins f) (bodiesFrom d u c i (m - i))
-  pub alike : (f : List ℕ → List ℕ) → All (Begins f) (bodiesOf d u c m) → Alike d ds u us flags (each f (bodiesFrom d u c i (m - i))) (each f (bodiesOf d u c m))
+  pub begins : (f : List ℕ → List ℕ) → Each (Begins f) (bodiesOf d u c m) → Each (Begins f) (bodiesFrom d u c i (m - i))
+  pub alike : (f : List ℕ → List ℕ) → Each (Begins f) (bodiesOf d u c m) → Alike d ds u us flags (each f (bodiesFrom d u c i (m - i))) (each f (bodiesOf d u c m))
 
 module _ (d : List ℕ) (ds : ℕ) (u : List ℕ) (us : ℕ) (flags c : List ℕ) (m : ℕ) where
   pub left-start : Left d ds u us flags c m 0
@@ -82,11 +83,11 @@ module _ (d : List ℕ) (ds : ℕ) (u : List ℕ) (us : ℕ) (flags c : List ℕ
       one : m - i ≡ suc (m - (i + 1))
       one = omega arith
 
-      here : (f : List ℕ → List ℕ) → All (Begins f) (bodiesOf d u c m) → Begins f (bodyAt d u c i) × All (Begins f) (bodiesFrom d u c (i + 1) (m - (i + 1)))
-      unfolding bodiesFrom All
+      here : (f : List ℕ → List ℕ) → Each (Begins f) (bodiesOf d u c m) → Begins f (bodyAt d u c i) × Each (Begins f) (bodiesFrom d u c (i + 1) (m - (i + 1)))
+      unfolding bodiesFrom Each
       here f a = rw one at (l .begins f a)
 
-      split : (f : List ℕ → List ℕ) → All (Begins f) (bodiesOf d u c m)
+      split : (f : List ℕ → List ℕ) → Each (Begins f) (bodiesOf d u c m)
           → Alike d ds u us flags (f (bodyAt d u c i) ∷ each f (bodiesFrom d u c (i + 1) (m - (i + 1)))) (each f (bodiesOf d u c m))
       unfolding bodiesFrom each
       split f a = rw one at (l .alike f a)
@@ -148,16 +149,11 @@ spas-begins b r =
     let n = spas-names b 0 15 (spas-next b 0 e z) (bytes-fit b (r .bytes)) in
     record { room = n .room; ranged = n .ranged; number = n .number }
 
-all-map : {A : Type 0} (P Q : A → Type 0) → ((a : A) → P a → Q a) → (l : List A) → All P l → All Q l
-unfolding All
-all-map P Q f [] h = tt
-all-map P Q f (a ∷ l) h = (f a (h .0), all-map P Q f l (h .1))
-
 module _ (d : List ℕ) (ds : ℕ) (u : List ℕ) (us : ℕ) (flags w : List ℕ) (v : Version) (x : Bool)
     (t : TellsCells d ds u us flags (bodiesOf d u (inasArea w) (v .inas)) x) where
   inas-told : (r : Rec) → Held d u w v r → TellsAll d ds u us flags (each inasKey (bodiesOf d u (inasArea w) (v .inas))) x
   unfolding TellsCells
-  inas-told r h = t inasKey (all-map RightInas (Begins inasKey) inas-begins (bodiesOf d u (inasArea w) (v .inas)) (h .parts .inas-right))
+  inas-told r h = t inasKey (each-map (bodiesOf d u (inasArea w) (v .inas)) inas-begins (h .parts .inas-right))
 
   pub held-loose : not x ≡ true → TellsHeld d ds u us flags w v false
   unfolding TellsHeld TellsOf TellsAll
@@ -169,7 +165,7 @@ module _ (d : List ℕ) (ds : ℕ) (u : List ℕ) (us : ℕ) (flags w : List ℕ
   unfolding TellsHeld TellsOf TellsAll TellsCells
   held-told y z q r h recs s =
       let e = inas-told r h recs s in
-      let g = q tupleKey (all-map RightSpas (Begins tupleKey) spas-begins (bodiesOf d u (spasArea w) (v .spas)) (h .parts .spas-right)) recs s in
+      let g = q tupleKey (each-map (bodiesOf d u (spasArea w) (v .spas)) spas-begins (h .parts .spas-right)) recs s in
       sym (held-linked (standing chart recs ((recordsFrom u us) .items)) d u w v r h ∙ rw (← e, not-false x y, ← g))
 
 pub ruleset held-ways = (held-loose, held-told, arith)

@@ -10,7 +10,7 @@ use lib.Dec.{eqb}
 use Rattle.base.specs.Choice.{pick}
 use Rattle.base.specs.Check.{ok, bind}
 use Rattle.base.specs.Keys.{same}
-use Rattle.base.specs.Lists.{each}
+use Rattle.base.specs.Lists.{each, Each}
 use Rattle.base.proofs.CheckLaws.{bind-inv, ok-inj}
 use Rattle.base.proofs.ChoiceLaws.{neither, both-true}
 use Rattle.skeleton.specs.File.{Field}
@@ -28,7 +28,7 @@ use Rattle.contents.specs.Fit.{identified}
 use Rattle.contents.proofs.ReaderLaws.{five-identified}
 use Rattle.contents.proofs.SevenLaws.{four-first}
 use Rattle.contents.proofs.SpatialLaws.{eqb-swap}
-use Rattle.sequence.specs.Keyed.{Each, Parts}
+use Rattle.sequence.specs.Keyed.{Parts}
 use Rattle.sequence.specs.Order.{isDelete, deleted}
 use Rattle.sequence.proofs.Tests.{by-bool, both-no}
 use Rattle.updates.specs.Acts.{kindIn, namedBy, actOf, doneBy, chart}

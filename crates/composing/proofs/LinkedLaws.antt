@@ -17,7 +17,7 @@ use Rattle.fields.specs.Content.{many}
 use Rattle.fields.specs.declared.Format.the-variants.{Spas}
 use Rattle.rules.specs.Tags.{INAS, SPAS}
 use Rattle.rules.specs.ByTag.{withTag, bodies}
-use Rattle.rules.specs.Associations.{Mark, inasKey, spasKey, marks}
+use Rattle.rules.specs.Associations.{Mark, inasKey, spasKey, spasKeys, marks, fieldKeys}
 use Rattle.rules.specs.Record.{Rec, assocOf, spatialOf, partsOf, recOf}
 use Rattle.rules.specs.Modify.{assocKey, spatialKey}
 use Rattle.rules.specs.Written.{writtenFields}
@@ -26,17 +26,14 @@ use Rattle.rules.proofs.MarkLaws.{markKey}
 use Rattle.sequence.proofs.Tests.{by-bool}
 use Rattle.updates.specs.Streamed.{refersTo}
 use Rattle.sound.specs.Sound.{SoundRec}
-use Rattle.sound.proofs.Marks.{fieldKeys, marks-keys}
+use Rattle.sound.proofs.Marks.{marks-keys}
 use Rattle.sound.proofs.WrittenKeys.{written-keys}
 use Rattle.cells.specs.Cells.{bodiesOf, spatialIn}
+use Rattle.cells.proofs.SpasLaws.{tupleKey}
 use Rattle.version.specs.Areas.{inasArea, spasArea}
 use Rattle.version.specs.Held.{Held}
 use Rattle.version.specs.declared.Version.{Version}
 use Rattle.composing.specs.Linked.{allStand, linked}
-
--- the key of a tuple of SPAS
-abbrev pub tupleKey : List ℕ → List ℕ
-tupleKey b = spatialKey (spatialIn b)
 
 -- ---- tests in any order
 
@@ -92,25 +89,21 @@ module _ (stands : List ℕ → Bool) where
 
   -- ---- of fields
 
-  -- the keys of SPAS bodies
-  abbrev spasKeys : List (List ℕ) → List (List ℕ)
-  spasKeys bs = gather (λ b. each spasKey (many (tupleOf Spas) b)) bs
-
   -- INAS and SPAS apart
-  pub stand-apart : (fs : List Field) → allStand stands (gather fieldKeys fs) ≡ both (allStand stands (each inasKey (bodies INAS fs))) (allStand stands (spasKeys (bodies SPAS fs)))
+  pub stand-apart : (fs : List Field) → allStand stands (gather fieldKeys fs) ≡ both (allStand stands (each inasKey (bodies INAS fs))) (allStand stands (gather spasKeys (bodies SPAS fs)))
   unfolding allStand gather fieldKeys bodies withTag each
   stand-apart [] = refl
   stand-apart (f ∷ fs) =
-      let here = each spasKey (many (tupleOf Spas) (f .body)) in
+      let here = spasKeys (f .body) in
       let i = allStand stands (each inasKey (bodies INAS fs)) in
-      let s = allStand stands (spasKeys (bodies SPAS fs)) in
+      let s = allStand stands (gather spasKeys (bodies SPAS fs)) in
       by-bool (eqb (f .tag) INAS)
       (λ h. let g : eqb (f .tag) SPAS ≡ false = ap (λ (t : ℕ). eqb t SPAS) (eqb-true (f .tag) INAS h) in
       rw (h, g) (ap (both (stands (take 2 (inasKey (f .body))))) (stand-apart fs) ∙ sym (both-assoc (stands (take 2 (inasKey (f .body)))) i s)))
       (λ h. by-bool (eqb (f .tag) SPAS)
       (λ g. rw (h, g)
       (stand-join here (gather fieldKeys fs) ∙ ap (both (allStand stands here)) (stand-apart fs) ∙ both-swap (allStand stands here) i s
-      ∙ ap (both i) (sym (stand-join here (spasKeys (bodies SPAS fs))))))
+      ∙ ap (both i) (sym (stand-join here (gather spasKeys (bodies SPAS fs))))))
       (λ g. rw (h, g) (stand-apart fs)))
 
   -- of a record by its fields
@@ -118,8 +111,8 @@ module _ (stands : List ℕ → Bool) where
   unfolding linked recOf partsOf
   fields-linked k fs =
       let a : each assocKey (each assocOf (bodies INAS fs)) ≡ each inasKey (bodies INAS fs) = each-each assocKey assocOf (bodies INAS fs) ∙ (unfold assocOf in refl) in
-      let b : each spatialKey (each spatialOf (gather (many (tupleOf Spas)) (bodies SPAS fs))) ≡ spasKeys (bodies SPAS fs)
-      = each-each spatialKey spatialOf (gather (many (tupleOf Spas)) (bodies SPAS fs)) ∙ (unfold spatialOf in each-gather spasKey (many (tupleOf Spas)) (bodies SPAS fs)) in
+      let b : each spatialKey (each spatialOf (gather (many (tupleOf Spas)) (bodies SPAS fs))) ≡ gather spasKeys (bodies SPAS fs)
+      = each-each spatialKey spatialOf (gather (many (tupleOf Spas)) (bodies SPAS fs)) ∙ (unfold spatialOf spasKeys in each-gather spasKey (many (tupleOf Spas)) (bodies SPAS fs)) in
       ap₂ (λ (x y : List (List ℕ)). both (allStand stands x) (allStand stands y)) a b ∙ sym (stand-apart fs)
 
   -- ---- of a record that the workspace holds

@@ -1,6 +1,6 @@
 -- Laws of one record of the result. Assumes nothing.
 use Prim.Native.Nat.{ℕ}
-use mathlib.Core.Path.{_≡_, sym, ap, subst, _∙_}
+use mathlib.Core.Path.{_≡_, sym, subst, _∙_}
 use mathlib.Core.Bool.{Bool, true, false, not}
 use mathlib.Core.List.{List}
 use borrow.Author.Tests.{not-true, not-false}
@@ -10,21 +10,19 @@ use Rattle.skeleton.specs.File.{Field, recordsFrom}
 use Rattle.rules.specs.Record.{Rec, recOf}
 use Rattle.rules.specs.Written.{writtenFields}
 use Rattle.rules.specs.declared.Kind.{Kind}
+use Rattle.rules.specs.Associations.{fieldKeys}
 use Rattle.sequence.specs.Stream.{standing}
 use Rattle.updates.specs.Acts.{chart}
 use Rattle.sound.specs.Sound.{SoundRec}
 use Rattle.version.specs.Held.{Held}
 use Rattle.version.specs.declared.Version.{Version}
 use Rattle.writing.specs.House.{inHouseForm}
-use Rattle.composing.specs.Linked.{allStand}
-use Rattle.composing.specs.Keys.{keysIn}
 use Rattle.composing.specs.Settled.{Settled, TellsAll, TellsOf}
 use Rattle.composing.specs.Told.{TellsHeld}
 use Rattle.composing.specs.Emitted.{Emitted}
 use Rattle.composing.specs.Made.{MadeOf, Carries}
 use Rattle.composing.specs.declared.making.Made.the-variants.{Loose, Next}
 use Rattle.composing.proofs.LinkedLaws.{linked-pass, linked-no, fields-linked}
-use Rattle.composing.proofs.NamingLaws.{keys-same}
 
 module _ (d : List ℕ) (ds : ℕ) (u : List ℕ) (us : ℕ) (flags : List ℕ) (to : ℕ) (before out : List ℕ) where
   -- whether a record stands in the end
@@ -44,10 +42,10 @@ module _ (d : List ℕ) (ds : ℕ) (u : List ℕ) (us : ℕ) (flags : List ℕ) 
 
   -- ---- by its fields
 
-  module _ (fs : List Field) (x : Bool) (t : TellsAll d ds u us flags (gather keysIn fs) x) where
+  module _ (fs : List Field) (x : Bool) (t : TellsAll d ds u us flags (gather fieldKeys fs) x) where
     of-fields : (k : Kind) → TellsOf d ds u us flags (recOf k fs) x
     unfolding TellsOf TellsAll
-    of-fields k recs s = t recs s ∙ ap (allStand (final recs)) (keys-same fs) ∙ sym (fields-linked (final recs) k fs)
+    of-fields k recs s = t recs s ∙ sym (fields-linked (final recs) k fs)
 
     pub carries-loose : not x ≡ true → Carries d ds u us flags fs to before out Loose
     unfolding Carries

@@ -22,7 +22,7 @@ use Rattle.skeleton.specs.declared.directory.Shape.{Shape}
 use Rattle.skeleton.specs.declared.place.Place.{Place}
 use Rattle.skeleton.specs.declared.place.Place.the-variants.{At, Done}
 use Rattle.skeleton.proofs.PlaceLaws.{fields-more, fields-done}
-use Rattle.rules.specs.Associations.{inasKey, spasKey}
+use Rattle.rules.specs.Associations.{inasKey, spasKey, fieldKeys, spasKeys}
 use Rattle.rules.specs.Record.{Rec}
 use Rattle.sequence.specs.Stream.{standing}
 use Rattle.updates.specs.Acts.{chart}
@@ -33,16 +33,9 @@ use Rattle.keys.specs.Numbered.{numberOf, Ranged}
 use Rattle.keys.proofs.NamedLaws.{Names, inas-names, spas-names}
 use Rattle.references.proofs.ReadableLaws.{inas-readable, spas-readable, readable-here, readable-next}
 use Rattle.references.proofs.RecordLaws.{part-small, tuples-end, tuples-in, tuples-falls, tuples-word}
-use Rattle.sound.proofs.Marks.{fieldKeys}
 use Rattle.composing.specs.Linked.{allStand}
-use Rattle.composing.specs.Keys.{spasKeys, keysIn}
 use Rattle.composing.specs.Settled.{Settled, Tells, TellsAll, Alike}
 use Rattle.composing.proofs.LinkedLaws.{stand-join}
-
--- the keys of fields are those that the rules' numbers 7 and 11 take
-pub keys-same : (fs : List Field) → gather keysIn fs ≡ gather fieldKeys fs
-unfolding keysIn fieldKeys
-keys-same fs = refl
 
 module _ (d : List ℕ) (ds : ℕ) (u : List ℕ) (us : ℕ) (flags : List ℕ) where
   -- whether a record stands in the end
@@ -105,7 +98,7 @@ module _ (d : List ℕ) (ds : ℕ) (u : List ℕ) (us : ℕ) (flags : List ℕ) 
     none-left h = ap (λ (g : Got (List Val)). g .items) (here-end (tupleOf Spas) b at h)
 
     pub tuples-over : length b ≤ at → TellsAll d ds u us flags whole true
-    unfolding each
+    unfolding each spasKeys
     tuples-over h = alike-over whole (rw (none-left h) at inv)
 
     module _ (g : at < length b) (z : endingAt (tupleOf Spas) b at ≡ 0) (k : ℕ) (ek : k ≡ keyAt b at) (fits : KeyFits b at) (x : Bool) (t : Tells d ds u us flags k x) where
@@ -113,7 +106,7 @@ module _ (d : List ℕ) (ds : ℕ) (u : List ℕ) (us : ℕ) (flags : List ℕ) 
       tuple = spasKey (values (tupleOf Spas) (drop at b))
 
       first : Alike d ds u us flags (tuple ∷ spasKeys (drop (at + 15) b)) whole
-      unfolding each
+      unfolding each spasKeys
       first = rw (spas-next b at z g .found) at inv
 
       names : Names b at (take 2 tuple)
@@ -132,36 +125,36 @@ module _ (d : List ℕ) (ds : ℕ) (u : List ℕ) (us : ℕ) (flags : List ℕ) 
   -- ---- one field
 
   module _ (tag : ℕ) (b : List ℕ) where
-    pub field-inas : tag ≡ 0x494e4153 → (x : Bool) → TellsAll d ds u us flags (inasKey b ∷ []) x → TellsAll d ds u us flags (keysIn (record { tag = tag; body = b })) x
-    unfolding keysIn
+    pub field-inas : tag ≡ 0x494e4153 → (x : Bool) → TellsAll d ds u us flags (inasKey b ∷ []) x → TellsAll d ds u us flags (fieldKeys (record { tag = tag; body = b })) x
+    unfolding fieldKeys
     field-inas e x s = simp (eq-eqb tag 0x494e4153 e) s
 
     module _ (n : tag ≡ 0x494e4153 → ⊥) where
-      pub field-spas : tag ≡ 0x53504153 → (x : Bool) → TellsAll d ds u us flags (spasKeys b) x → TellsAll d ds u us flags (keysIn (record { tag = tag; body = b })) x
-      unfolding keysIn
+      pub field-spas : tag ≡ 0x53504153 → (x : Bool) → TellsAll d ds u us flags (spasKeys b) x → TellsAll d ds u us flags (fieldKeys (record { tag = tag; body = b })) x
+      unfolding fieldKeys
       field-spas e x s = simp (ne-eqb tag 0x494e4153 n, eq-eqb tag 0x53504153 e) s
 
-      pub field-other : (tag ≡ 0x53504153 → ⊥) → TellsAll d ds u us flags (keysIn (record { tag = tag; body = b })) true
-      unfolding keysIn
+      pub field-other : (tag ≡ 0x53504153 → ⊥) → TellsAll d ds u us flags (fieldKeys (record { tag = tag; body = b })) true
+      unfolding fieldKeys
       field-other m = simp (ne-eqb tag 0x494e4153 n, ne-eqb tag 0x53504153 m) (alike-over [] (alike-same []))
 
   -- ---- the loop over the fields of a record: the next at place q
 
-  module _ (r : List ℕ) (h : Shape) (q : ℕ) (whole : List (List ℕ)) (inv : Alike d ds u us flags (gather keysIn (fieldsAt r h q)) whole) (e : Place) (en : e ≡ placeAt r h q) where
+  module _ (r : List ℕ) (h : Shape) (q : ℕ) (whole : List (List ℕ)) (inv : Alike d ds u us flags (gather fieldKeys (fieldsAt r h q)) whole) (e : Place) (en : e ≡ placeAt r h q) where
     pub fields-over : e ≡ Done → TellsAll d ds u us flags whole true
     unfolding gather
     fields-over x = alike-over whole (rw (fields-done r h q e en x) at inv)
 
-    module _ (tag from end next : ℕ) (x : e ≡ At tag from end next) (v : Bool) (s : TellsAll d ds u us flags (keysIn (record { tag = tag; body = between r from end })) v) where
-      parted : Alike d ds u us flags (keysIn (record { tag = tag; body = between r from end }) ++ gather keysIn (fieldsAt r h next)) whole
+    module _ (tag from end next : ℕ) (x : e ≡ At tag from end next) (v : Bool) (s : TellsAll d ds u us flags (fieldKeys (record { tag = tag; body = between r from end })) v) where
+      parted : Alike d ds u us flags (fieldKeys (record { tag = tag; body = between r from end }) ++ gather fieldKeys (fieldsAt r h next)) whole
       unfolding gather
       parted = rw (fields-more r h q e en tag from end next x) at inv
 
-      pub fields-on : not v ≡ false → Alike d ds u us flags (gather keysIn (fieldsAt r h next)) whole
-      fields-on y = parts-more (keysIn (record { tag = tag; body = between r from end })) (gather keysIn (fieldsAt r h next)) whole parted v s (not-false v y)
+      pub fields-on : not v ≡ false → Alike d ds u us flags (gather fieldKeys (fieldsAt r h next)) whole
+      fields-on y = parts-more (fieldKeys (record { tag = tag; body = between r from end })) (gather fieldKeys (fieldsAt r h next)) whole parted v s (not-false v y)
 
       pub fields-loose : not v ≡ true → TellsAll d ds u us flags whole false
-      fields-loose y = parts-loose (keysIn (record { tag = tag; body = between r from end })) (gather keysIn (fieldsAt r h next)) whole parted v s (not-true v y)
+      fields-loose y = parts-loose (fieldKeys (record { tag = tag; body = between r from end })) (gather fieldKeys (fieldsAt r h next)) whole parted v s (not-true v y)
 
 pub ruleset inas-ways = (inas-told, arith)
 

@@ -1,17 +1,18 @@
 -- The records of the result: each comes from an accepted history, and is sound. Assumes nothing.
 use Prim.Native.Nat.{ℕ}
 use mathlib.Core.Path.{_≡_, refl, sym, ap, _∙_}
-use mathlib.Core.Bool.{Bool, true, false, true≢false}
+use mathlib.Core.Bool.{true, false, true≢false}
 use mathlib.Core.Option.{Option, some, none}
 use mathlib.Core.List.{List, [], _∷_, _++_}
 use Rattle.base.specs.Check.{ok, bind}
 use Rattle.base.specs.Keys.{same}
+use Rattle.base.specs.Lists.{Each}
 use Rattle.base.proofs.CheckLaws.{bind-inv, ok-inj, refused}
 use Rattle.base.proofs.KeysLaws.{same-sound, same-refl}
 use Rattle.skeleton.specs.File.{Field}
 use Rattle.rules.specs.Record.{Rec}
 use Rattle.rules.specs.declared.Kind.{Kind}
-use Rattle.sequence.specs.Keyed.{Act, insert, delete, modify, Parts, done, Each, Has, Under, Goes, brings, takes, alters, find, Once, Laws}
+use Rattle.sequence.specs.Keyed.{Act, insert, delete, modify, Parts, done, Has, Under, Goes, brings, takes, alters, find, Once, Laws}
 use Rattle.sequence.specs.History.{history, version, judged}
 use Rattle.sequence.specs.Order.{isInsert, deleted}
 use Rattle.sequence.specs.Stream.{stands}

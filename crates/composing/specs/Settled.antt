@@ -5,9 +5,10 @@ use mathlib.Core.Bool.{Bool, true}
 use mathlib.Core.List.{List, []}
 use lib.ListN.{length}
 use Rattle.base.specs.Walk.{Got}
+use Rattle.base.specs.Lists.{Each}
 use Rattle.skeleton.specs.File.{recordsFrom}
 use Rattle.rules.specs.Record.{Rec}
-use Rattle.sequence.specs.Keyed.{done, Each, Once}
+use Rattle.sequence.specs.Keyed.{done, Once}
 use Rattle.sequence.specs.History.{judged}
 use Rattle.sequence.specs.Stream.{standing}
 use Rattle.updates.specs.Acts.{chart}

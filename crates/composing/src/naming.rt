@@ -15,10 +15,9 @@ ghost use Rattle.fields.specs.Content.{fill};
 ghost use Rattle.fields.specs.declared.Format.the-variants.{InasNew, Spas};
 ghost use Rattle.skeleton.specs.Place.{fieldsAt};
 ghost use Rattle.skeleton.specs.Shape.{Bounded};
-ghost use Rattle.rules.specs.Associations.{inasKey};
+ghost use Rattle.rules.specs.Associations.{inasKey, spasKeys, fieldKeys};
 ghost use Rattle.references.specs.Readable.{readable, allReadable};
 ghost use Rattle.composing.specs.Settled.{Asks, TellsAll};
-ghost use Rattle.composing.specs.Keys.{spasKeys, keysIn};
 
 // The record that the INAS b names.
 fn inas_stands(
@@ -79,7 +78,7 @@ fn field_stands(
     b: &[u8],
 ) -> bool
     requires { ⌜ Asks (now d) ds (now t) n (now map) (now u) us (now flags) × (length (now b) ≤ 16777216) × (readable (record { tag = tag; body = now b }) ≡ true) ⌝ }
-    ensures { λ r. ⌜ TellsAll (now (d .entry)) ds (now (u .entry)) us (now (flags .entry)) (keysIn (record { tag = tag; body = now (b .entry) })) r ⌝ }
+    ensures { λ r. ⌜ TellsAll (now (d .entry)) ds (now (u .entry)) us (now (flags .entry)) (fieldKeys (record { tag = tag; body = now (b .entry) })) r ⌝ }
 {
     if tag == 0x494e4153 {
         return inas_stands(d, ds, t, n, map, u, us, flags, b);
@@ -104,7 +103,7 @@ pub fn fields_stand(
     h: Shape,
 ) -> bool
     requires { ⌜ Asks (now d) ds (now t) n (now map) (now u) us (now flags) × Bounded h × (length (now r) ≤ 16777216) × (allReadable (fieldsAt (now r) h 24) ≡ true) ⌝ }
-    ensures { λ b. ⌜ TellsAll (now (d .entry)) ds (now (u .entry)) us (now (flags .entry)) (gather keysIn (fieldsAt (now (r .entry)) h 24)) b ⌝ }
+    ensures { λ b. ⌜ TellsAll (now (d .entry)) ds (now (u .entry)) us (now (flags .entry)) (gather fieldKeys (fieldsAt (now (r .entry)) h 24)) b ⌝ }
 {
     let mut q = 24;
     loop {

@@ -26,9 +26,9 @@ use Rattle.skeleton.specs.declared.place.Place.the-variants.{At, Done}
 use Rattle.skeleton.proofs.PlaceLaws.{fields-more, fields-done}
 use Rattle.rules.specs.Tags.{INAS, SPAS}
 use Rattle.rules.specs.Content.{inasFormat, formatOf}
-use Rattle.rules.specs.Associations.{inasKey, spasKey}
+use Rattle.rules.specs.Associations.{inasKey, spasKey, spasKeys, fieldKeys}
 use Rattle.contents.specs.Fit.{fits}
-use Rattle.contents.specs.Keys.{listOf, inasKeyAt, spasKeys, fieldKeys, keysIn, hasFrom, seenFrom}
+use Rattle.contents.specs.Keys.{listOf, inasKeyAt, keysIn, hasFrom, seenFrom}
 use Rattle.contents.specs.declared.earlier.Key.{Key}
 use Rattle.contents.specs.declared.earlier.Key.the-variants.{Information, Spatial}
 use Rattle.contents.proofs.StepLaws.{step-bounds}

@@ -4,14 +4,14 @@ use mathlib.Core.Bool.{Bool, true, false}
 use mathlib.Core.List.{List, [], _∷_, _++_}
 use Prim.Native.Nat.{ℕ, _+_, _*_, _≤_, _<_}
 use native.Mathlib.Omega.{arith}
-use borrow.Author.Tests.{ltb-true, ltb-false}
-use lib.Dec.{eqb, ltb}
-use Rattle.base.specs.Choice.{pick, either}
-use Rattle.base.specs.Check.{ok, no, bind, fault, Passed}
+use lib.Dec.{eqb}
+use Rattle.base.specs.Choice.{pick, either, largerOf}
+use Rattle.base.specs.Check.{no, bind, fault, Passed}
 use Rattle.base.specs.Keys.{same, among}
 use Rattle.base.specs.Lists.{each}
 use Rattle.base.specs.declared.Fault.{Fault}
-use Rattle.base.proofs.ChoiceLaws.{by-test, either-false, both-false}
+use Rattle.base.proofs.CheckLaws.{ok-no}
+use Rattle.base.proofs.ChoiceLaws.{either-false, both-false, larger-left, larger-right}
 use Rattle.base.proofs.KeysLaws.{same-sound}
 use Rattle.fields.specs.Values.{Val}
 use Rattle.fields.specs.Table.{tupleOf}
@@ -20,8 +20,8 @@ use Rattle.fields.specs.declared.Format.the-variants.{Spas}
 use Rattle.skeleton.specs.File.{Field}
 use Rattle.rules.specs.Tags.{INAS, SPAS}
 use Rattle.rules.specs.Associations.{Mark, inasKey, spasKey, spasMarks, fieldMarks, keysOnce}
-use Rattle.rules.proofs.MarkLaws.{spas-marked, markKey}
-use Rattle.contents.specs.Keys.{spasKeys, fieldKeys, larger, numberOf, topWith}
+use Rattle.rules.proofs.MarkLaws.{markKey}
+use Rattle.contents.specs.Keys.{numberOf, topWith}
 
 -- ---- among which they are
 
@@ -91,24 +91,9 @@ unfolding among each same spasKey
 four-new x y z w [] = refl
 four-new x y z w (v ∷ vs) = rw (both-false, both-false) (four-new x y z w vs)
 
--- they have its keys
-pub field-marked : (i : ℕ) (f : Field) → each markKey (fieldMarks i f) ≡ fieldKeys f
-unfolding each fieldMarks fieldKeys spasKeys
-field-marked i f = go (eqb (f .tag) INAS) (eqb (f .tag) SPAS)
-  where
-    go : (a b : Bool)
-        → each markKey (pick a (record { key = inasKey (f .body); field = i; tuple = 0 } ∷ []) (pick b (spasMarks i 1 (many (tupleOf Spas) (f .body))) []))
-        ≡ pick a (inasKey (f .body) ∷ []) (pick b (each spasKey (many (tupleOf Spas) (f .body))) [])
-    go true b = refl
-    go false true = spas-marked i 1 (many (tupleOf Spas) (f .body))
-    go false false = refl
-
 -- a refusal of marks of field i is 7 in that field
 abbrev In : ℕ → Fault → Type 0
 In i x = x ≡ fault 7 i (x .tuple)
-
-passed-not {ℓ} : {X : Type ℓ} {u : Unit {0}} {x : Fault} → ok u ≡ no x → X
-passed-not e = absurd (let z : _≡_ {A = ℕ} 0 1 = cc in omega arith)
 
 one-fault : (b : Bool) (i j : ℕ) (c : Passed) (x : Fault) → pick b (no (fault 7 i j)) c ≡ no x → (c ≡ no x → In i x) → In i x
 one-fault true i j c x e later = let z : fault 7 i j ≡ x = cc in rw (← z)
@@ -116,7 +101,7 @@ one-fault false i j c x e later = later e
 
 spas-fault : (i j : ℕ) (vs : List (List Val)) (seen : List (List ℕ)) (x : Fault) → keysOnce seen (spasMarks i j vs) ≡ no x → In i x
 unfolding keysOnce spasMarks
-spas-fault i j [] seen x e = passed-not e
+spas-fault i j [] seen x e = ok-no e
 spas-fault i j (v ∷ vs) seen x e =
     one-fault (among (spasKey v) seen) i j (keysOnce (spasKey v ∷ seen) (spasMarks i (j + 1) vs)) x e (spas-fault i (j + 1) vs (spasKey v ∷ seen) x)
 
@@ -127,27 +112,21 @@ field-fault i f seen x e = go (eqb (f .tag) INAS) (eqb (f .tag) SPAS) e
     go : (a b : Bool)
         → keysOnce seen (pick a (record { key = inasKey (f .body); field = i; tuple = 0 } ∷ []) (pick b (spasMarks i 1 (many (tupleOf Spas) (f .body))) [])) ≡ no x
         → In i x
-    go true b z = one-fault (among (inasKey (f .body)) seen) i 0 _ x z passed-not
+    go true b z = one-fault (among (inasKey (f .body)) seen) i 0 _ x z ok-no
     go false true z = spas-fault i 1 (many (tupleOf Spas) (f .body)) seen x z
-    go false false z = passed-not z
+    go false false z = ok-no z
 
 -- ---- the largest
-
-larger-left : (a b : ℕ) → a ≤ larger a b
-larger-left a b = by-test (λ n. a ≤ n) (ltb a b) b a (λ e. omega (arith, ltb-true a b e)) (λ e. omega arith)
-
-larger-right : (a b : ℕ) → b ≤ larger a b
-larger-right a b = by-test (λ n. b ≤ n) (ltb a b) b a (λ e. omega arith) (λ e. omega (arith, ltb-false a b e))
 
 top-grows : (ks : List (List ℕ)) (top : ℕ) → top ≤ topWith top ks
 unfolding topWith
 top-grows [] top = omega arith
-top-grows (k ∷ ks) top = omega (arith, larger-left top (numberOf k), top-grows ks (larger top (numberOf k)))
+top-grows (k ∷ ks) top = omega (arith, larger-left top (numberOf k), top-grows ks (largerOf top (numberOf k)))
 
 pub top-append : (xs ys : List (List ℕ)) (top : ℕ) → topWith top (xs ++ ys) ≡ topWith (topWith top xs) ys
 unfolding topWith
 top-append [] ys top = refl
-top-append (x ∷ xs) ys top = top-append xs ys (larger top (numberOf x))
+top-append (x ∷ xs) ys top = top-append xs ys (largerOf top (numberOf x))
 
 -- a key of another number is another key
 other-number : (x y : ℕ) (k : List ℕ) → numberOf k < x * 4294967296 + y → same (x ∷ y ∷ []) k ≡ false
@@ -164,5 +143,5 @@ pub above-new : (ks : List (List ℕ)) (top x y : ℕ) → topWith top ks < x * 
 unfolding topWith among
 above-new [] top x y h = refl
 above-new (k ∷ ks) top x y h =
-    let n : numberOf k < x * 4294967296 + y = omega (arith, larger-right top (numberOf k), top-grows ks (larger top (numberOf k))) in
-    rw (other-number x y k n) (above-new ks (larger top (numberOf k)) x y h)
+    let n : numberOf k < x * 4294967296 + y = omega (arith, larger-right top (numberOf k), top-grows ks (largerOf top (numberOf k))) in
+    rw (other-number x y k n) (above-new ks (largerOf top (numberOf k)) x y h)

@@ -20,8 +20,8 @@ use Rattle.skeleton.specs.declared.directory.Shape.{Shape}
 use Rattle.rules.specs.Tags.{INAS, SPAS}
 use Rattle.rules.specs.ByTag.{withTag, has}
 use Rattle.rules.specs.Content.{inasFormat}
-use Rattle.rules.specs.Associations.{inasKey, spasKey, keysOnce}
-use Rattle.contents.specs.Keys.{listOf, inasKeyAt, spasKeys, fieldKeys, keysIn, hasFrom, seenFrom, seenBefore, topWith, told, inasOnce}
+use Rattle.rules.specs.Associations.{inasKey, spasKey, keysOnce, spasKeys, fieldKeys}
+use Rattle.contents.specs.Keys.{listOf, inasKeyAt, keysIn, hasFrom, seenFrom, seenBefore, topWith, told, inasOnce}
 use Rattle.contents.specs.declared.earlier.Key.{Key}
 use Rattle.contents.specs.declared.keys.Keys.the-variants.{Once, Twice}
 use Rattle.contents.proofs.KeyLaws.{among-append, above-new, four-new}

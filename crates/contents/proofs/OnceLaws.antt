@@ -25,14 +25,15 @@ use Rattle.skeleton.proofs.PlaceLaws.{held, fields-more, fields-done}
 use Rattle.skeleton.proofs.RightLaws.{Next, right-next, right-done, right-in, right-tag, right-on, right-word, right-falls}
 use Rattle.rules.specs.Tags.{INAS}
 use Rattle.rules.specs.ByTag.{withTag, front, has}
-use Rattle.rules.specs.Associations.{fieldMarks, marks, keysOnce}
+use Rattle.rules.specs.Associations.{fieldMarks, marks, keysOnce, fieldKeys}
+use Rattle.rules.proofs.MarkLaws.{field-marked}
 use Rattle.contents.specs.Fit.{allFit}
-use Rattle.contents.specs.Keys.{fieldKeys, keysIn, seenBefore, topWith, told, spasFrom, inasOnce, fieldOnce, onceFrom}
+use Rattle.contents.specs.Keys.{keysIn, seenBefore, topWith, told, spasFrom, inasOnce, fieldOnce, onceFrom}
 use Rattle.contents.specs.declared.keys.Keys.{Keys}
 use Rattle.contents.specs.declared.keys.Keys.the-variants.{Once, Twice}
 use Rattle.contents.proofs.StepLaws.{step-bounds}
 use Rattle.contents.proofs.FitLaws.{fit-here, fit-next}
-use Rattle.contents.proofs.KeyLaws.{once-apart, field-marked, field-fault, top-append}
+use Rattle.contents.proofs.KeyLaws.{once-apart, field-fault, top-append}
 use Rattle.contents.proofs.EarlierLaws.{inas-filled, spas-filled}
 use Rattle.contents.proofs.NewLaws.{has-last}
 use Rattle.contents.proofs.ListLaws.{one-taken, gather-last}

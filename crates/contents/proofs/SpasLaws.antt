@@ -5,7 +5,7 @@ use mathlib.Core.List.{List, [], _∷_, _++_, append-assoc}
 use Prim.Native.Nat.{ℕ, _+_, _-_, _*_, _^_, _≤_, _<_}
 use native.Mathlib.Omega.{arith}
 use lib.ListN.{length, take, drop}
-use Rattle.base.specs.Choice.{pick}
+use Rattle.base.specs.Choice.{pick, largerOf}
 use Rattle.base.specs.Check.{ok, no, fault, Passed}
 use Rattle.base.specs.Keys.{among}
 use Rattle.base.specs.Lists.{each}
@@ -19,8 +19,8 @@ use Rattle.fields.specs.declared.Format.the-variants.{Spas}
 use Rattle.fields.proofs.TupleLaws.{Next, here-end}
 use Rattle.skeleton.specs.Place.{fieldsAt}
 use Rattle.skeleton.specs.declared.directory.Shape.{Shape}
-use Rattle.rules.specs.Associations.{spasKey, spasMarks, keysOnce}
-use Rattle.contents.specs.Keys.{spasKeys, keysIn, seenBefore, larger, numberOf, topWith, told, spasFrom}
+use Rattle.rules.specs.Associations.{spasKey, spasMarks, keysOnce, spasKeys}
+use Rattle.contents.specs.Keys.{keysIn, seenBefore, numberOf, topWith, told, spasFrom}
 use Rattle.contents.specs.declared.keys.Keys.{Keys}
 use Rattle.contents.specs.declared.keys.Keys.the-variants.{Once, Twice}
 use Rattle.contents.proofs.KeyLaws.{among-last, once-same, top-append}
@@ -31,7 +31,7 @@ use Rattle.contents.proofs.NewLaws.{not-not}
 -- ---- the loop over the tuples of a SPAS: behind j tuples, at offset at, where the whole comes to A
 
 -- a key that passes raises the largest number
-told-on : (top : ℕ) (k : List ℕ) (ks : List (List ℕ)) (c : Passed) → told top (k ∷ ks) c ≡ told (larger top (numberOf k)) ks c
+told-on : (top : ℕ) (k : List ℕ) (ks : List (List ℕ)) (c : Passed) → told top (k ∷ ks) c ≡ told (largerOf top (numberOf k)) ks c
 unfolding told topWith
 told-on top k ks (ok u) = refl
 told-on top k ks (no x) = refl
@@ -95,7 +95,7 @@ module _ (b : List ℕ) (f : fill (headOf Spas) (tupleOf Spas) b ≡ true) (j at
           ∙ sym (append-assoc (keysIn (take n (fieldsAt r h p))) (take j (spasKeys b)) ((x ∷ y ∷ []) ∷ []))
 
       -- the largest number of a key
-      pub spas-top : (r : List ℕ) (h : Shape) (p n top new : ℕ) → top ≡ topWith 0 (seenBefore r h p n b j) → new ≡ larger top (x * 4294967296 + y)
+      pub spas-top : (r : List ℕ) (h : Shape) (p n top new : ℕ) → top ≡ topWith 0 (seenBefore r h p n b j) → new ≡ largerOf top (x * 4294967296 + y)
           → new ≡ topWith 0 (seenBefore r h p n b (j + 1))
       unfolding topWith
       spas-top r h p n top new et en =
@@ -115,7 +115,7 @@ module _ (b : List ℕ) (f : fill (headOf Spas) (tupleOf Spas) b ≡ true) (j at
         unfolding told
         spas-twice z = let m = not-not (among (x ∷ y ∷ []) (seenBefore r h p n b j)) true (ap not (sym et) ∙ z) in rw m at turn
 
-        pub spas-more : not t ≡ false → (new : ℕ) → new ≡ larger top (x * 4294967296 + y) → spasFrom r h p n b (j + 1) new ≡ A
+        pub spas-more : not t ≡ false → (new : ℕ) → new ≡ largerOf top (x * 4294967296 + y) → spasFrom r h p n b (j + 1) new ≡ A
         unfolding spasFrom
         spas-more z new en =
             let k : List ℕ = x ∷ y ∷ [] in

@@ -5,11 +5,12 @@ use mathlib.Core.List.{List, [], _∷_}
 use Prim.Native.Nat.{ℕ, zero, suc, _+_, _-_, _*_, _/_, _≤_, _<_}
 use native.Mathlib.Nat.{add-zero}
 use native.Mathlib.Omega.{arith}
-use borrow.Author.Tests.{eq-eqb, ne-eqb, eqb-true, eqb-false, lt-ltb, le-ltb}
+use borrow.Author.Tests.{eq-eqb, ne-eqb, eqb-true, eqb-false}
 use lib.Dec.{eqb}
 use lib.ListN.{length, take, drop}
 use lib.Seq.{drop-drop, take-all}
-use Rattle.base.specs.Choice.{both, either}
+use Rattle.base.specs.Choice.{both, either, largerOf}
+use Rattle.base.proofs.ChoiceLaws.{larger-second, larger-first}
 use Rattle.base.specs.Keys.{same, among}
 use Rattle.base.specs.Lists.{each}
 use Rattle.base.proofs.ListLaws.{each-length}
@@ -23,17 +24,17 @@ use Rattle.fields.proofs.TupleLaws.{Next}
 use Rattle.fields.proofs.FieldLaws.{fill-list}
 use Rattle.fields.proofs.EvenLaws.{even-next, fill-even}
 use Rattle.fields.proofs.ValueLaws.{tuple-number}
-use Rattle.rules.specs.Associations.{spasKey}
-use Rattle.contents.specs.Keys.{spasKeys, tupleIs, hasFrom, larger}
+use Rattle.rules.specs.Associations.{spasKey, spasKeys}
+use Rattle.contents.specs.Keys.{tupleIs, hasFrom}
 
 -- ---- numbers
 
 module _ (top x y n : ℕ) (e : n ≡ x * 4294967296 + y) where
-  pub top-new : top < n → n ≡ larger top (x * 4294967296 + y)
-  top-new h = rw (← e) (simp (lt-ltb top n h))
+  pub top-new : top < n → n ≡ largerOf top (x * 4294967296 + y)
+  top-new h = rw (← e) (larger-second top n h)
 
-  pub top-old : n ≤ top → top ≡ larger top (x * 4294967296 + y)
-  top-old h = rw (← e) (simp (le-ltb top n h))
+  pub top-old : n ≤ top → top ≡ largerOf top (x * 4294967296 + y)
+  top-old h = rw (← e) (larger-first top n h)
 
 pub ruleset top-ways = (top-new, top-old)
 

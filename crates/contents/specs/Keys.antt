@@ -3,11 +3,11 @@ use Prim.Native.Nat.{ℕ, _+_, _*_}
 use mathlib.Core.Bool.{Bool}
 use mathlib.Core.List.{List, [], _∷_, _++_}
 use lib.ListN.{take, drop}
-use lib.Dec.{eqb, ltb}
-use Rattle.base.specs.Choice.{pick, both}
+use lib.Dec.{eqb}
+use Rattle.base.specs.Choice.{both, largerOf}
 use Rattle.base.specs.Check.{ok, no, Passed}
 use Rattle.base.specs.Keys.{among}
-use Rattle.base.specs.Lists.{each, gather}
+use Rattle.base.specs.Lists.{gather}
 use Rattle.base.specs.Verdict.{verdictOf}
 use Rattle.base.specs.declared.Verdict.{Verdict}
 use Rattle.fields.specs.Bytes.{le}
@@ -17,8 +17,7 @@ use Rattle.fields.specs.declared.Format.the-variants.{Spas}
 use Rattle.skeleton.specs.File.{Field}
 use Rattle.skeleton.specs.Place.{fieldsAt}
 use Rattle.skeleton.specs.declared.directory.Shape.{Shape}
-use Rattle.rules.specs.Tags.{INAS, SPAS}
-use Rattle.rules.specs.Associations.{inasKey, spasKey, spasMarks, fieldMarks, marks, keysOnce}
+use Rattle.rules.specs.Associations.{inasKey, spasKeys, fieldKeys, spasMarks, fieldMarks, marks, keysOnce}
 use Rattle.contents.specs.declared.earlier.Key.{Key}
 use Rattle.contents.specs.declared.earlier.Key.the-variants.{Information, Spatial}
 use Rattle.contents.specs.declared.keys.Keys.{Keys}
@@ -34,14 +33,6 @@ listOf (Spatial x y) = x ∷ y ∷ []
 -- the key of an INAS, where its numbers stand
 abbrev pub inasKeyAt : List ℕ → Key
 inasKeyAt b = Information (le 1 (drop 0 b)) (le 4 (drop 1 b)) (le 2 (drop 5 b)) (le 2 (drop 7 b))
-
--- the keys of a SPAS
-unfoldable pub spasKeys : List ℕ → List (List ℕ)
-spasKeys b = each spasKey (many (tupleOf Spas) b)
-
--- the keys of a field
-unfoldable pub fieldKeys : Field → List (List ℕ)
-fieldKeys f = pick (eqb (f .tag) INAS) (inasKey (f .body) ∷ []) (pick (eqb (f .tag) SPAS) (spasKeys (f .body)) [])
 
 -- the keys of fields
 unfoldable pub keysIn : List Field → List (List ℕ)
@@ -67,10 +58,6 @@ seenBefore r h p n b j = keysIn (take n (fieldsAt r h p)) ++ take j (spasKeys b)
 
 -- ---- the largest
 
--- the larger of two numbers
-abbrev pub larger : ℕ → ℕ → ℕ
-larger a b = pick (ltb a b) b a
-
 -- the number of a spatial key; 0 for any other
 abbrev pub numberOf : List ℕ → ℕ
 numberOf [] = 0
@@ -81,7 +68,7 @@ numberOf (x ∷ y ∷ z ∷ l) = 0
 -- the largest of a number and of those of keys
 unfoldable pub topWith : ℕ → List (List ℕ) → ℕ
 topWith top [] = top
-topWith top (k ∷ ks) = topWith (larger top (numberOf k)) ks
+topWith top (k ∷ ks) = topWith (largerOf top (numberOf k)) ks
 
 -- ---- answers
 

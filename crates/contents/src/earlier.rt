@@ -15,9 +15,9 @@ ghost use Rattle.fields.specs.Content.{fill};
 ghost use Rattle.skeleton.specs.Place.{fieldsAt};
 ghost use Rattle.skeleton.specs.Shape.{Bounded};
 ghost use Rattle.rules.specs.Content.{inasFormat};
-ghost use Rattle.rules.specs.Associations.{inasKey};
+ghost use Rattle.rules.specs.Associations.{inasKey, fieldKeys};
 ghost use Rattle.contents.specs.Fit.{fits, allFit};
-ghost use Rattle.contents.specs.Keys.{listOf, inasKeyAt, fieldKeys, seenFrom};
+ghost use Rattle.contents.specs.Keys.{listOf, inasKeyAt, seenFrom};
 
 // A key: RRNM, RRID, NIAC, NARC of an information association; RRNM, RRID of a spatial one.
 pub enum Key {

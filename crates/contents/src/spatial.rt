@@ -5,10 +5,11 @@ ghost use mathlib.Core.Path.{_≡_};
 ghost use mathlib.Core.Bool.{true};
 ghost use Prim.Native.Nat.{_+_, _*_, _≤_};
 ghost use lib.ListN.{length};
+ghost use Rattle.base.specs.Choice.{largerOf};
 ghost use Rattle.fields.specs.Table.{headOf, tupleOf};
 ghost use Rattle.fields.specs.Content.{fill};
 ghost use Rattle.fields.specs.declared.Format.the-variants.{Spas};
-ghost use Rattle.contents.specs.Keys.{tupleIs, hasFrom, larger};
+ghost use Rattle.contents.specs.Keys.{tupleIs, hasFrom};
 
 // Whether the tuple at `at` has this key.
 fn tuple_is(b: &[u8], at: usize, x: u8, y: u32) -> bool
@@ -47,7 +48,7 @@ pub fn key_number(x: u8, y: u32) -> usize
 
 // The larger of a number and of the number of a key.
 pub fn top_with(top: usize, x: u8, y: u32) -> usize
-    ensures { λ n. ⌜ n ≡ larger top (x * 4294967296 + y) ⌝ }
+    ensures { λ n. ⌜ n ≡ largerOf top (x * 4294967296 + y) ⌝ }
 {
     let number = key_number(x, y);
     if top < number {

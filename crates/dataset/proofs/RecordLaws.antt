@@ -6,7 +6,7 @@ use Rattle.base.specs.Check.{ok, no, bind, Passed}
 use Rattle.base.specs.Verdict.{verdictOf}
 use Rattle.base.specs.declared.Verdict.{Verdict}
 use Rattle.base.specs.declared.Verdict.the-variants.{Passed as Through, Refused}
-use Rattle.base.proofs.CheckLaws.{passed-is}
+use Rattle.base.proofs.CheckLaws.{passed-is, refused-is}
 use Rattle.skeleton.specs.File.{Field}
 use Rattle.rules.specs.Grammar.{number4}
 use Rattle.rules.specs.Content.{number5}
@@ -17,7 +17,7 @@ use Rattle.records.specs.Graded.{graded}
 use Rattle.records.specs.declared.grammar.Tags.{Tags}
 use Rattle.records.specs.declared.grammar.Tags.the-variants.{Right, Wrong}
 use Rattle.dataset.specs.Numbers.{fourToSixIn}
-use Rattle.dataset.proofs.VerdictLaws.{refused-is, right-is, wrong-is}
+use Rattle.dataset.proofs.VerdictLaws.{right-is, wrong-is}
 
 -- two tests and then a value
 bind-after : {A : Type 0} (c d : Passed) (a : A) → bind c (λ _. bind d (λ _. ok a)) ≡ bind (bind c (λ _. d)) (λ _. ok a)

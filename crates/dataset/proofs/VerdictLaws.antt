@@ -3,22 +3,10 @@ use mathlib.Core.Path.{_≡_}
 use Prim.Native.Nat.{ℕ}
 use native.Mathlib.Omega.{arith}
 use Rattle.base.specs.Check.{Check, ok, no, fault}
-use Rattle.base.specs.Verdict.{verdictOf}
-use Rattle.base.specs.declared.Verdict.{Verdict}
-use Rattle.base.specs.declared.Verdict.the-variants.{Refused}
 use Rattle.rules.specs.declared.Kind.{Kind}
 use Rattle.records.specs.Graded.{graded}
 use Rattle.records.specs.declared.grammar.Tags.{Tags}
 use Rattle.records.specs.declared.grammar.Tags.the-variants.{Right, Wrong}
-
-pub refused-is : {A : Type 0} (c : Check A) (k i j : ℕ) → Refused k i j ≡ verdictOf c → c ≡ no (fault k i j)
-unfolding verdictOf
-refused-is (ok u) k i j e = absurd (let y : _≡_ {A = ℕ} 0 1 = cc in omega arith)
-refused-is (no x) k i j e =
-    let a : k ≡ x .number = cc in
-    let b : i ≡ x .field = cc in
-    let d : j ≡ x .tuple = cc in
-    rw (a, b, d)
 
 pub right-is : (c : Check Kind) (k : Kind) → Right k ≡ graded c → c ≡ ok k
 unfolding graded

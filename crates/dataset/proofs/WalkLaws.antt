@@ -5,13 +5,14 @@ use mathlib.Core.List.{List}
 use Prim.Native.Nat.{ℕ, _+_, _-_, _^_, _≤_, _<_}
 use native.Mathlib.Omega.{arith}
 use lib.ListN.{length, replicate, length-drop}
-use Rattle.memory.specs.Hold.{zeros}
-use Rattle.base.specs.Check.{Check, ok, fault, Passed}
+use Rattle.base.specs.Check.{ok, fault}
 use Rattle.base.specs.Lists.{each}
 use Rattle.base.specs.Verdict.{verdictOf}
 use Rattle.base.specs.declared.Verdict.{Verdict}
 use Rattle.base.specs.declared.Verdict.the-variants.{Passed as Through, Refused as Failed}
-use Rattle.base.proofs.CheckLaws.{passed-is}
+use Rattle.base.specs.Choice.{largerOf}
+use Rattle.base.proofs.CheckLaws.{passed-is, refused-is}
+use Rattle.memory.specs.Hold.{zeros}
 use Rattle.skeleton.specs.File.{Field}
 use Rattle.skeleton.specs.Place.{between, fieldsAt}
 use Rattle.skeleton.specs.Record.{recordAt}
@@ -24,7 +25,7 @@ use Rattle.skeleton.proofs.FileLaws.{records-over}
 use Rattle.skeleton.proofs.RecordLaws.{record-in, record-falls, record-bounded}
 use Rattle.skeleton.proofs.RightLaws.{right-start}
 use Rattle.rules.specs.Associations.{number7}
-use Rattle.rules.specs.Outcome.{Outcome, done, refused}
+use Rattle.rules.specs.Outcome.{done, refused}
 use Rattle.rules.specs.declared.Kind.{Kind}
 use Rattle.rules.specs.declared.Mode.the-variants.{InDataset}
 use Rattle.records.specs.Graded.{graded}
@@ -34,7 +35,7 @@ use Rattle.keys.specs.Key.{keyAt}
 use Rattle.keys.specs.Listed.{keysFrom}
 use Rattle.keys.specs.Look.{Known}
 use Rattle.keys.specs.Map.{kindIn}
-use Rattle.keys.specs.Once.{largerOf, Once, Comes, Told}
+use Rattle.keys.specs.Once.{Once, Comes, Told}
 use Rattle.keys.specs.Standing.{fourToSix, Standing}
 use Rattle.keys.proofs.PassedLaws.{placed-five, placed-tag}
 use Rattle.keys.proofs.StandingLaws.{once-start, standing-start, standing-over, standing-refused, standing-before, standing-comes, standing-kind, standing-seven, standing-within, standing-more}
@@ -44,7 +45,7 @@ use Rattle.dataset.specs.declared.walk.Admitted.{Admitted}
 use Rattle.dataset.specs.declared.walk.Admitted.the-variants.{Key, Stop}
 use Rattle.dataset.specs.declared.walk.Walked.{Walked}
 use Rattle.dataset.specs.declared.walk.Walked.the-variants.{Over, Stopped}
-use Rattle.dataset.proofs.VerdictLaws.{refused-is, right-is, wrong-is}
+use Rattle.dataset.proofs.VerdictLaws.{right-is, wrong-is}
 
 -- ---- the record at p
 

@@ -3,8 +3,9 @@ use Prim.Native.Nat.{ℕ, _+_}
 use mathlib.Core.Path.{_≡_}
 use mathlib.Core.List.{List, []}
 use Rattle.base.specs.Check.{fault}
+use Rattle.base.specs.Choice.{largerOf}
 use Rattle.rules.specs.Outcome.{Outcome, done, refused}
-use Rattle.keys.specs.Once.{largerOf, Once}
+use Rattle.keys.specs.Once.{Once}
 use Rattle.keys.specs.Standing.{outcomeFrom, Standing}
 use Rattle.dataset.specs.declared.walk.Admitted.{Admitted}
 use Rattle.dataset.specs.declared.walk.Admitted.the-variants.{Key, Stop}

@@ -13,7 +13,6 @@ use skeleton::directory::Shape;
 use skeleton::file::record_at;
 use skeleton::leader::Head;
 ghost use mathlib.Core.Path.{_≡_};
-ghost use mathlib.Core.List.{[]};
 ghost use Prim.Native.Nat.{_+_, _<_, _≤_};
 ghost use lib.ListN.{length};
 ghost use Rattle.base.specs.Check.{ok};
@@ -23,7 +22,7 @@ ghost use Rattle.skeleton.specs.declared.leader.Head.the-variants.{Good};
 ghost use Rattle.keys.specs.Map.{kindIn};
 ghost use Rattle.keys.specs.Listed.{keysFrom};
 ghost use Rattle.keys.specs.Once.{Once};
-ghost use Rattle.keys.specs.Standing.{fourToSix, outcomeFrom, Standing};
+ghost use Rattle.keys.specs.Standing.{fourToSix, Standing};
 ghost use Rattle.dataset.specs.Walk.{wholeFrom, Went, walkedBy};
 
 // A record that was tested: its key, or the refusal's number, field and tuple.

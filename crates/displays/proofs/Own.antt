@@ -4,7 +4,7 @@ use mathlib.Core.Path.{_≡_, sym, _∙_}
 use mathlib.Core.Option.{some}
 use mathlib.Core.List.{List, [], _∷_}
 use Rattle.base.proofs.OptionLaws.{some-inj}
-use Rattle.sequence.specs.Keyed.{Each}
+use Rattle.base.specs.Lists.{Each}
 use Rattle.displays.specs.Display.{Handed, bears}
 use Rattle.displays.specs.Publisher.{Publisher, Genuine, Cable}
 

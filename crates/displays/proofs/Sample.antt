@@ -1,19 +1,16 @@
 -- A publisher with two updates, and one of its displays, computed: files that come early, twice, late, in pieces, and without room. Assumes nothing.
-use Prim.Native.Nat.{ℕ, zero, suc}
+use Prim.Native.Nat.{ℕ}
 use mathlib.Core.Path.{_≡_, refl}
-use mathlib.Core.Bool.{Bool, true}
+use mathlib.Core.Bool.{true}
 use mathlib.Core.Option.{some, none}
 use mathlib.Core.List.{List, [], _∷_}
-use native.Mathlib.Omega.{arith}
-use borrow.Author.Tests.{ltb-true}
 use lib.ListN.{take}
-use lib.Dec.{eqb, ltb}
-use Rattle.base.specs.Choice.{pick, both}
+use lib.Dec.{eqb}
+use Rattle.base.specs.Choice.{pick}
 use Rattle.base.specs.Opened.{opened as baseOpened}
-use Rattle.base.proofs.ChoiceLaws.{both-hold}
 use Rattle.skeleton.specs.Emit.{emits}
 use Rattle.skeleton.specs.Opened.{opened as skeletonOpened}
-use Rattle.fields.specs.Valid.{Bytes}
+use Rattle.fields.proofs.ByteLaws.{areBytes, are-bytes}
 use Rattle.fields.specs.Opened.{opened as fieldsOpened}
 use Rattle.fields.specs.declared.Format.the-variants.{Prid}
 use Rattle.forest.specs.Opened.{opened as forestOpened}
@@ -29,18 +26,6 @@ unfoldable opened : Unit {0}
 unfolding baseOpened skeletonOpened fieldsOpened forestOpened rulesOpened numbered prid coordinates c2it general filler pointSent point onlyCoordinates taken after shown numberRead numberShown numberSent bears
 opened = tt
 
--- each of a list is below 256
-unfoldable bytes : List ℕ → Bool
-bytes [] = true
-bytes (x ∷ l) = both (ltb x 256) (bytes l)
-
--- so it is a list of bytes
-are-bytes : (l : List ℕ) → bytes l ≡ true → Bytes l
-unfolding bytes
-are-bytes [] e k = omega arith
-are-bytes (x ∷ l) e zero = ltb-true x 256 ((both-hold (ltb x 256) (bytes l) e) .0)
-are-bytes (x ∷ l) e (suc k) = are-bytes l ((both-hold (ltb x 256) (bytes l) e) .1) k
-
 -- a dataset with update number 3 and one point, 7
 unfoldable third : Dataset
 third = record { descriptive = filler CSID 1 ∷ []; general = general 3 []; systems = filler CSID 2 ∷ []; records = point ∷ [] }
@@ -55,7 +40,7 @@ fifth = emits 5 5 true ((filler CSID 1 ∷ []) ∷ general 5 [] ∷ (numbered PR
 
 -- the publisher
 publisher : Publisher
-unfolding opened third bytes
+unfolding opened third areBytes
 publisher =
     record {
       source = writtenBytes third;
@@ -68,7 +53,7 @@ publisher =
     }
 
 -- a file, whole or cut short, with room for a result or for none, and a workspace
-handed : (f : List ℕ) → bytes f ≡ true → ℕ → ℕ → Handed
+handed : (f : List ℕ) → areBytes f ≡ true → ℕ → ℕ → Handed
 handed f e room work = record { file = f; isBytes = are-bytes f e; room = room; work = work }
 
 -- the numbers that a display shows, one after the other
@@ -78,7 +63,7 @@ numbers c (h ∷ hs) = numberShown c ∷ numbers (after c h) hs
 
 -- what reaches it: 5 too early, half of 4, 4, 4 again, 5 without room, 5 without workspace, 5, and 4 late
 came : List Handed
-unfolding opened fourth fifth bytes
+unfolding opened fourth fifth areBytes
 came =
     handed fifth refl 9999 400000
     ∷ handed (take 100 fourth) refl 9999 400000

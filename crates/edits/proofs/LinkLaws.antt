@@ -11,7 +11,7 @@ use borrow.Author.Tests.{eq-eqb, ne-eqb}
 use Rattle.base.specs.Choice.{pick}
 use Rattle.base.specs.Check.{Check, ok, no, bind, refuse, pass, passed}
 use Rattle.base.specs.Lists.{each}
-use Rattle.base.proofs.CheckLaws.{bind-inv, ok-inj}
+use Rattle.base.proofs.CheckLaws.{bind-inv, ok-inj, refused}
 use Rattle.skeleton.specs.Place.{between}
 use Rattle.fields.specs.Table.{headOf, tupleOf}
 use Rattle.fields.specs.Values.{Val}
@@ -24,7 +24,7 @@ use Rattle.forest.specs.Acts.{Acts, done, act, UTup, ActRun, actOf, actsUpTo, a
 use Rattle.forest.specs.Edit.{edit}
 use Rattle.forest.specs.Flat.{Item, flat, editFlat}
 use Rattle.forest.proofs.Numbers.{lt-or-le, eq-or-ne}
-use Rattle.forest.proofs.CheckLaws.{never, no-same}
+use Rattle.forest.proofs.CheckLaws.{no-same}
 use Rattle.forest.proofs.FlatLaws.{s-end}
 use Rattle.forest.proofs.Splice.{edit-splice}
 use Rattle.rules.specs.Trees.{instructionOf, utupOf, attrActs}
@@ -97,7 +97,7 @@ gone-none zero k p ts r e = sym (ok-inj _ _ e)
 gone-none (suc n) k p [] r e = sym (ok-inj _ _ e)
 gone-none (suc n) k p (t ∷ ts) r e =
     ⊎-elim
-    (λ (z : t .paix ≡ p). never (rw (eq-eqb (t .paix) p z) at e))
+    (λ (z : t .paix ≡ p). refused (rw (eq-eqb (t .paix) p z) at e))
     (λ (z : t .paix ≡ p → ⊥). sym (ok-inj _ _ (rw (ne-eqb (t .paix) p z) at e)))
     (eq-or-ne (t .paix) p)
 
@@ -128,7 +128,7 @@ agree-more n u e at p q gone r l z h ih i =
 
 -- no parent of an act that was read is a delete
 not-gone : {A : Type 0} (gone : Bool) (k : ℕ) (here : Check A) (r : A) → pick gone (refuse 6 k) here ≡ ok r → here ≡ ok r
-not-gone true k here r e = never e
+not-gone true k here r e = refused e
 not-gone false k here r e = e
 
 -- by the tuples left
@@ -153,7 +153,7 @@ agree (suc n) u e at p q gone r h x =
 taken-inv : (us vs : Acts) (k : ℕ) (ts : List UTup) → allTaken us k ts ≡ ok vs → us ≡ vs
 unfolding allTaken
 taken-inv us vs k [] e = ok-inj _ _ e
-taken-inv us vs k (t ∷ ts) e = never e
+taken-inv us vs k (t ∷ ts) e = refused e
 
 -- as many tuples as values
 each-length : (vs : List (List Val)) → length vs ≤ length (each utupOf vs)
@@ -182,7 +182,7 @@ top f us = ap (λ (l : List Item). editFlat 0 false l us) (sym (append-nil (flat
 -- an edit that was refused
 top-no : (c : Check Forest) (k j : ℕ) → bind c (λ g. ok (flat 0 g)) ≡ refuse k j → c ≡ refuse k j
 unfolding bind
-top-no (ok g) k j e = never (sym e)
+top-no (ok g) k j e = refused (sym e)
 top-no (no f) k j e = ap no (no-same e)
 
 -- an edit that was done

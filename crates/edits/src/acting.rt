@@ -1,7 +1,6 @@
 // The acts of an update by two functions that call each other: one does an act, the other the run of acts of one parent. Siblings take no stack.
 use crate::single::Deed;
 use crate::single::perform;
-ghost use mathlib.Core.Path.{_≡_};
 ghost use mathlib.Core.List.{List};
 ghost use Prim.Native.Nat.{ℕ, _+_, _-_, _*_, _≤_, _<_};
 ghost use lib.ListN.{length};

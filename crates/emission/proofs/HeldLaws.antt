@@ -1,5 +1,5 @@
 -- The record that the workspace holds is written as the fields that are copied. Assumes nothing.
-use Prim.Native.Nat.{ℕ, zero, suc, _+_, _-_, _*_, _%_, _≤_}
+use Prim.Native.Nat.{ℕ, _+_, _-_, _*_, _%_, _≤_}
 use mathlib.Core.Path.{_≡_, refl, sym, ap, ap₂, _∙_}
 use mathlib.Core.Bool.{Bool, true, false}
 use mathlib.Core.List.{List, [], _∷_, _++_, append-nil, append-assoc}
@@ -8,7 +8,7 @@ use lib.Dec.{eqb}
 use lib.Seq.{take-all}
 use lib.ListN.{length, take, length-append, length-take, length-drop}
 use Rattle.base.specs.Choice.{pick}
-use Rattle.base.specs.Lists.{each, gather}
+use Rattle.base.specs.Lists.{each, gather, Each}
 use Rattle.base.proofs.CheckLaws.{passed-inv}
 use Rattle.memory.specs.Digits.{digits, littleEndian}
 use Rattle.memory.specs.Put.{part}
@@ -20,12 +20,13 @@ use Rattle.fields.specs.Values.{put, value, values, puts, putAll}
 use Rattle.fields.specs.Valid.{Bytes}
 use Rattle.fields.specs.Places.{endingAt, allRaw}
 use Rattle.fields.specs.declared.Format.the-variants.{Foid, SpasNew, C2il}
+use Rattle.fields.proofs.ByteLaws.{bytes-take}
 use Rattle.fields.proofs.SizeLaws.{num-widths}
 use Rattle.fields.proofs.TupleLaws.{first-tuple}
 use Rattle.fields.proofs.EvenLaws.{raw-fill}
 use Rattle.fields.proofs.EncodeLaws.{puts-values}
 use Rattle.fields.proofs.FieldLaws.{fill-list, head-length}
-use Rattle.rules.specs.Tags.{FOID, ATTR, INAS, SPAS}
+use Rattle.rules.specs.Tags.{FOID, ATTR, SPAS}
 use Rattle.rules.specs.Kind.{rcnm, tagOf, coded}
 use Rattle.rules.specs.Content.{identFormat}
 use Rattle.rules.specs.Coordinates.{Coord, coordsIn}
@@ -37,9 +38,9 @@ use Rattle.rules.specs.declared.Kind.the-variants.{Info, Point, Multi, Feature}
 use Rattle.items.specs.Items.{source}
 use Rattle.cells.specs.Cells.{bodiesOf, spatialIn}
 use Rattle.version.specs.Areas.{listArea, inasArea, spasArea}
-use Rattle.version.specs.Held.{All, RightInas, RightSpas, RightFoid, foidBodies, HeldParts, Held}
+use Rattle.version.specs.Held.{RightInas, RightSpas, RightFoid, foidBodies, HeldParts, Held}
 use Rattle.version.specs.declared.Version.{Version}
-use Rattle.writing.proofs.SameBytesLaws.{foid-again, inas-again, Lists, none, one, coords-again, spatial-again}
+use Rattle.writing.proofs.SameBytesLaws.{foid-again, inas-again, none, one, coords-again, spatial-again}
 use Rattle.emission.specs.Bodies.{joined, inasFields}
 use Rattle.emission.specs.Fields.{codePart, identPart, foidPart, lastFields, versionFields, foidSize, Rooms}
 use Rattle.emission.proofs.FieldsLaws.{length-bodies}
@@ -55,15 +56,15 @@ ident-as Feature v r e f a b c = rw (e, f, a, b, c)
 
 -- ---- FOID
 
-foid-long : (bs : List (List ℕ)) → All RightFoid bs → length (joined bs) ≡ 8 * length bs
-unfolding All joined gather headOf
+foid-long : (bs : List (List ℕ)) → Each RightFoid bs → length (joined bs) ≡ 8 * length bs
+unfolding Each joined gather headOf
 foid-long [] g = refl
 foid-long (b ∷ bs) g =
     let n : length b ≡ 8 = head-length (headOf Foid) b refl (g .0 .filled) in
     let l = foid-long bs (g .1) in
     simp length-append (omega arith)
 
-foid-length : (d u : List ℕ) (v : Version) → All RightFoid (foidBodies d u v) → length (foidPart d u v) ≡ foidSize (v .foids)
+foid-length : (d u : List ℕ) (v : Version) → Each RightFoid (foidBodies d u v) → length (foidPart d u v) ≡ foidSize (v .foids)
 unfolding foidPart foidSize
 foid-length d u v g = foid-long (foidBodies d u v) g ∙ count (eqb (v .foids) 0) refl
   where
@@ -72,16 +73,16 @@ foid-length d u v g = foid-long (foidBodies d u v) g ∙ count (eqb (v .foids) 0
     count false q = unfold foidBodies in rw q
 
 -- at most one
-foid-as : (t : Bool) (b : List ℕ) → let bs = pick t [] (b ∷ []) in All RightFoid bs → puts (headOf Foid) (nums (gather foidOf bs)) ≡ joined bs
-unfolding All joined gather nums each puts headOf
+foid-as : (t : Bool) (b : List ℕ) → let bs = pick t [] (b ∷ []) in Each RightFoid bs → puts (headOf Foid) (nums (gather foidOf bs)) ≡ joined bs
+unfolding Each joined gather nums each puts headOf
 foid-as true b g = refl
 foid-as false b g =
     ap (λ (ns : List ℕ). puts (headOf Foid) (nums ns)) (append-nil (foidOf b)) ∙ foid-again b (g .0 .bytes) (g .0 .filled) ∙ sym (append-nil b)
 
 -- ---- INAS
 
-pub inas-as : (bs : List (List ℕ)) → All RightInas bs → each assocField (each assocOf bs) ≡ inasFields bs
-unfolding All each inasFields
+pub inas-as : (bs : List (List ℕ)) → Each RightInas bs → each assocField (each assocOf bs) ≡ inasFields bs
+unfolding Each each inasFields
 inas-as [] g = refl
 inas-as (b ∷ bs) g =
     let t = passed-inv (inasTree b) (g .0 .tree) in
@@ -111,13 +112,13 @@ spas-one b g =
     ∙ puts-values (tupleOf SpasNew) b (f .bytes) (g .bytes) (f .taken)
     ∙ take-all (f .bytes) b (omega arith)
 
-pub spas-as : (bs : List (List ℕ)) → All RightSpas bs → putAll (tupleOf SpasNew) (each spatialVals (each spatialIn bs)) ≡ joined bs
-unfolding All putAll gather each joined
+pub spas-as : (bs : List (List ℕ)) → Each RightSpas bs → putAll (tupleOf SpasNew) (each spatialVals (each spatialIn bs)) ≡ joined bs
+unfolding Each putAll gather each joined
 spas-as [] g = refl
 spas-as (b ∷ bs) g = ap₂ (λ (x y : List ℕ). x ++ y) (spas-one b (g .0)) (spas-as bs (g .1))
 
-pub spas-total : (bs : List (List ℕ)) → All RightSpas bs → length (joined bs) ≡ 15 * length bs
-unfolding All joined gather
+pub spas-total : (bs : List (List ℕ)) → Each RightSpas bs → length (joined bs) ≡ 15 * length bs
+unfolding Each joined gather
 spas-total [] g = refl
 spas-total (b ∷ bs) g =
     let n : length b ≡ 15 = g .0 .long in
@@ -144,12 +145,6 @@ held-rooms d u w v l r h =
 
 -- ---- the fields
 
-area-bytes : (n : ℕ) (l : List ℕ) → Bytes l → Bytes (take n l)
-area-bytes zero l g k = omega arith
-area-bytes (suc n) [] g k = omega arith
-area-bytes (suc n) (x ∷ l) g zero = g zero
-area-bytes (suc n) (x ∷ l) g (suc k) = area-bytes n l (λ j. g (suc j)) k
-
 module _ (d u w : List ℕ) (v : Version) (g : Bytes w) (l : 400000 ≤ length w) (r : Rec) (h : Held d u w v r) where
   coords-held : putAll (tupleOf C2il) (each coordVals (r .parts .coordinates)) ≡ part 0 (8 * v .coord) (listArea w)
   unfolding part
@@ -158,7 +153,7 @@ module _ (d u w : List ℕ) (v : Version) (g : Bytes w) (l : 400000 ≤ length w
       let b = take (8 * v .coord) (listArea w) in
       let n : length b ≡ 8 * v .coord = simp (length-take, length-drop) (omega (arith, p .coord-room)) in
       ap (λ (cs : List Coord). putAll (tupleOf C2il) (each coordVals cs)) (p .coordinates)
-      ∙ coord-as b (v .coord) (area-bytes (8 * v .coord) (listArea w) (area-bytes 200000 w g)) n
+      ∙ coord-as b (v .coord) (bytes-take (8 * v .coord) (listArea w) (bytes-take 200000 w g)) n
 
   spas-held : putAll (tupleOf SpasNew) (each spatialVals (r .parts .spatial)) ≡ joined (bodiesOf d u (spasArea w) (v .spas))
   spas-held =

@@ -1,15 +1,11 @@
 -- A record that the workspace holds and that fits in 99,999 bytes has few items, cells and coordinates. Assumes nothing.
 use Prim.Native.Nat.{ℕ, zero, suc, _+_, _*_, _≤_}
 use mathlib.Core.Path.{_≡_, refl, sym, ap, _∙_}
-use mathlib.Core.Bool.{Bool, true, false}
 use mathlib.Core.List.{List, [], _∷_, _++_}
 use native.Mathlib.Omega.{arith}
-use borrow.Author.Tests.{ltb-false}
-use lib.Dec.{ltb}
 use lib.ListN.{length, take, length-append, length-take, length-drop}
-use Rattle.base.specs.Choice.{pick}
-use Rattle.base.specs.Check.{no, fault, pass}
-use Rattle.base.specs.Lists.{each, gather}
+use Rattle.base.specs.Check.{pass}
+use Rattle.base.specs.Lists.{each, gather, Each}
 use Rattle.skeleton.specs.File.{Field}
 use Rattle.skeleton.specs.Emit.{sizes}
 use Rattle.skeleton.proofs.EmitFieldsLaws.{sizes-append}
@@ -24,6 +20,7 @@ use Rattle.rules.specs.Tags.{FOID, ATTR, SPAS}
 use Rattle.rules.specs.Coordinates.{Coord}
 use Rattle.rules.specs.Record.{Rec, Spatial}
 use Rattle.rules.specs.Written.{listField, nums, treeBytes, assocField, coordVals, spatialVals, coordTag, partFields, writtenFields, writtenLength, number12}
+use Rattle.rules.proofs.LengthLaws.{short-record, list-size}
 use Rattle.rules.proofs.CoordinateLaws.{coords-count}
 use Rattle.items.specs.Items.{its}
 use Rattle.cells.specs.Cells.{bodiesOf}
@@ -31,10 +28,9 @@ use Rattle.numbering.specs.Tuples.{tupleBytes, tuplesBytes}
 use Rattle.numbering.proofs.BackLaws.{tuplesTo, tuples-end, tuples-more, tuples-forest}
 use Rattle.numbering.proofs.BytesLaws.{tuples-cons, tuple-length, tree-tuples}
 use Rattle.version.specs.Areas.{listArea, inasArea, spasArea}
-use Rattle.version.specs.Held.{All, RightInas, Held}
+use Rattle.version.specs.Held.{RightInas, Held}
 use Rattle.version.specs.declared.Version.{Version}
 use Rattle.emission.specs.Bodies.{joined, inasFields}
-use Rattle.emission.proofs.ListLaws.{size-least, sizes-list}
 use Rattle.emission.proofs.FieldsLaws.{length-bodies, length-inas}
 use Rattle.emission.proofs.HeldLaws.{inas-as, spas-as, spas-total}
 
@@ -57,8 +53,8 @@ tree-least s u w n f e =
     omega (arith, tuples-least (tuplesOf f), ap length (tree-tuples f))
 
 -- an INAS has 10, and its 1E
-inas-least : (bs : List (List ℕ)) → All RightInas bs → 11 * length bs ≤ sizes (inasFields bs)
-unfolding All inasFields each sizes headOf
+inas-least : (bs : List (List ℕ)) → Each RightInas bs → 11 * length bs ≤ sizes (inasFields bs)
+unfolding Each inasFields each sizes headOf
 inas-least [] g = omega arith
 inas-least (b ∷ bs) g =
     let n : 10 ≤ length b = head-even (headOf InasNew) (tupleOf InasNew) b refl (g .0 .filled) .0 in
@@ -71,13 +67,6 @@ coords-long [] = refl
 coords-long (c ∷ cs) = omega (arith, coords-long cs)
 
 -- ---- a record that fits
-
-within : (n : ℕ) (t : Bool) → ltb 99999 n ≡ t → pick t (no (fault 12 0 0)) pass ≡ pass → n ≤ 99999
-within n true q e = absurd (refused e)
-  where
-    refused : no (fault 12 0 0) ≡ pass → ⊥
-    refused h = let y : _≡_ {A = ℕ} 0 1 = cc in omega arith
-within n false q e = ltb-false 99999 n q
 
 module _ (d u w : List ℕ) (v : Version) (r : Rec) (h : Held d u w v r) (fit : number12 (writtenFields r) ≡ pass) where
   abbrev attributes : List Field
@@ -93,8 +82,7 @@ module _ (d u w : List ℕ) (v : Version) (r : Rec) (h : Held d u w v r) (fit : 
   spatial = listField SPAS (putAll (tupleOf SpasNew) (each spatialVals (r .parts .spatial)))
 
   short : writtenLength (writtenFields r) ≤ 99999
-  unfolding number12
-  short = within (writtenLength (writtenFields r)) (ltb 99999 (writtenLength (writtenFields r))) refl fit
+  short = short-record (writtenFields r) fit
 
   -- each part has a share of the record
   shares : sizes attributes + (14 * length associations + sizes associations) + sizes coordinates + sizes spatial ≤ 99999
@@ -114,13 +102,10 @@ module _ (d u w : List ℕ) (v : Version) (r : Rec) (h : Held d u w v r) (fit : 
         length-append n (c ++ s),
       )
 
-  list-share : (t : ℕ) (b : List ℕ) → length b ≤ sizes (listField t b)
-  list-share t b = omega (arith, sizes-list t b, size-least (length b))
-
   pub small-attr : 8 * v .attr ≤ 99999
   small-attr =
       let t = treeBytes (r .parts .attributes) in
-      omega (arith, shares, list-share ATTR t, tree-least d u (listArea w) (v .attr) (r .parts .attributes) (h .parts .attributes))
+      omega (arith, shares, list-size ATTR t, tree-least d u (listArea w) (v .attr) (r .parts .attributes) (h .parts .attributes))
 
   pub small-inas : 25 * v .inas ≤ 99999
   small-inas =
@@ -135,7 +120,7 @@ module _ (d u w : List ℕ) (v : Version) (r : Rec) (h : Held d u w v r) (fit : 
       let m : length b ≡ 8 * v .coord = simp (length-take, length-drop) (omega (arith, h .parts .coord-room)) in
       let n : length (r .parts .coordinates) ≡ v .coord = ap length (h .parts .coordinates) ∙ coords-count b (v .coord) m in
       let cs = r .parts .coordinates in
-      omega (arith, shares, list-share (coordTag (r .kind)) (putAll (tupleOf C2il) (each coordVals cs)), coords-long cs)
+      omega (arith, shares, list-size (coordTag (r .kind)) (putAll (tupleOf C2il) (each coordVals cs)), coords-long cs)
 
   pub small-spas : 15 * v .spas ≤ 99999
   small-spas =
@@ -144,4 +129,4 @@ module _ (d u w : List ℕ) (v : Version) (r : Rec) (h : Held d u w v r) (fit : 
       let e : putAll (tupleOf SpasNew) vs ≡ joined bs =
       ap (λ (ss : List Spatial). putAll (tupleOf SpasNew) (each spatialVals ss)) (h .parts .spatial) ∙ spas-as bs (h .parts .spas-right) in
       let n : length bs ≡ v .spas = length-bodies d u (spasArea w) 0 (v .spas) in
-      omega (arith, shares, list-share SPAS (putAll (tupleOf SpasNew) vs), ap length e, spas-total bs (h .parts .spas-right))
+      omega (arith, shares, list-size SPAS (putAll (tupleOf SpasNew) vs), ap length e, spas-total bs (h .parts .spas-right))

@@ -13,7 +13,7 @@ ghost use lib.ListN.{length};
 ghost use Rattle.rules.specs.Record.{Rec};
 ghost use Rattle.rules.specs.Written.{writtenFields, writtenLength};
 ghost use Rattle.version.specs.Held.{Held};
-ghost use Rattle.emission.specs.Fields.{foidSize, listSize, listCount, lastCount, lastSize, total, Rooms, Measured, Few};
+ghost use Rattle.emission.specs.Fields.{foidSize, listCount, lastCount, lastSize, total, Rooms, Measured, Few};
 
 // The bytes of the attributes' tuples, and those of the INAS fields, the 1E of each included.
 pub struct Sizes {

@@ -8,9 +8,10 @@ use native.Mathlib.Nat.{not-suc-le-zero, le-of-suc-le-suc, pow-suc, div-lt-iff-l
 use native.Mathlib.Omega.{arith}
 use lib.ListN.{length, getD, take, drop, drop-of-length-le}
 use lib.Seq.{drop-cons, getD-drop}
-use lib.Dec.{lit<}
-use borrow.Author.Tests.{eq-eqb, ne-eqb}
-use Rattle.base.specs.Choice.{pick}
+use lib.Dec.{lit<, ltb}
+use borrow.Author.Tests.{eq-eqb, ne-eqb, ltb-true}
+use Rattle.base.specs.Choice.{pick, both}
+use Rattle.base.proofs.ChoiceLaws.{both-hold}
 use Rattle.fields.specs.Bytes.{sep, le, bytes, run, clean}
 use Rattle.fields.specs.Valid.{Bytes}
 
@@ -76,6 +77,23 @@ pub ruleset text-turn = (run-none, run-30, run-31, run-more, arith)
 
 pub bytes-drop : (l : List ℕ) (n : ℕ) → Bytes l → Bytes (drop n l)
 bytes-drop l n h k = rw (getD-drop n l k 0) (h (n + k))
+
+pub bytes-take : (n : ℕ) (l : List ℕ) → Bytes l → Bytes (take n l)
+bytes-take zero l g k = omega arith
+bytes-take (suc n) [] g k = omega arith
+bytes-take (suc n) (x ∷ l) g zero = g zero
+bytes-take (suc n) (x ∷ l) g (suc k) = bytes-take n l (λ j. g (suc j)) k
+
+-- each number of a list is a byte, by computation
+unfoldable pub areBytes : List ℕ → Bool
+areBytes [] = true
+areBytes (x ∷ l) = both (ltb x 256) (areBytes l)
+
+pub are-bytes : (l : List ℕ) → areBytes l ≡ true → Bytes l
+unfolding areBytes
+are-bytes [] e k = omega arith
+are-bytes (x ∷ l) e zero = ltb-true x 256 ((both-hold (ltb x 256) (areBytes l) e) .0)
+are-bytes (x ∷ l) e (suc k) = are-bytes l ((both-hold (ltb x 256) (areBytes l) e) .1) k
 
 low : (x y : ℕ) → x < 256 → (x + 256 * y) % 256 ≡ x
 low x y h = omega arith

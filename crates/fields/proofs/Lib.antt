@@ -1,6 +1,7 @@
 pub mod ByteLaws
 pub mod SizeLaws
 pub mod RowLaws
+pub mod OftenLaws
 pub mod TupleLaws
 pub mod CountLaws
 pub mod FieldLaws

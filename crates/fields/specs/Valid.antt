@@ -1,5 +1,6 @@
--- Values that a format can write: each within its range.
+-- Bytes that have a format, and values that a format can write: each within its range.
 use Prim.Native.Nat.{ℕ, _<_, _^_}
+use mathlib.Core.Path.{_≡_}
 use mathlib.Core.Bool.{Bool, true, false}
 use mathlib.Core.List.{List, [], _∷_}
 use lib.ListN.{length, getD}
@@ -8,13 +9,19 @@ use Rattle.base.specs.Choice.{both}
 use Rattle.fields.specs.Bytes.{clean}
 use Rattle.fields.specs.Sizes.{inRange, inSet}
 use Rattle.fields.specs.Values.{Val, num, txt, width, puts}
-use Rattle.fields.specs.Content.{Content}
+use Rattle.fields.specs.Table.{headOf, tupleOf}
+use Rattle.fields.specs.Content.{Content, fill}
+use Rattle.fields.specs.declared.Format.{Format}
 use Rattle.fields.specs.declared.Sub.{Sub}
 use Rattle.fields.specs.declared.Sub.the-variants.{B11, B12, B14, Among, Raw, Text, Fixed}
 
 -- the numbers are bytes
 abbrev pub Bytes : List ℕ → Type 0
 Bytes l = (k : ℕ) → getD l k 0 < 256
+
+-- the subfields of a format fill a body
+abbrev pub Has : Format → List ℕ → Type 0
+Has k b = fill (headOf k) (tupleOf k) b ≡ true
 
 -- a number within the subfield's range
 unfoldable pub allows : Sub → ℕ → Bool

@@ -2,6 +2,7 @@
 pub mod counting;
 pub mod head;
 pub mod number;
+pub mod often;
 pub mod row;
 pub mod subfield;
 pub mod text;

@@ -6,6 +6,11 @@
 use crate::Format;
 use crate::Stop;
 use crate::Sub;
+use crate::often::association_end;
+use crate::often::attribute_end;
+use crate::often::feature_end;
+use crate::often::point_end;
+use crate::often::spatial_end;
 use crate::subfield::subfield_end;
 ghost use mathlib.Core.Path.{_≡_};
 ghost use Prim.Native.Nat.{_≤_, _<_};
@@ -253,8 +258,8 @@ pub fn rows_of(k: Format) -> Shape
     }
 }
 
-// Where the subfields of the rows from..to end, read from `at` on.
-pub fn rows_end(from: usize, to: usize, b: &[u8], at: usize) -> Stop
+// The same by the table, row by row.
+fn table_end(from: usize, to: usize, b: &[u8], at: usize) -> Stop
     requires { ⌜ (from ≤ to) × (to ≤ rows) × (at ≤ length (now b)) ⌝ }
     ensures { λ r. ⌜ r ≡ subfieldsEnd (slice from to table) (now (b .entry)) at ⌝ }
 {
@@ -273,4 +278,37 @@ pub fn rows_end(from: usize, to: usize, b: &[u8], at: usize) -> Stop
         j += 1;
     }
     Stop::At(p)
+}
+
+// Where the subfields of the rows from..to end, read from `at` on; those of which most bytes are made without the table.
+pub fn rows_end(from: usize, to: usize, b: &[u8], at: usize) -> Stop
+    requires { ⌜ (from ≤ to) × (to ≤ rows) × (at ≤ length (now b)) ⌝ }
+    ensures { λ r. ⌜ r ≡ subfieldsEnd (slice from to table) (now (b .entry)) at ⌝ }
+{
+    if from == 68 {
+        if to == 73 {
+            return attribute_end(b, at);
+        }
+    }
+    if from == 87 {
+        if to == 93 {
+            return spatial_end(b, at);
+        }
+    }
+    if from == 37 {
+        if to == 42 {
+            return feature_end(b, at);
+        }
+    }
+    if from == 46 {
+        if to == 50 {
+            return point_end(b, at);
+        }
+    }
+    if from == 63 {
+        if to == 68 {
+            return association_end(b, at);
+        }
+    }
+    table_end(from, to, b, at)
 }

@@ -44,7 +44,7 @@ fn in_set(v: u32, p: u32, q: u32, s: u32, t: u32, next: usize) -> Stop
 }
 
 // A number of 1 byte from lo to hi.
-fn ranged8(lo: u32, hi: u32, b: &[u8], at: usize) -> Stop
+pub fn ranged8(lo: u32, hi: u32, b: &[u8], at: usize) -> Stop
     requires { ⌜ at ≤ length (now b) ⌝ }
     ensures { λ r. ⌜ r ≡ subfieldEnd (Sub.B11 lo hi) (now (b .entry)) at ⌝ }
 {
@@ -55,7 +55,7 @@ fn ranged8(lo: u32, hi: u32, b: &[u8], at: usize) -> Stop
 }
 
 // A number of 2 bytes from lo to hi.
-fn ranged16(lo: u32, hi: u32, b: &[u8], at: usize) -> Stop
+pub fn ranged16(lo: u32, hi: u32, b: &[u8], at: usize) -> Stop
     requires { ⌜ at ≤ length (now b) ⌝ }
     ensures { λ r. ⌜ r ≡ subfieldEnd (Sub.B12 lo hi) (now (b .entry)) at ⌝ }
 {
@@ -66,7 +66,7 @@ fn ranged16(lo: u32, hi: u32, b: &[u8], at: usize) -> Stop
 }
 
 // A number of 4 bytes from lo to hi.
-fn ranged32(lo: u32, hi: u32, b: &[u8], at: usize) -> Stop
+pub fn ranged32(lo: u32, hi: u32, b: &[u8], at: usize) -> Stop
     requires { ⌜ at ≤ length (now b) ⌝ }
     ensures { λ r. ⌜ r ≡ subfieldEnd (Sub.B14 lo hi) (now (b .entry)) at ⌝ }
 {
@@ -77,7 +77,7 @@ fn ranged32(lo: u32, hi: u32, b: &[u8], at: usize) -> Stop
 }
 
 // A number of 1 byte that is one of four.
-fn chosen8(p: u32, q: u32, s: u32, t: u32, b: &[u8], at: usize) -> Stop
+pub fn chosen8(p: u32, q: u32, s: u32, t: u32, b: &[u8], at: usize) -> Stop
     requires { ⌜ at ≤ length (now b) ⌝ }
     ensures { λ r. ⌜ r ≡ subfieldEnd (Sub.Among p q s t) (now (b .entry)) at ⌝ }
 {
@@ -88,7 +88,7 @@ fn chosen8(p: u32, q: u32, s: u32, t: u32, b: &[u8], at: usize) -> Stop
 }
 
 // Any n bytes.
-fn any_bytes(n: usize, b: &[u8], at: usize) -> Stop
+pub fn any_bytes(n: usize, b: &[u8], at: usize) -> Stop
     requires { ⌜ at ≤ length (now b) ⌝ }
     ensures { λ r. ⌜ r ≡ subfieldEnd (Sub.Raw n) (now (b .entry)) at ⌝ }
 {
@@ -99,7 +99,7 @@ fn any_bytes(n: usize, b: &[u8], at: usize) -> Stop
 }
 
 // A text that 1F ends.
-fn ended_text(b: &[u8], at: usize) -> Stop
+pub fn ended_text(b: &[u8], at: usize) -> Stop
     requires { ⌜ at ≤ length (now b) ⌝ }
     ensures { λ r. ⌜ r ≡ subfieldEnd Sub.Text (now (b .entry)) at ⌝ }
 {

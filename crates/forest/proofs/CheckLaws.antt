@@ -1,14 +1,8 @@
 -- Tests one after the other. Assumes nothing.
 use mathlib.Core.Path.{_≡_, refl, ap}
-use Prim.Native.Nat.{ℕ}
-use native.Mathlib.Omega.{arith}
 use mathlib.Core.Logic.{_⊎_, inl, inr}
-use Rattle.base.specs.Check.{Check, ok, no, bind, refuse}
+use Rattle.base.specs.Check.{Check, ok, no, bind}
 use Rattle.base.specs.declared.Fault.{Fault}
-
--- a refusal is no value
-pub never : {A X : Type 0} {n t : ℕ} {a : A} → refuse n t ≡ ok a → X
-never e = absurd (let z : _≡_ {A = ℕ} 0 1 = cc in omega arith)
 
 -- what comes after a test need only agree on the value that it gives
 pub bind-same : {A B : Type 0} (c : Check A) (k l : A → Check B) → ((a : A) → c ≡ ok a → k a ≡ l a) → bind c k ≡ bind c l
@@ -21,10 +15,6 @@ pub bind-then : {A B C : Type 0} (c : Check A) (f : A → B) (k : B → Check C)
 unfolding bind
 bind-then (ok a) f k = refl
 bind-then (no e) f k = refl
-
--- a value is no refusal
-pub ok-no : {A X : Type 0} {a : A} {f : Fault} → ok a ≡ no f → X
-ok-no e = absurd (let z : _≡_ {A = ℕ} 0 1 = cc in omega arith)
 
 -- the same refusal
 pub no-same : {A : Type 0} {f g : Fault} → _≡_ {A = Check A} (no f) (no g) → f ≡ g

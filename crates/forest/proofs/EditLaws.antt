@@ -7,11 +7,10 @@ use lib.Dec.{eqb, ltb}
 use Rattle.base.specs.Choice.{pick}
 use Rattle.base.specs.Check.{Check, ok, bind, refuse}
 use Rattle.base.proofs.ChoiceLaws.{by-test}
-use Rattle.base.proofs.CheckLaws.{bind-inv, ok-inj}
+use Rattle.base.proofs.CheckLaws.{bind-inv, ok-inj, refused}
 use Rattle.forest.specs.Forest.{Forest, nil, tree, valued, beside, Plain, p-nil, p-tree}
 use Rattle.forest.specs.Acts.{Acts, done, act, insert, delete, modify}
 use Rattle.forest.specs.Edit.{count, put, behind, cut, alter, edit}
-use Rattle.forest.proofs.CheckLaws.{never}
 
 -- ---- an entry that joins, leaves or changes
 
@@ -42,7 +41,7 @@ behind-plain d w ks r bare kp given g e = let (rest, x, y) = bind-inv r _ g e in
 -- a run without one of its entries
 cut-plain : (n c k : ℕ) (f : Forest) → Plain f → Gives (cut n c k f)
 unfolding cut
-cut-plain n c k nil fp = λ g e. never e
+cut-plain n c k nil fp = λ g e. refused e
 cut-plain n c k (tree d w ks rest) (p-tree bare kp rp) =
     by-test Gives (eqb d c) _ _
     (λ _. by-test Gives (eqb k 1) _ _ (λ _. gives rest rp) (λ _. behind-plain d w ks _ bare kp (cut-plain n c (k - 1) rest rp)))
@@ -52,7 +51,7 @@ cut-plain n c k (tree d w ks rest) (p-tree bare kp rp) =
 alter-plain : (n c k : ℕ) (v : List ℕ) (h : Forest → Check Forest) → ((ks : Forest) → Plain ks → (g : Forest) → h ks ≡ ok g → (beside v g ≡ false) × Plain g)
     → (f : Forest) → Plain f → Gives (alter n c k v h f)
 unfolding alter
-alter-plain n c k v h below nil fp = λ g e. never e
+alter-plain n c k v h below nil fp = λ g e. refused e
 alter-plain n c k v h below (tree d w ks rest) (p-tree bare kp rp) =
     by-test Gives (eqb d c) _ _
     (λ _. by-test Gives (eqb k 1) _ _
@@ -66,9 +65,9 @@ alter-plain n c k v h below (tree d w ks rest) (p-tree bare kp rp) =
 barren-edit : (us : Acts) (g : Forest) → edit true nil us ≡ ok g → g ≡ nil
 unfolding edit cut alter bind
 barren-edit done g e = sym (ok-inj _ _ e)
-barren-edit (act n insert c k v us rest) g e = never e
-barren-edit (act n delete c k v us rest) g e = never e
-barren-edit (act n modify c k v us rest) g e = never e
+barren-edit (act n insert c k v us rest) g e = refused e
+barren-edit (act n delete c k v us rest) g e = refused e
+barren-edit (act n modify c k v us rest) g e = refused e
 
 -- so children that are edited stand beside no value, if they did not before
 edit-bare : (v : List ℕ) (ks : Forest) (us : Acts) (g : Forest) → beside v ks ≡ false → edit (valued v) ks us ≡ ok g → beside v g ≡ false
@@ -89,7 +88,7 @@ below-plain : (n : ℕ) (v : List ℕ) (us : Acts) → ((ks : Forest) → Plain 
 below-plain n v us ih ks kp g e = go (beside v ks) refl
   where
     go : (b : Bool) → beside v ks ≡ b → (beside v g ≡ false) × Plain g
-    go true b = never (rw b at e)
+    go true b = refused (rw b at e)
     go false b = let led : edit (valued v) ks us ≡ ok g = rw b at e in (edit-bare v ks us g b led, ih ks kp g led)
 
 -- an edit of a plain run gives a plain one
@@ -97,8 +96,8 @@ edit-plains : (us : Acts) (barren : Bool) (f : Forest) → Plain f → Gives (ed
 unfolding edit
 edit-plains done barren f fp = gives f fp
 edit-plains (act n insert c k v us rest) barren f fp =
-    by-test Gives barren _ _ (λ _ g e. never e)
-    (λ _. by-test Gives (ltb (suc (count c f)) k) _ _ (λ _ g e. never e)
+    by-test Gives barren _ _ (λ _ g e. refused e)
+    (λ _. by-test Gives (ltb (suc (count c f)) k) _ _ (λ _ g e. refused e)
     (λ _ g e. let (ks, x, y) = bind-inv (edit (valued v) nil us) _ g e in
     edit-plains rest barren (put c k v ks f) (put-plain c k v ks f (edit-bare v nil us ks (beside-nil v) x) (edit-plains us (valued v) nil p-nil ks x) fp) g y))
 edit-plains (act n delete c k v us rest) barren f fp =

@@ -8,11 +8,12 @@ use native.Mathlib.Omega.{arith}
 use lib.ListN.{length}
 use Rattle.base.specs.Check.{Check, no, bind}
 use Rattle.base.specs.declared.Fault.{Fault}
+use Rattle.base.proofs.CheckLaws.{ok-no}
 use Rattle.forest.specs.Rule.{allTaken, treeOf}
 use Rattle.forest.specs.Forest.{Tup}
 use Rattle.forest.specs.Acts.{UTup, actsOf}
 use Rattle.forest.specs.Reader.{Read, readUpTo}
-use Rattle.forest.proofs.CheckLaws.{ok-no, no-same, bind-no, bind-then}
+use Rattle.forest.proofs.CheckLaws.{no-same, bind-no, bind-then}
 use Rattle.forest.proofs.ReaderLaws.{Refusal, between-end, read-refused}
 use Rattle.forest.proofs.TupleReader.{Passing, passing, onFirst, TupleRule, source, list-falls, rule-reads}
 use Rattle.forest.proofs.RunLaws.{wholeRule, actsRule}

@@ -11,13 +11,13 @@ use borrow.Author.Tests.{eq-eqb, eqb-true, eqb-false}
 use Rattle.base.specs.Choice.{pick, either}
 use Rattle.base.specs.Check.{Check, ok, no}
 use Rattle.base.specs.declared.Fault.{Fault}
-use Rattle.base.proofs.CheckLaws.{bind-inv}
+use Rattle.base.proofs.CheckLaws.{bind-inv, ok-no}
 use Rattle.forest.specs.Forest.{Forest, Tup, occurs, valued}
 use Rattle.forest.specs.Rule.{codesOf, indexed, allTaken, treeOf}
 use Rattle.forest.specs.Reader.{Read, belongs, faulty, readUpTo, Falls}
 use Rattle.forest.specs.Paper.{blank, tupleAt, Above, itself, beyond, Stands, TreeRule}
 use Rattle.forest.proofs.Numbers.{lt-or-le}
-use Rattle.forest.proofs.CheckLaws.{ok-no, bind-no}
+use Rattle.forest.proofs.CheckLaws.{bind-no}
 use Rattle.forest.proofs.ReaderLaws.{read-holds, read-accepted}
 use Rattle.forest.proofs.TupleReader.{Passing, passing, list-falls}
 use Rattle.forest.proofs.RunLaws.{wholeRule}

@@ -11,8 +11,8 @@ use Rattle.base.specs.Choice.{either}
 use Rattle.base.specs.Check.{Check, ok, no, bind, fault, refuse}
 use Rattle.base.specs.declared.Fault.{Fault}
 use Rattle.base.proofs.ChoiceLaws.{both-hold}
-use Rattle.base.proofs.CheckLaws.{bind-inv, ok-inj}
-use Rattle.forest.proofs.CheckLaws.{never, bind-same, ok-no, no-same, bind-no}
+use Rattle.base.proofs.CheckLaws.{refused as never, ok-no, bind-inv, ok-inj}
+use Rattle.forest.proofs.CheckLaws.{bind-same, no-same, bind-no}
 use Rattle.forest.specs.Reader.{Reader, Read, belongs, faulty, entryThen, readUpTo, readRun, Falls}
 
 -- 6 at a place from k on, below m

@@ -8,11 +8,11 @@ use lib.ListN.{length}
 use borrow.Author.Tests.{eq-eqb, ne-eqb, eqb-true}
 use Rattle.base.specs.Choice.{either}
 use Rattle.base.specs.Check.{Check, ok, bind}
-use Rattle.base.proofs.CheckLaws.{bind-inv, ok-inj}
+use Rattle.base.proofs.CheckLaws.{bind-inv, ok-inj, refused}
 use Rattle.forest.specs.Forest.{Forest, nil, tree, Tup, occurs, size, tuplesFrom, tuplesOf, valued, beside, Plain, p-nil, p-tree}
 use Rattle.forest.specs.Rule.{codesOf, indexed, Run, allTaken, runUpTo, treeOf, entryOf}
 use Rattle.forest.specs.Reader.{Reader, Read, readUpTo}
-use Rattle.forest.proofs.CheckLaws.{never, bind-then}
+use Rattle.forest.proofs.CheckLaws.{bind-then}
 use Rattle.forest.proofs.ReaderLaws.{Turn, stopped, went, read-turn}
 use Rattle.forest.proofs.TupleReader.{Passing, passing, source, rule-reads}
 use Rattle.forest.proofs.RunLaws.{wholeRule}
@@ -149,7 +149,7 @@ sound (suc n) earlier p barren ts r fits low e = turn-sound n earlier p barren t
 pub taken-whole : (f g : Forest) (k : ℕ) (ts : List Tup) → allTaken f k ts ≡ ok g → (f ≡ g) × (ts ≡ [])
 unfolding allTaken
 taken-whole f g k [] e = (ok-inj _ _ e, refl)
-taken-whole f g k (t ∷ ts) e = never e
+taken-whole f g k (t ∷ ts) e = refused e
 
 -- the tree rule as a reading
 pub tree-reads : (ts : List Tup) → treeOf ts ≡ bind (readUpTo tuples (length ts) 0 false (passing [] ts)) (λ r. allTaken (r .found) (suc (length (r .end .past))) (r .end .left))

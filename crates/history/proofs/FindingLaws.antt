@@ -21,6 +21,7 @@ use Rattle.rules.specs.Record.{keyOf as keyInRules, keyNamed, recOf}
 use Rattle.rules.specs.declared.Kind.{Kind}
 use Rattle.sequence.specs.Keyed.{find, Once}
 use Rattle.updates.specs.Acts.{chart}
+use Rattle.updates.specs.Accepted.{Writable}
 use Rattle.stock.specs.Stored.{Stored}
 use Rattle.stock.specs.Stock.{recBy, recIn, AllStored, stockFrom, Stock}
 use Rattle.stock.proofs.StockLaws.{stock-good, stock-here}
@@ -39,7 +40,6 @@ use Rattle.version.specs.declared.Version.{Version}
 use Rattle.version.specs.declared.Present.the-variants.{Here}
 use Rattle.history.specs.Here.{recordHere}
 use Rattle.history.specs.Located.{Stands, Located}
-use Rattle.history.specs.Ready.{Writable}
 use Rattle.history.proofs.HereLaws.{here-is, here-word, here-fits, here-keyed, here-kind, Known, known-stored}
 
 -- ---- the record with a key, among those of the dataset

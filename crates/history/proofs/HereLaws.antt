@@ -11,7 +11,7 @@ use Rattle.base.specs.Choice.{pick}
 use Rattle.base.specs.Check.{ok, no, bind, fault, Passed, pass}
 use Rattle.base.specs.Lists.{each}
 use Rattle.base.specs.Walk.{Got}
-use Rattle.base.proofs.CheckLaws.{bind-inv, ok-inj}
+use Rattle.base.proofs.CheckLaws.{refused, bind-inv, ok-inj}
 use Rattle.skeleton.specs.File.{Field, recordsFrom}
 use Rattle.skeleton.specs.Place.{between, fieldsAt}
 use Rattle.skeleton.specs.Record.{recordAt}
@@ -72,22 +72,19 @@ pub record Known (k : Kind) (fs : List Field) : Type 0 where
   pub keyed : Keyed k fs
   pub kind : kindIn fs ≡ some k
 
-no-kind {ℓ} : {X : Type ℓ} {n i j : ℕ} {k : Kind} → no (fault n i j) ≡ ok k → X
-no-kind e = absurd (let z : _≡_ {A = ℕ} 0 1 = cc in omega arith)
-
 -- the kind that number 4 gives
 kind-four : (o : Option Kind) (least : ℕ) (c : Kind → Passed) (k : Kind)
     → onKind o (λ j. pick (ltb (rank j) least) (no (fault 4 1 0)) (bind (c j) (λ _. ok j))) ≡ ok k → o ≡ some k
-kind-four none least c k e = no-kind e
+kind-four none least c k e = refused e
 kind-four (some j) least c k e = go (ltb (rank j) least) e
   where
     go : (t : Bool) → pick t (no (fault 4 1 0)) (bind (c j) (λ _. ok j)) ≡ ok k → some j ≡ some k
-    go true y = no-kind y
+    go true y = refused y
     go false y = ap some (ok-inj j k (bind-inv (c j) (λ _. ok j) k y .2))
 
 known-by : (m : Mode) (least : ℕ) (fs : List Field) (k : Kind) → number4 m least fs ≡ ok k → number5 m k fs ≡ pass → Known k fs
 unfolding number4 firstTag
-known-by m least [] k e g = no-kind e
+known-by m least [] k e g = refused e
 known-by m least (f ∷ fs) k e g = record {
   keyed = keyed-by m k f fs tt g;
   kind = kind-four (kindOf (f .tag)) least (λ j. fieldsStand m j (f .body) fs) k e;

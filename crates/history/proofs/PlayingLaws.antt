@@ -22,6 +22,7 @@ use Rattle.sequence.proofs.Arms.{history-skip, history-next, history-no}
 use Rattle.sequence.proofs.Local.{history-under}
 use Rattle.sequence.proofs.Lists.{each-find}
 use Rattle.updates.specs.Acts.{chart}
+use Rattle.updates.specs.Accepted.{Writable}
 use Rattle.updates.proofs.Acted.{lawful}
 use Rattle.stock.specs.Stock.{recIn, stockFrom}
 use Rattle.incoming.specs.Fitting.{Single, AllSingle, Rest}
@@ -42,7 +43,7 @@ use Rattle.version.specs.declared.Changed.{Changed}
 use Rattle.version.specs.declared.Changed.the-variants.{Refused, Now}
 use Rattle.history.specs.Here.{recordHere, namedIn}
 use Rattle.history.specs.Located.{Stands, Located}
-use Rattle.history.specs.Ready.{Writable, Short, Ready}
+use Rattle.history.specs.Ready.{Short, Ready}
 use Rattle.history.specs.Played.{Acting, Acted, Playing, Played, Latest}
 use Rattle.history.proofs.HereLaws.{here-keyed, Known, known-sent}
 use Rattle.history.proofs.ActingLaws.{named-as}

@@ -4,18 +4,20 @@ use mathlib.Core.List.{List}
 use Prim.Native.Nat.{ℕ, _≤_}
 use lib.ListN.{length}
 use Rattle.base.specs.Check.{pass}
+use Rattle.base.specs.Lists.{Each}
 use Rattle.rules.specs.Written.{Dataset, writtenFields, number12, written}
 use Rattle.rules.specs.Outcome.{done, everyRecord}
 use Rattle.rules.specs.File.{readDataset, writable}
 use Rattle.rules.proofs.OutcomeLaws.{andThen-inv}
-use Rattle.sequence.specs.Keyed.{Each, Once}
+use Rattle.sequence.specs.Keyed.{Once}
 use Rattle.updates.specs.Acts.{chart}
 use Rattle.updates.specs.Sorted.{Sorted}
+use Rattle.updates.specs.Accepted.{Writable}
 use Rattle.updates.proofs.Results.{read-sorted}
 use Rattle.updates.proofs.Kept.{every-inv, each-of}
 use Rattle.stock.specs.Stock.{stockFrom, Stock}
 use Rattle.incoming.specs.Fitting.{Fitting}
-use Rattle.history.specs.Ready.{Writable, Short, Ready}
+use Rattle.history.specs.Ready.{Short, Ready}
 
 -- each record of a dataset that can be written can be
 pub writable-each : (a : Dataset) → writable a ≡ done a → Each Writable (a .records)

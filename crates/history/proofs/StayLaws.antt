@@ -4,12 +4,12 @@ use mathlib.Core.Option.{Option}
 use mathlib.Core.List.{List}
 use Prim.Native.Nat.{ℕ, _*_}
 use lib.ListN.{take}
-use Rattle.base.specs.Lists.{each}
+use Rattle.base.specs.Lists.{each, Each}
 use Rattle.rules.specs.Coordinates.{coordsIn}
 use Rattle.rules.specs.Record.{Rec, Parts, assocOf}
 use Rattle.items.specs.Items.{its}
 use Rattle.cells.specs.Cells.{bodiesOf, spatialIn}
-use Rattle.version.specs.Held.{All, RightInas, RightSpas, HeldParts, Held}
+use Rattle.version.specs.Held.{RightInas, RightSpas, HeldParts, Held}
 use Rattle.version.specs.Present.{HeldAs}
 use Rattle.version.specs.declared.Version.{Version}
 use Rattle.version.specs.declared.Present.{Present}
@@ -21,10 +21,10 @@ module _ (d u w : List ℕ) (key : ℕ) (v : List ℕ) (m : Marked w key v) wher
   parts-stay x p h = record {
     attributes = ap (λ (a : List ℕ). its d u a 0 (x .attr)) (m .list) ∙ h .attributes;
     associations = h .associations ∙ ap (λ (a : List ℕ). each assocOf (bodiesOf d u a (x .inas))) (sym (m .inas));
-    inas-right = subst (λ (a : List ℕ). All RightInas (bodiesOf d u a (x .inas))) (sym (m .inas)) (h .inas-right);
+    inas-right = subst (λ (a : List ℕ). Each RightInas (bodiesOf d u a (x .inas))) (sym (m .inas)) (h .inas-right);
     coordinates = h .coordinates ∙ ap (λ (a : List ℕ). coordsIn (take (8 * x .coord) a)) (sym (m .list));
     spatial = h .spatial ∙ ap (λ (a : List ℕ). each spatialIn (bodiesOf d u a (x .spas))) (sym (m .spas));
-    spas-right = subst (λ (a : List ℕ). All RightSpas (bodiesOf d u a (x .spas))) (sym (m .spas)) (h .spas-right);
+    spas-right = subst (λ (a : List ℕ). Each RightSpas (bodiesOf d u a (x .spas))) (sym (m .spas)) (h .spas-right);
     attr-room = h .attr-room;
     inas-room = h .inas-room;
     coord-room = h .coord-room;

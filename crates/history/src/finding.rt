@@ -7,19 +7,18 @@ use skeleton::directory::Shape;
 use skeleton::file::record_at;
 use skeleton::leader::Head;
 use version::Present;
-ghost use mathlib.Core.Path.{_≡_};
 ghost use mathlib.Core.List.{List};
 ghost use mathlib.Core.Option.{some};
 ghost use Prim.Native.Nat.{ℕ, _≤_, _<_};
 ghost use lib.ListN.{length};
 ghost use Rattle.sequence.specs.Keyed.{Once};
 ghost use Rattle.updates.specs.Acts.{chart};
+ghost use Rattle.updates.specs.Accepted.{Writable};
 ghost use Rattle.stock.specs.Stock.{recIn, stockFrom, Stock};
 ghost use Rattle.keys.specs.Table.{Laid};
 ghost use Rattle.version.specs.Present.{HeldAs, FlagsKept};
 ghost use Rattle.history.specs.Here.{recordHere};
 ghost use Rattle.history.specs.Located.{Located};
-ghost use Rattle.history.specs.Ready.{Writable};
 
 // Where the dataset's record with the key begins; the dataset's length where there is none.
 pub fn locate(d: &[u8], ds: usize, t: &[u32], n: usize, map: &[u8], key: u64) -> usize

@@ -10,7 +10,7 @@ use Rattle.base.specs.Check.{ok, no, bind, fault, Passed, passed}
 use Rattle.base.specs.Verdict.{verdictOf}
 use Rattle.base.specs.declared.Verdict.{Verdict}
 use Rattle.base.specs.declared.Verdict.the-variants.{Passed as Through, Refused as Failed}
-use Rattle.base.proofs.CheckLaws.{passed-is}
+use Rattle.base.proofs.CheckLaws.{passed-is, refused-is}
 use Rattle.skeleton.specs.File.{Field, recordsOf}
 use Rattle.skeleton.specs.Place.{between, fieldsAt}
 use Rattle.skeleton.specs.Record.{recordAt}
@@ -35,7 +35,6 @@ use Rattle.opening.specs.declared.carried.Opened.the-variants.{Behind, Stopped 
 use Rattle.opening.proofs.CarriedLaws.{behind-is, behind-in}
 use Rattle.opening.proofs.OpeningLaws.{by-head, taken-carried, empty-head}
 use Rattle.dataset.proofs.FileLaws.{file-two, shut-is}
-use Rattle.dataset.proofs.VerdictLaws.{refused-is}
 use Rattle.incoming.specs.Came.{thirdOn, behindTwo, cameBy}
 use Rattle.incoming.specs.declared.walk.Came.{Came}
 use Rattle.incoming.specs.declared.walk.Came.the-variants.{Fit, Stopped}

@@ -4,19 +4,19 @@ use mathlib.Core.List.{List, [], _∷_, _++_}
 use mathlib.Core.Bool.{Bool, true, false, true≢false}
 use Prim.Native.Nat.{ℕ, suc, _+_, _/_, _%_, _≤_, _<_}
 use native.Mathlib.Omega.{arith}
-use borrow.Author.Tests.{lt-ltb, le-ltb, ne-eqb, le-leb, ltb-true, ltb-false, leb-true, eqb-true, eqb-false}
+use borrow.Author.Tests.{ne-eqb, le-leb, ltb-false, leb-true, eqb-true, eqb-false}
 use lib.ListN.{length, take, drop}
 use lib.Seq.{drop-cons}
 use lib.Dec.{leb, ltb, eqb}
+use Rattle.base.specs.Choice.{either, largerOf}
+use Rattle.base.proofs.ChoiceLaws.{by-test, both-hold, larger-second, larger-first, larger-left, larger-right}
 use Rattle.memory.specs.Hold.{zeros}
 use Rattle.memory.proofs.HoldLaws.{length-zeros}
-use Rattle.base.specs.Choice.{either}
-use Rattle.base.proofs.ChoiceLaws.{by-test, both-hold}
 use Rattle.keys.specs.Listed.{keysFrom, listed, seenFrom}
 use Rattle.keys.specs.Look.{Known}
 use Rattle.keys.specs.Bits.{flagOf, raised}
 use Rattle.keys.specs.Map.{kindIn, sharedFlag, Marks}
-use Rattle.keys.specs.Once.{largerOf, noneAbove, Renewed, Once, Comes, Told}
+use Rattle.keys.specs.Once.{noneAbove, Renewed, Once, Comes, Told}
 use Rattle.keys.proofs.ListLaws.{listed-later, listed-none, listed-more, split-take}
 use Rattle.keys.proofs.BitLaws.{raised-long, flag-same, flag-other}
 use Rattle.keys.proofs.MapLaws.{zeros-all}
@@ -42,23 +42,15 @@ above-more top up k (x ∷ xs) h g e =
     simp (le-leb x up (omega arith)) (above-more top up k xs h g (b .1))
 
 -- what `larger` returns
-pub larger-second : (a b : ℕ) → a < b → b ≡ largerOf a b
-unfolding largerOf
-larger-second a b h = simp (lt-ltb a b h)
-
-pub larger-first : (a b : ℕ) → b ≤ a → a ≡ largerOf a b
-unfolding largerOf
-larger-first a b h = simp (le-ltb a b h)
-
 pub ruleset larger-ways = (larger-first, larger-second)
 
 -- the larger of two is not below either, and of the kind of the second, where that is not before the first's
 pub larger-least : (a b : ℕ) → (a ≤ largerOf a b) × (b ≤ largerOf a b) × (kindIn a ≤ kindIn b → kindIn (largerOf a b) ≡ kindIn b)
-unfolding largerOf
-larger-least a b =
-    by-test (λ (r : ℕ). (a ≤ r) × (b ≤ r) × (kindIn a ≤ kindIn b → kindIn r ≡ kindIn b)) (ltb a b) b a
-    (λ e. let h = ltb-true a b e in (omega arith, omega arith, λ _. refl))
-    (λ e. let h = ltb-false a b e in (omega arith, omega arith, λ g. omega arith))
+larger-least a b = (
+  larger-left a b,
+  larger-right a b,
+  λ g. by-test (λ (r : ℕ). kindIn r ≡ kindIn b) (ltb a b) b a (λ e. refl) (λ e. let h = ltb-false a b e in omega arith),
+)
 
 -- ---- `stood`
 

@@ -8,7 +8,7 @@ use native.Mathlib.Omega.{arith}
 use borrow.Author.Tests.{ne-eqb, lt-leb}
 use lib.ListN.{length, take, drop, length-drop}
 use lib.Seq.{drop-cons}
-use Rattle.base.specs.Choice.{pick}
+use Rattle.base.specs.Choice.{pick, largerOf}
 use Rattle.base.specs.Check.{Check, ok, no, bind, fault}
 use Rattle.base.specs.Lists.{each}
 use Rattle.base.specs.Keys.{among}
@@ -32,7 +32,7 @@ use Rattle.keys.specs.Key.{keyAt}
 use Rattle.keys.specs.Listed.{keyOf, keysFrom, listed, seenFrom}
 use Rattle.keys.specs.Look.{Known}
 use Rattle.keys.specs.Map.{kindIn}
-use Rattle.keys.specs.Once.{largerOf, noneAbove, Once, Comes, Told}
+use Rattle.keys.specs.Once.{noneAbove, Once, Comes, Told}
 use Rattle.keys.specs.Numbered.{Ranged, Numbered}
 use Rattle.keys.specs.Standing.{fourToSix, unread, outcomeFrom, Standing}
 use Rattle.keys.proofs.FirstLaws.{first-key}

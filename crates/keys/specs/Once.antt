@@ -4,15 +4,11 @@ use mathlib.Core.Path.{_≡_}
 use mathlib.Core.List.{List, [], _∷_}
 use mathlib.Core.Bool.{Bool, true, false}
 use lib.ListN.{length, getD, take}
-use lib.Dec.{leb, ltb}
-use Rattle.base.specs.Choice.{pick, both}
+use lib.Dec.{leb}
+use Rattle.base.specs.Choice.{both, largerOf}
 use Rattle.keys.specs.Listed.{keysFrom, seenFrom}
 use Rattle.keys.specs.Look.{Known}
 use Rattle.keys.specs.Map.{kindIn, Marks}
-
--- the larger of two
-unfoldable pub largerOf : ℕ → ℕ → ℕ
-largerOf a b = pick (ltb a b) b a
 
 -- none of the keys is above top
 unfoldable pub noneAbove : ℕ → List ℕ → Bool

@@ -7,9 +7,10 @@ use memory::clearing::zero;
 ghost use mathlib.Core.Path.{_≡_};
 ghost use Prim.Native.Nat.{_/_, _≤_};
 ghost use lib.ListN.{length};
+ghost use Rattle.base.specs.Choice.{largerOf};
 ghost use Rattle.keys.specs.Listed.{seenFrom};
 ghost use Rattle.keys.specs.Map.{kindIn};
-ghost use Rattle.keys.specs.Once.{largerOf, Renewed, Once, Comes, Told};
+ghost use Rattle.keys.specs.Once.{Renewed, Once, Comes, Told};
 
 // The larger of two.
 pub fn larger(a: u64, b: u64) -> u64

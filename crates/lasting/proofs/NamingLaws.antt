@@ -6,13 +6,13 @@ use mathlib.Core.List.{List, [], _∷_, _++_}
 use native.Mathlib.Omega.{arith}
 use lib.Dec.{eqb}
 use Rattle.base.specs.Keys.{same}
-use Rattle.base.specs.Lists.{each}
+use Rattle.base.specs.Lists.{each, Each}
 use Rattle.base.proofs.KeysLaws.{same-sound, same-refl}
 use Rattle.base.proofs.OptionLaws.{never}
 use Rattle.skeleton.specs.File.{Field}
 use Rattle.rules.specs.Kind.{rcnm, rank}
 use Rattle.rules.specs.Record.{Rec, keyOf as keyInRules}
-use Rattle.sequence.specs.Keyed.{Each, find, Once}
+use Rattle.sequence.specs.Keyed.{find, Once}
 use Rattle.sequence.specs.Order.{isInsert, named}
 use Rattle.sequence.proofs.Tests.{by-bool}
 use Rattle.sequence.proofs.Lists.{find-hit, find-miss}

@@ -10,6 +10,7 @@ use lib.Dec.{eqb}
 use lib.ListN.{length}
 use Rattle.base.specs.Check.{Check, ok}
 use Rattle.base.specs.Walk.{Got}
+use Rattle.base.specs.Lists.{Each}
 use Rattle.skeleton.specs.File.{Field, recordsFrom}
 use Rattle.skeleton.specs.Place.{between, fieldsAt}
 use Rattle.skeleton.specs.Record.{recordAt}
@@ -19,7 +20,7 @@ use Rattle.skeleton.proofs.RecordLaws.{Right, right}
 use Rattle.skeleton.proofs.FileLaws.{records-more}
 use Rattle.fields.specs.Valid.{Bytes}
 use Rattle.rules.specs.Record.{Rec}
-use Rattle.sequence.specs.Keyed.{Parts, Each}
+use Rattle.sequence.specs.Keyed.{Parts}
 use Rattle.sequence.specs.History.{history}
 use Rattle.sequence.specs.Order.{isInsert, deleted}
 use Rattle.sequence.specs.Stream.{joinedOf}

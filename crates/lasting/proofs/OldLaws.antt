@@ -9,6 +9,7 @@ use borrow.Author.Tests.{eq-eqb, ne-eqb, not-true}
 use lib.ListN.{length, drop, length-take, length-drop}
 use Rattle.base.specs.Check.{Check, ok, pass}
 use Rattle.base.specs.Walk.{Got}
+use Rattle.base.specs.Lists.{Each}
 use Rattle.skeleton.specs.File.{Field, recordsFrom}
 use Rattle.skeleton.specs.Place.{between, fieldsAt}
 use Rattle.skeleton.specs.Record.{recordAt}
@@ -20,13 +21,15 @@ use Rattle.fields.specs.Valid.{Bytes}
 use Rattle.rules.specs.Record.{Rec, recOf, keyOf as keyInRules}
 use Rattle.rules.specs.Written.{writtenFields, writtenLength, number12}
 use Rattle.rules.specs.declared.Kind.{Kind}
-use Rattle.sequence.specs.Keyed.{Each, Has, find, Once}
+use Rattle.rules.proofs.LengthLaws.{short-record}
+use Rattle.sequence.specs.Keyed.{Has, find, Once}
 use Rattle.sequence.specs.History.{history}
 use Rattle.sequence.specs.Order.{named, deleted}
 use Rattle.sequence.specs.Stream.{keptOf}
 use Rattle.sequence.proofs.Lists.{each-find}
 use Rattle.sequence.proofs.Arms.{kept-kind, kept-deleted, kept-stays, kept-untouched}
 use Rattle.updates.specs.Acts.{placeOf, chart}
+use Rattle.updates.specs.Accepted.{Writable}
 use Rattle.updates.proofs.Acted.{lawful}
 use Rattle.sound.specs.Sound.{SoundRec}
 use Rattle.stock.specs.Stored.{Stored}
@@ -52,7 +55,6 @@ use Rattle.composing.specs.declared.making.Made.{Made}
 use Rattle.composing.proofs.KnownLaws.{deleted-known}
 use Rattle.composing.proofs.ResultLaws.{kept-some, history-sound}
 use Rattle.history.specs.Here.{recordHere}
-use Rattle.history.specs.Ready.{Writable}
 use Rattle.history.specs.Played.{Playing, Played}
 use Rattle.history.proofs.FlagLaws.{flags-clear, flags-kept}
 use Rattle.history.proofs.HereLaws.{here-is, Known, known-stored}
@@ -66,7 +68,7 @@ use Rattle.lasting.proofs.WalkLaws.{take-records}
 use Rattle.lasting.proofs.WholeLaws.{rest-sendable, whole-known, whole-fine, whole-kept}
 use Rattle.lasting.proofs.NamingLaws.{place-is, named-listed, once-there}
 use Rattle.lasting.proofs.ReadableLaws.{stored-readable}
-use Rattle.lasting.proofs.StepLaws.{short, made-step, stepped-as, step-flags}
+use Rattle.lasting.proofs.StepLaws.{made-step, stepped-as, step-flags}
 
 module _ (d : List ℕ) (ds : ℕ) (t : List ℕ) (n : ℕ) (map u : List ℕ) (us : ℕ) (w : List ℕ) (x : Whole d ds t n map u us w)
     (p len : ℕ) (h : Shape) (key : ℕ) (o : Old d ds p len h key) where
@@ -187,7 +189,7 @@ module _ (d : List ℕ) (ds : ℕ) (t : List ℕ) (n : ℕ) (map u : List ℕ) (
     writes = has Writable (x .ready .writable)
 
     pub old-short : writtenLength (inHouseForm true fields) ≤ 99999
-    old-short = subst (λ (fs : List Field). writtenLength fs ≤ 99999) (ap writtenFields as-kind ∙ house) (short (writtenFields rec) writes)
+    old-short = subst (λ (fs : List Field). writtenLength fs ≤ 99999) (ap writtenFields as-kind ∙ house) (short-record (writtenFields rec) writes)
 
     pub old-carried : (f : List ℕ) (to : ℕ) (before out : List ℕ) (m : Made) → Carries d ds u us f fields to before out m → (s : Step) → s ≡ stepBy m
         → Stepped d ds u us f (rec ∷ []) to before out s

@@ -1,19 +1,15 @@
 -- Laws of one step of the result. Assumes nothing.
 use Prim.Native.Nat.{ℕ, _*_, _≤_}
 use mathlib.Core.Path.{_≡_, refl, sym, subst}
-use mathlib.Core.Bool.{Bool, true, false}
 use mathlib.Core.Option.{Option, some, none}
 use mathlib.Core.List.{List, [], _∷_}
 use native.Mathlib.Omega.{arith}
-use borrow.Author.Tests.{ltb-false}
-use lib.Dec.{ltb}
-use Rattle.base.specs.Choice.{pick}
 use Rattle.base.specs.Check.{ok, no, fault, pass}
-use Rattle.base.proofs.CheckLaws.{ok-inj, refused}
-use Rattle.base.proofs.OptionLaws.{some-inj}
-use Rattle.skeleton.specs.File.{Field}
+use Rattle.base.proofs.CheckLaws.{ok-no, ok-inj}
+use Rattle.base.proofs.OptionLaws.{never, some-inj}
 use Rattle.rules.specs.Record.{Rec}
-use Rattle.rules.specs.Written.{writtenFields, writtenLength, number12}
+use Rattle.rules.specs.Written.{writtenFields, number12}
+use Rattle.rules.proofs.LengthLaws.{short-record}
 use Rattle.version.specs.Areas.{flagArea}
 use Rattle.version.specs.Held.{Held}
 use Rattle.version.specs.Present.{HeldAs, ChangedTo}
@@ -46,20 +42,12 @@ pub ruleset step-ways = (step-loose, step-one)
 
 -- ---- a record that can be written
 
-pub short : (fs : List Field) → number12 fs ≡ pass → writtenLength fs ≤ 99999
-unfolding number12
-short fs e = go (ltb 99999 (writtenLength fs)) refl e
-  where
-    go : (t : Bool) → ltb 99999 (writtenLength fs) ≡ t → pick t (no (fault 12 0 0)) pass ≡ pass → writtenLength fs ≤ 99999
-    go true y z = refused z
-    go false y z = ltb-false 99999 (writtenLength fs) y
-
 module _ (d : List ℕ) (ds : ℕ) (u : List ℕ) (us : ℕ) (flags : List ℕ) (to : ℕ) (before out : List ℕ) where
   -- what was made of it is a step
   pub made-step : (r : Rec) → number12 (writtenFields r) ≡ pass → (m : Made) → MadeOf d ds u us flags r to before out m → Stepped d ds u us flags (r ∷ []) to before out (stepBy m)
   unfolding Stepped stepBy
   made-step r f MadeLoose o = (r, refl, o)
-  made-step r f (Next n) o = (r, refl, o, unfold MadeOf in (let e = o .1 .next in let s = short (writtenFields r) f in omega arith))
+  made-step r f (Next n) o = (r, refl, o, unfold MadeOf in (let e = o .1 .next in let s = short-record (writtenFields r) f in omega arith))
 
   -- of other records, which are the same
   pub stepped-as : (rs qs : List Rec) → qs ≡ rs → (s : Step) → Stepped d ds u us flags rs to before out s → Stepped d ds u us flags qs to before out s
@@ -80,7 +68,7 @@ module _ (d : List ℕ) (ds : ℕ) (u : List ℕ) (us : ℕ) (f w : List ℕ) (e
 module _ (d u w : List ℕ) (c : Changed) where
   pub stays-not : {X : Type 0} (n i j : ℕ) → c ≡ Refused n i j → (r : Rec) → ChangedTo d u w (ok (some r)) c → X
   unfolding ChangedTo
-  stays-not n i j e r x = let y : ok (some r) ≡ no (fault n i j) = subst (ChangedTo d u w (ok (some r))) e x in absurd (let z : _≡_ {A = ℕ} 0 1 = cc in omega arith)
+  stays-not n i j e r x = let y : ok (some r) ≡ no (fault n i j) = subst (ChangedTo d u w (ok (some r))) e x in ok-no y
 
   module _ (p : Present) (e : c ≡ Now p) (r : Rec) (x : ChangedTo d u w (ok (some r)) c) where
     stays-as : HeldAs d u w p (some r)
@@ -91,7 +79,7 @@ module _ (d u w : List ℕ) (c : Changed) where
 
     pub stays-absent : {X : Type 0} → p ≡ Absent → X
     unfolding HeldAs
-    stays-absent a = let y : some r ≡ none = subst (λ (q : Present). HeldAs d u w q (some r)) a stays-as in absurd (let z : _≡_ {A = ℕ} 0 1 = cc in omega arith)
+    stays-absent a = let y : some r ≡ none = subst (λ (q : Present). HeldAs d u w q (some r)) a stays-as in never y
 
     pub stays-held : (v : Version) → p ≡ Here v → Held d u w v r × (number12 (writtenFields r) ≡ pass)
     unfolding HeldAs
@@ -101,7 +89,7 @@ module _ (d u w : List ℕ) (c : Changed) where
 
   -- the version that is written
   pub stays-kept : (p : Present) → c ≡ Now p → (v : Version) → p ≡ Here v → Stays d u w c → Kept d u w v
-  stays-kept p e v a s = let y = stays-held p e (s .rec) (s .came) v a in record { rec = s .rec; held = y .0; short = short (writtenFields (s .rec)) (y .1) }
+  stays-kept p e v a s = let y = stays-held p e (s .rec) (s .came) v a in record { rec = s .rec; held = y .0; short = short-record (writtenFields (s .rec)) (y .1) }
 
   module _ (ds us to : ℕ) (before out : List ℕ) (s : Step) where
     pub last-held : (p : Present) → c ≡ Now p → (v : Version) → p ≡ Here v → HeldStep d ds u us w to before out v s → LastStep d ds u us w to before out c s

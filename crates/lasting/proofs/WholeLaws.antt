@@ -4,12 +4,12 @@ use mathlib.Core.Path.{_≡_, refl, sym, subst}
 use mathlib.Core.List.{List, [], _∷_}
 use native.Mathlib.Omega.{arith}
 use lib.ListN.{length}
-use Rattle.base.specs.Lists.{each}
+use Rattle.base.specs.Lists.{each, Each}
 use Rattle.base.specs.Walk.{Got}
 use Rattle.skeleton.specs.File.{Field, recordsFrom}
 use Rattle.fields.specs.Valid.{Bytes}
 use Rattle.rules.specs.Outcome.{done}
-use Rattle.sequence.specs.Keyed.{Ran, done as ran, stop, Each}
+use Rattle.sequence.specs.Keyed.{Ran, done as ran, stop}
 use Rattle.sequence.specs.History.{judged}
 use Rattle.updates.specs.Acts.{chart, inUpdate}
 use Rattle.updates.specs.Streamed.{verdicts}

@@ -15,6 +15,7 @@ use Rattle.rules.specs.Record.{Rec, keyOf}
 use Rattle.rules.specs.Written.{writtenFields, number12}
 use Rattle.sequence.specs.Stream.{keptOf, joinedOf}
 use Rattle.updates.specs.Acts.{chart}
+use Rattle.updates.specs.Accepted.{Writable}
 use Rattle.sound.specs.Sound.{SoundRec}
 use Rattle.stock.specs.Stock.{recIn, Stock}
 use Rattle.incoming.specs.Fitting.{Rest}
@@ -29,7 +30,7 @@ use Rattle.composing.specs.Acts.{ruinWith, deletedFrom}
 use Rattle.composing.specs.declared.making.Made.{Made}
 use Rattle.composing.specs.declared.making.Made.the-variants.{Loose as MadeLoose, Next}
 use Rattle.history.specs.Here.{recordHere}
-use Rattle.history.specs.Ready.{Writable, Short}
+use Rattle.history.specs.Ready.{Short}
 use Rattle.history.specs.Played.{Played}
 use Rattle.lasting.specs.Whole.{Old, New}
 use Rattle.lasting.specs.Step.{Stepped}

@@ -4,13 +4,13 @@ use mathlib.Core.Path.{_≡_}
 use mathlib.Core.List.{List, _++_}
 use lib.ListN.{length}
 use Rattle.base.specs.Walk.{Got}
+use Rattle.base.specs.Lists.{Each}
 use Rattle.skeleton.specs.File.{Field, recordsFrom}
 use Rattle.skeleton.specs.Record.{recordAt}
 use Rattle.skeleton.specs.declared.directory.Shape.{Shape}
 use Rattle.skeleton.specs.declared.leader.Head.the-variants.{Good}
 use Rattle.rules.specs.Record.{Rec}
 use Rattle.rules.specs.Outcome.{done}
-use Rattle.sequence.specs.Keyed.{Each}
 use Rattle.updates.specs.Streamed.{verdicts}
 use Rattle.sound.specs.Sound.{SoundRec}
 use Rattle.keys.specs.Key.{keyAt}

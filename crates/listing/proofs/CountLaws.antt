@@ -24,9 +24,10 @@ use Rattle.skeleton.specs.declared.place.Place.the-variants.{At, Done}
 use Rattle.skeleton.proofs.PlaceLaws.{fields-more, fields-done, place-runs, place-in, place-falls, held}
 use Rattle.skeleton.proofs.FindLaws.{found-none, found-first, found-runs, found-in}
 use Rattle.skeleton.proofs.BetweenLaws.{length-between}
-use Rattle.rules.specs.Tags.{ATTR, C2IT, C2IL}
+use Rattle.rules.specs.Tags.{ATTR}
 use Rattle.rules.specs.ByTag.{withTag, bodies}
-use Rattle.listing.specs.Said.{entriesOf, entriesIn, isCoordinates, tuplesOf, tuplesIn}
+use Rattle.rules.specs.Coordinates.{isCoordinates}
+use Rattle.listing.specs.Said.{entriesOf, entriesIn, tuplesOf, tuplesIn}
 
 -- ---- entries of an ATTR
 

@@ -30,7 +30,7 @@ use Rattle.rules.specs.ByTag.{withTag, bodies, firstTag}
 use Rattle.rules.specs.Kind.{kindOf, tagOf}
 use Rattle.rules.specs.Grammar.{asStored}
 use Rattle.rules.specs.Content.{number5}
-use Rattle.rules.specs.Coordinates.{coordsIn}
+use Rattle.rules.specs.Coordinates.{coordsIn, isCoordinates}
 use Rattle.rules.specs.Trees.{tupOf, attrTree, treeStands, treesStand, number6}
 use Rattle.rules.specs.Record.{standing, partsOf, recOf}
 use Rattle.rules.specs.declared.Kind.{Kind}
@@ -41,7 +41,7 @@ use Rattle.rules.proofs.CoordinateLaws.{coords-length}
 use Rattle.contents.specs.Fit.{fits, allFit}
 use Rattle.contents.proofs.FitLaws.{five-fit}
 use Rattle.contents.proofs.TreeLaws.{tree-new-fits}
-use Rattle.listing.specs.Said.{whole, entriesOf, entriesIn, isCoordinates, tuplesOf, tuplesIn, Passed, kindFor, recordIn}
+use Rattle.listing.specs.Said.{whole, entriesOf, entriesIn, tuplesOf, tuplesIn, Passed, kindFor, recordIn}
 use Rattle.listing.proofs.CountLaws.{entries-none}
 
 -- ---- the kind

@@ -1,12 +1,10 @@
 -- What the fields of a record say that the listing shows.
 use Prim.Native.Nat.{ℕ, _+_, _/_}
 use mathlib.Core.Path.{_≡_}
-use mathlib.Core.Bool.{Bool}
 use mathlib.Core.Option.{Option, some, none}
 use mathlib.Core.List.{List, [], _∷_}
 use lib.ListN.{length, getD}
-use lib.Dec.{eqb}
-use Rattle.base.specs.Choice.{pick, either}
+use Rattle.base.specs.Choice.{pick}
 use Rattle.base.specs.Check.{pass}
 use Rattle.base.specs.Walk.{Got}
 use Rattle.skeleton.specs.File.{Field, recordsFrom}
@@ -15,7 +13,8 @@ use Rattle.fields.specs.Content.{tallyField}
 use Rattle.fields.specs.declared.Format.the-variants.{AttrNew}
 use Rattle.fields.specs.declared.Tally.{Tally}
 use Rattle.fields.specs.declared.Tally.the-variants.{Whole, Short}
-use Rattle.rules.specs.Tags.{ATTR, C2IT, C2IL}
+use Rattle.rules.specs.Tags.{ATTR}
+use Rattle.rules.specs.Coordinates.{isCoordinates}
 use Rattle.rules.specs.ByTag.{bodies, firstTag}
 use Rattle.rules.specs.Kind.{kindOf, tagOf}
 use Rattle.rules.specs.Content.{number5}
@@ -39,10 +38,6 @@ entriesOf b = whole (tallyField (headOf AttrNew) (tupleOf AttrNew) b)
 -- how many entries the first ATTR of a record has
 unfoldable pub entriesIn : List Field → ℕ
 entriesIn fs = entriesOf (getD (bodies ATTR fs) 0 [])
-
--- the tag of a field of coordinate tuples
-unfoldable pub isCoordinates : ℕ → Bool
-isCoordinates t = either (eqb t C2IT) (eqb t C2IL)
 
 -- how many coordinate tuples, of 8 bytes each, a field of n bytes has
 unfoldable pub tuplesOf : ℕ → ℕ → ℕ

@@ -17,7 +17,7 @@ use Rattle.fields.proofs.WiderLaws.{spas}
 use Rattle.forest.specs.Flat.{flat}
 use Rattle.rules.specs.Tags.{ATTR}
 use Rattle.rules.specs.Content.{formatOf}
-use Rattle.rules.specs.Coordinates.{coordsIn}
+use Rattle.rules.specs.Coordinates.{coordsIn, isCoordinates}
 use Rattle.rules.specs.Trees.{attrTree, treeStands}
 use Rattle.rules.specs.Record.{Rec}
 use Rattle.rules.specs.Written.{fieldAs}
@@ -29,7 +29,7 @@ use Rattle.version.specs.Held.{takesTree, Held}
 use Rattle.version.specs.declared.Version.{Version}
 use Rattle.version.proofs.AreaLaws.{lent}
 use Rattle.version.proofs.RowLaws.{tree-row}
-use Rattle.loading.specs.Taken.{isCoord, takeParts, takeField}
+use Rattle.loading.specs.Taken.{takeParts, takeField}
 use Rattle.loading.specs.Loads.{Loads, Took}
 use Rattle.loading.proofs.KeptLaws.{assocs-kept, inas-kept, spatials-kept, spas-kept, attrNow, held-with, list-area, list-now, list-inas, list-spas, list-others}
 
@@ -61,7 +61,7 @@ module _ (b : List ℕ) (from to : ℕ) (v : Version) (w : List ℕ) (l : Loads 
     long = same ∙ list-area w ys (l .wide)
 
     attr-held : (d u : List ℕ) (r : Rec) → source x d u ≡ b → Held d u w v r → Held d u (lent 0 200000 ys w) (attrNow v n) (takeField (fieldAs ATTR attrBody) r)
-    unfolding takeField takeParts isCoord
+    unfolding takeField takeParts isCoordinates
     attr-held d u r e h =
         let o : List ℕ = lent 0 200000 ys w in
         let inas : inasArea o ≡ inasArea w = list-inas w ys (l .wide) long in

@@ -18,7 +18,7 @@ use Rattle.fields.proofs.EvenLaws.{fill-even}
 use Rattle.fields.proofs.WiderLaws.{spas}
 use Rattle.rules.specs.Tags.{C2IT, C2IL}
 use Rattle.rules.specs.Content.{formatOf}
-use Rattle.rules.specs.Coordinates.{Coord, coordsIn}
+use Rattle.rules.specs.Coordinates.{Coord, coordsIn, isCoordinates}
 use Rattle.rules.specs.Record.{Rec}
 use Rattle.rules.specs.Written.{fieldAs}
 use Rattle.rules.proofs.CoordinateLaws.{coords-count}
@@ -31,13 +31,13 @@ use Rattle.version.specs.Held.{Held}
 use Rattle.version.specs.declared.Version.{Version}
 use Rattle.version.proofs.AreaLaws.{lent}
 use Rattle.version.proofs.RowLaws.{point-row, list-row}
-use Rattle.loading.specs.Taken.{isCoord, takeParts, takeField}
+use Rattle.loading.specs.Taken.{takeParts, takeField}
 use Rattle.loading.specs.Loads.{Loads, LoadsCoords, Took}
 use Rattle.loading.proofs.KeptLaws.{assocs-kept, inas-kept, spatials-kept, spas-kept, coordNow, parted, held-with, list-area, list-now, list-inas, list-spas, list-others}
 
 -- either tag takes them
-coords-taken : (t : ℕ) → isCoord t ≡ true → (body : List ℕ) (r : Rec) → parted r (takeParts (fieldAs C2IL body) (r .parts)) ≡ takeField (fieldAs t body) r
-unfolding isCoord takeField takeParts
+coords-taken : (t : ℕ) → isCoordinates t ≡ true → (body : List ℕ) (r : Rec) → parted r (takeParts (fieldAs C2IL body) (r .parts)) ≡ takeField (fieldAs t body) r
+unfolding isCoordinates takeField takeParts
 coords-taken t q body r =
     by-bool (eqb t C2IT)
     (λ h. ap (λ (c : ℕ). takeField (fieldAs c body) r) (sym (eqb-true t C2IT h)))
@@ -59,7 +59,7 @@ module _ (b : List ℕ) (from to : ℕ) (v : Version) (w ys : List ℕ) (n : ℕ
   long = same ∙ list-area w ys (l .wide)
 
   coords-held : (d u : List ℕ) (r : Rec) → Held d u w v r → Held d u (lent 0 200000 ys w) (coordNow v n) (parted r (takeParts (fieldAs C2IL (between b from to)) (r .parts)))
-  unfolding takeParts isCoord
+  unfolding takeParts isCoordinates
   coords-held d u r h =
       let wide : 400000 ≤ length w = l .wide in
       let o : List ℕ = lent 0 200000 ys w in
@@ -91,7 +91,7 @@ module _ (b : List ℕ) (from to : ℕ) (v : Version) (w ys : List ℕ) (n : ℕ
         no-coord = λ q. absurd (true≢false (sym q ∙ l .plain));
       })
 
-  pub coords-took : (x t : ℕ) → isCoord t ≡ true → Took b x (fieldAs t (between b from to)) w v (lent 0 200000 ys w) (coordNow v n)
+  pub coords-took : (x t : ℕ) → isCoordinates t ≡ true → Took b x (fieldAs t (between b from to)) w v (lent 0 200000 ys w) (coordNow v n)
   coords-took x t q =
       let sum : 8 * n ≡ 8 * v .coord + (to - from) = s .0 in
       let c = length-between b from to (l .inside) in

@@ -4,6 +4,7 @@ use mathlib.Core.Path.{_≡_, refl, sym, ap, _∙_, subst}
 use mathlib.Core.List.{List, _∷_}
 use native.Mathlib.Omega.{arith}
 use lib.ListN.{length, drop}
+use Rattle.base.specs.Lists.{Each}
 use Rattle.skeleton.specs.Emit.{size, sizes}
 use Rattle.skeleton.specs.File.{Field}
 use Rattle.skeleton.specs.Place.{between, placeAt, fieldsAt}
@@ -15,7 +16,6 @@ use Rattle.skeleton.proofs.BetweenLaws.{length-between, between-between}
 use Rattle.rules.specs.Record.{Rec}
 use Rattle.rules.specs.Written.{fieldAs}
 use Rattle.rules.specs.declared.Kind.{Kind}
-use Rattle.sequence.specs.Keyed.{Each}
 use Rattle.items.specs.Items.{source}
 use Rattle.version.specs.Held.{Held}
 use Rattle.version.specs.declared.Version.{Version}

@@ -6,7 +6,7 @@ use mathlib.Core.List.{List, [], _++_, append-nil}
 use native.Mathlib.Omega.{arith}
 use borrow.Author.Tests.{ne-eqb}
 use lib.ListN.{length}
-use Rattle.base.specs.Lists.{gather}
+use Rattle.base.specs.Lists.{gather, Each}
 use Rattle.skeleton.specs.Place.{between}
 use Rattle.skeleton.proofs.ReadLaws.{bytes-between}
 use Rattle.skeleton.proofs.BetweenLaws.{length-between}
@@ -19,10 +19,11 @@ use Rattle.rules.specs.Tags.{FOID, ATTR, INAS, SPAS, C2IT, C2IL}
 use Rattle.rules.specs.Content.{formatOf}
 use Rattle.rules.specs.Record.{Rec, foidOf}
 use Rattle.rules.specs.Written.{fieldAs}
+use Rattle.rules.specs.Coordinates.{isCoordinates}
 use Rattle.items.specs.Items.{source}
-use Rattle.version.specs.Held.{All, RightFoid, foidBodies, Held}
+use Rattle.version.specs.Held.{RightFoid, foidBodies, Held}
 use Rattle.version.specs.declared.Version.{Version}
-use Rattle.loading.specs.Taken.{isCoord, takeParts, takeField}
+use Rattle.loading.specs.Taken.{takeParts, takeField}
 use Rattle.loading.specs.Loads.{Loads, Took}
 
 -- a version with a FOID
@@ -44,7 +45,7 @@ module _ (b : List ℕ) (from to : ℕ) (v : Version) (w : List ℕ) (l : Loads 
       omega arith
 
   foid-held : (x : ℕ) (d u : List ℕ) (r : Rec) → source x d u ≡ b → Held d u w v r → Held d u w (foidNow v from x) (takeField (fieldAs FOID (between b from to)) r)
-  unfolding takeField takeParts isCoord foidBodies gather All
+  unfolding takeField takeParts isCoordinates foidBodies gather Each
   foid-held x d u r e h =
       let is : between (source x d u) from (from + 8) ≡ between b from to = ap (λ (a : List ℕ). between a from (from + 8)) e ∙ ap (between b from) foid-end in
       let right : RightFoid (between b from to) = record { bytes = bytes-between b from to (l .bytes); filled = foid-fill } in
@@ -93,7 +94,7 @@ module _ (b : List ℕ) (t from to : ℕ) (v : Version) (w : List ℕ) (l : Load
   -- a field with another tag says nothing of a stored record
   pub other-took : (x : ℕ) → (t ≡ FOID → ⊥) → (t ≡ ATTR → ⊥) → (t ≡ INAS → ⊥) → (t ≡ SPAS → ⊥) → (t ≡ C2IT → ⊥) → (t ≡ C2IL → ⊥)
       → Took b x (fieldAs t (between b from to)) w v w v
-  unfolding takeField takeParts isCoord
+  unfolding takeField takeParts isCoordinates
   other-took x f a i s p c =
       let same : (r : Rec) → r ≡ takeField (fieldAs t (between b from to)) r =
       λ r. rw (ne-eqb t FOID f, ne-eqb t ATTR a, ne-eqb t INAS i, ne-eqb t SPAS s, ne-eqb t C2IT p, ne-eqb t C2IL c) refl in

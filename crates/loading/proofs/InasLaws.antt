@@ -6,8 +6,9 @@ use mathlib.Core.List.{List, [], _∷_, _++_}
 use native.Mathlib.Omega.{arith}
 use lib.ListN.{length, take, drop, length-take, length-drop}
 use Rattle.base.specs.Check.{passed, pass}
-use Rattle.base.specs.Lists.{each}
+use Rattle.base.specs.Lists.{each, Each}
 use Rattle.base.proofs.ListLaws.{each-append}
+use Rattle.base.proofs.EachLaws.{each-join}
 use Rattle.skeleton.specs.Place.{between}
 use Rattle.skeleton.proofs.ReadLaws.{bytes-between}
 use Rattle.skeleton.proofs.BetweenLaws.{length-between}
@@ -20,16 +21,17 @@ use Rattle.rules.specs.Content.{inasFormat, formatOf}
 use Rattle.rules.specs.Trees.{inasTree, treeStands}
 use Rattle.rules.specs.Record.{Rec, Assoc, assocOf}
 use Rattle.rules.specs.Written.{fieldAs}
+use Rattle.rules.specs.Coordinates.{isCoordinates}
 use Rattle.items.specs.Items.{source}
 use Rattle.cells.specs.Cells.{bodiesOf}
 use Rattle.cells.proofs.InasLaws.{inas-bytes}
 use Rattle.version.specs.Areas.{listArea, inasArea, spasArea}
-use Rattle.version.specs.Held.{All, RightInas, Held}
+use Rattle.version.specs.Held.{RightInas, Held}
 use Rattle.version.specs.declared.Version.{Version}
 use Rattle.version.proofs.AreaLaws.{lent, lent-same, lent-behind, lent-before, lent-after}
-use Rattle.loading.specs.Taken.{isCoord, takeParts, takeField}
+use Rattle.loading.specs.Taken.{takeParts, takeField}
 use Rattle.loading.specs.Loads.{Loads, Took}
-use Rattle.loading.proofs.KeptLaws.{all-append, attributes-kept, coords-kept, spatials-kept, spas-kept, inasNow, held-with}
+use Rattle.loading.proofs.KeptLaws.{attributes-kept, coords-kept, spatials-kept, spas-kept, inasNow, held-with}
 
 module _ (b : List ℕ) (from to : ℕ) (v : Version) (w : List ℕ) (l : Loads b INAS from to v w) where
   abbrev inasBody : List ℕ
@@ -65,7 +67,7 @@ module _ (b : List ℕ) (from to : ℕ) (v : Version) (w : List ℕ) (l : Loads 
     long = same ∙ inas-area
 
     inas-held : (d u : List ℕ) (r : Rec) → source x d u ≡ b → Held d u w v r → Held d u (lent 200000 92000 ys w) (inasNow v n) (takeField (fieldAs INAS inasBody) r)
-    unfolding takeField takeParts isCoord each All
+    unfolding takeField takeParts isCoordinates each Each
     inas-held d u r e h =
         let wide : 400000 ≤ length w = l .wide in
         let o : List ℕ = lent 200000 92000 ys w in
@@ -82,7 +84,7 @@ module _ (b : List ℕ) (from to : ℕ) (v : Version) (w : List ℕ) (l : Loads 
         held-with d u w o v r (v .attr) n (v .coord) (v .spas) (takeParts (fieldAs INAS inasBody) (r .parts)) h (record {
           attributes = attributes-kept d u w o v (r .parts) p list;
           associations = ap (λ (k : List Assoc). k ++ (assocOf inasBody ∷ [])) (p .associations) ∙ sym (ap (each assocOf) is ∙ each-append assocOf old (inasBody ∷ []));
-          inas-right = subst (All RightInas) (sym is) (all-append RightInas old (inasBody ∷ []) (p .inas-right) (right, tt));
+          inas-right = subst (Each RightInas) (sym is) (each-join RightInas old (inasBody ∷ []) (p .inas-right) (right, tt));
           coordinates = coords-kept d u w o v (r .parts) p list;
           spatial = spatials-kept d u w o v (r .parts) p spas;
           spas-right = spas-kept d u w o v (r .parts) p spas;

@@ -1,10 +1,10 @@
 -- What a field that is loaded leaves as it was. Assumes nothing.
 use Prim.Native.Nat.{ℕ, _*_, _≤_}
 use mathlib.Core.Path.{_≡_, sym, ap, _∙_, subst}
-use mathlib.Core.List.{List, [], _∷_, _++_}
+use mathlib.Core.List.{List}
 use native.Mathlib.Omega.{arith}
 use lib.ListN.{length, take, drop, length-take}
-use Rattle.base.specs.Lists.{each}
+use Rattle.base.specs.Lists.{each, Each}
 use Rattle.fields.proofs.WiderLaws.{spas}
 use Rattle.forest.specs.Flat.{flat}
 use Rattle.rules.specs.Coordinates.{coordsIn}
@@ -12,14 +12,9 @@ use Rattle.rules.specs.Record.{Rec, Parts, assocOf}
 use Rattle.items.specs.Items.{its}
 use Rattle.cells.specs.Cells.{bodiesOf, spatialIn}
 use Rattle.version.specs.Areas.{listArea, inasArea, spasArea}
-use Rattle.version.specs.Held.{All, RightInas, RightSpas, foidBodies, HeldParts, Held}
+use Rattle.version.specs.Held.{RightInas, RightSpas, foidBodies, counted, HeldParts, Held}
 use Rattle.version.specs.declared.Version.{Version}
 use Rattle.version.proofs.AreaLaws.{lent, lent-same, lent-behind, lent-after}
-
-pub all-append : {A : Type 0} (P : A → Type 0) (xs ys : List A) → All P xs → All P ys → All P (xs ++ ys)
-unfolding All
-all-append P [] ys a b = b
-all-append P (x ∷ xs) ys a b = (a .0, all-append P xs ys (a .1) b)
 
 -- a field of one part leaves the others as they were
 module _ (d u w o : List ℕ) (v : Version) (p : Parts) (h : HeldParts d u w v p) where
@@ -32,22 +27,18 @@ module _ (d u w o : List ℕ) (v : Version) (p : Parts) (h : HeldParts d u w v p
   pub assocs-kept : inasArea o ≡ inasArea w → p .associations ≡ each assocOf (bodiesOf d u (inasArea o) (v .inas))
   assocs-kept e = h .associations ∙ ap (λ (a : List ℕ). each assocOf (bodiesOf d u a (v .inas))) (sym e)
 
-  pub inas-kept : inasArea o ≡ inasArea w → All RightInas (bodiesOf d u (inasArea o) (v .inas))
-  inas-kept e = subst (λ (a : List ℕ). All RightInas (bodiesOf d u a (v .inas))) (sym e) (h .inas-right)
+  pub inas-kept : inasArea o ≡ inasArea w → Each RightInas (bodiesOf d u (inasArea o) (v .inas))
+  inas-kept e = subst (λ (a : List ℕ). Each RightInas (bodiesOf d u a (v .inas))) (sym e) (h .inas-right)
 
   pub spatials-kept : spasArea o ≡ spasArea w → p .spatial ≡ each spatialIn (bodiesOf d u (spasArea o) (v .spas))
   spatials-kept e = h .spatial ∙ ap (λ (a : List ℕ). each spatialIn (bodiesOf d u a (v .spas))) (sym e)
 
-  pub spas-kept : spasArea o ≡ spasArea w → All RightSpas (bodiesOf d u (spasArea o) (v .spas))
-  spas-kept e = subst (λ (a : List ℕ). All RightSpas (bodiesOf d u a (v .spas))) (sym e) (h .spas-right)
+  pub spas-kept : spasArea o ≡ spasArea w → Each RightSpas (bodiesOf d u (spasArea o) (v .spas))
+  spas-kept e = subst (λ (a : List ℕ). Each RightSpas (bodiesOf d u a (v .spas))) (sym e) (h .spas-right)
 
 -- ---- versions
 
 -- a version with other counts of items
-abbrev pub counted : Version → ℕ → ℕ → ℕ → ℕ → Version
-counted v a i c s =
-    record { kind = v .kind; rcid = v .rcid; code = v .code; rver = v .rver; foids = v .foids; foid = v .foid; slice = v .slice; attr = a; inas = i; coord = c; spas = s }
-
 abbrev pub attrNow : Version → ℕ → Version
 attrNow v n = counted v n (v .inas) (v .coord) (v .spas)
 

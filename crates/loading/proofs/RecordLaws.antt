@@ -8,6 +8,10 @@ use native.Mathlib.Omega.{arith}
 use borrow.Author.Tests.{eq-eqb}
 use lib.ListN.{length, drop}
 use lib.Dec.{eqb}
+use Rattle.base.specs.Walk.{Got}
+use Rattle.base.specs.Lists.{each, gather, Each}
+use Rattle.base.proofs.CheckLaws.{refused}
+use Rattle.base.proofs.EachLaws.{each-map}
 use Rattle.skeleton.specs.Emit.{size, sizes}
 use Rattle.skeleton.specs.File.{Field}
 use Rattle.skeleton.specs.Place.{between, placeAt, fieldsAt}
@@ -22,11 +26,6 @@ use Rattle.skeleton.proofs.ReadLaws.{bytes-between}
 use Rattle.skeleton.proofs.RecordLaws.{right}
 use Rattle.skeleton.proofs.BetweenLaws.{length-between}
 use Rattle.fields.specs.Valid.{Bytes}
-use Rattle.fields.specs.declared.Format.the-variants.{C2il}
-use Rattle.fields.specs.Values.{Val}
-use Rattle.base.specs.Walk.{Got}
-use Rattle.base.specs.Lists.{each, gather}
-use Rattle.base.proofs.CheckLaws.{refused}
 use Rattle.forest.specs.Forest.{nil}
 use Rattle.forest.specs.Flat.{flat}
 use Rattle.rules.specs.ByTag.{front}
@@ -37,8 +36,6 @@ use Rattle.rules.specs.Written.{fieldAs}
 use Rattle.rules.specs.declared.Kind.{Kind}
 use Rattle.rules.specs.declared.Mode.the-variants.{InDataset, InUpdate}
 use Rattle.rules.proofs.CoordinateLaws.{coords-none}
-use Rattle.sequence.specs.Keyed.{Each}
-use Rattle.sound.proofs.Lists.{each-map}
 use Rattle.sound.proofs.Records.{Stood, Whole, through}
 use Rattle.sound.proofs.Changed.{tests}
 use Rattle.sound.proofs.FileBytes.{fields-bytes}
@@ -49,7 +46,7 @@ use Rattle.items.proofs.ItemLaws.{its-end}
 use Rattle.cells.specs.Cells.{bodiesFrom}
 use Rattle.stock.specs.Stored.{Loadable, stored, inserted}
 use Rattle.stock.proofs.FilledLaws.{record-short, record-filled}
-use Rattle.version.specs.Held.{All, foidBodies, Held}
+use Rattle.version.specs.Held.{foidBodies, Held}
 use Rattle.version.specs.Areas.{listArea}
 use Rattle.version.specs.declared.Version.{Version}
 use Rattle.loading.specs.Loads.{Fits, LoadsAll, TookAll, opened}
@@ -94,7 +91,7 @@ unfolding opened
 opened-is k i a b c ea eb ec = rw (ea, eb, ec) refl
 
 blank-held : (d u w : List ℕ) (k : Kind) (i : Ident) → Held d u w (opened k i) (blank k i)
-unfolding opened blank foidBodies bodiesFrom each gather All flat
+unfolding opened blank foidBodies bodiesFrom each gather Each flat
 blank-held d u w k i =
     record {
       kind = refl;

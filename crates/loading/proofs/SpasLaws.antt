@@ -5,7 +5,8 @@ use mathlib.Core.Bool.{true}
 use mathlib.Core.List.{List, [], _∷_, _++_}
 use native.Mathlib.Omega.{arith}
 use lib.ListN.{length, take, drop, length-take, length-drop}
-use Rattle.base.specs.Lists.{each}
+use Rattle.base.specs.Lists.{each, Each}
+use Rattle.base.proofs.EachLaws.{each-join}
 use Rattle.skeleton.specs.Place.{between}
 use Rattle.skeleton.proofs.ReadLaws.{bytes-between}
 use Rattle.skeleton.proofs.BetweenLaws.{length-between}
@@ -18,26 +19,27 @@ use Rattle.rules.specs.Tags.{SPAS}
 use Rattle.rules.specs.Content.{formatOf}
 use Rattle.rules.specs.Record.{Rec, Spatial, spatialOf}
 use Rattle.rules.specs.Written.{fieldAs}
+use Rattle.rules.specs.Coordinates.{isCoordinates}
 use Rattle.items.specs.Items.{source}
 use Rattle.cells.specs.Cells.{bodiesOf, spatialIn, tupleBodies}
 use Rattle.cells.specs.Acts.{SpasLoaded}
 use Rattle.cells.proofs.TupleLaws.{stored-even}
 use Rattle.version.specs.Areas.{listArea, inasArea, spasArea}
-use Rattle.version.specs.Held.{All, RightSpas, Held}
+use Rattle.version.specs.Held.{RightSpas, Held}
 use Rattle.version.specs.declared.Version.{Version}
 use Rattle.version.proofs.AreaLaws.{lent, lent-same, lent-behind, lent-before}
 use Rattle.version.proofs.BodyLaws.{spas-every, spas-all}
-use Rattle.loading.specs.Taken.{isCoord, takeParts, takeField}
+use Rattle.loading.specs.Taken.{takeParts, takeField}
 use Rattle.loading.specs.Loads.{Loads, Took}
-use Rattle.loading.proofs.KeptLaws.{all-append, attributes-kept, coords-kept, assocs-kept, inas-kept, spasNow, held-with}
+use Rattle.loading.proofs.KeptLaws.{attributes-kept, coords-kept, assocs-kept, inas-kept, spasNow, held-with}
 
-spas-bytes : (bs : List (List ℕ)) → All RightSpas bs → All Bytes bs
-unfolding All
+spas-bytes : (bs : List (List ℕ)) → Each RightSpas bs → Each Bytes bs
+unfolding Each
 spas-bytes [] a = tt
 spas-bytes (b ∷ bs) a = (a .0 .bytes, spas-bytes bs (a .1))
 
-tuple-bytes : (s : List ℕ) → Bytes s → (k at : ℕ) → All Bytes (tupleBodies s at k)
-unfolding All tupleBodies
+tuple-bytes : (s : List ℕ) → Bytes s → (k at : ℕ) → Each Bytes (tupleBodies s at k)
+unfolding Each tupleBodies
 tuple-bytes s g zero at = tt
 tuple-bytes s g (suc k) at = (bytes-between s at (at + 15) g, tuple-bytes s g k (at + 15))
 
@@ -70,7 +72,7 @@ module _ (b : List ℕ) (from to : ℕ) (v : Version) (w : List ℕ) (l : Loads 
     long = same ∙ spas-area
 
     spas-held : (d u : List ℕ) (r : Rec) → source x d u ≡ b → Held d u w v r → Held d u (lent 292000 94000 ys w) (spasNow v n) (takeField (fieldAs SPAS spasBody) r)
-    unfolding takeField takeParts isCoord
+    unfolding takeField takeParts isCoordinates
     spas-held d u r e h =
         let wide : 400000 ≤ length w = l .wide in
         let o : List ℕ = lent 292000 94000 ys w in
@@ -85,10 +87,10 @@ module _ (b : List ℕ) (from to : ℕ) (v : Version) (w : List ℕ) (l : Loads 
         ap (λ (a : List ℕ). fill (headOf SpasNew) (tupleOf SpasNew) (between a from to)) e ∙ spas-fill in
         let any : fill (headOf Spas) (tupleOf Spas) (between (source x d u) from to) ≡ true = format-wider spas (between (source x d u) from to) new .0 in
         let k : ℕ = (to - from) / 15 in
-        let bytes : All Bytes (old ++ tupleBodies (source x d u) from k) =
-        all-append Bytes old (tupleBodies (source x d u) from k) (spas-bytes old (p .spas-right)) (tuple-bytes (source x d u) (subst Bytes (sym e) (l .bytes)) k from) in
-        let right : All RightSpas (bodiesOf d u ys n) =
-        spas-all (bodiesOf d u ys n) (t .right new inside (spas-every old (p .spas-right))) (subst (All Bytes) (sym (t .bodies)) bytes) in
+        let bytes : Each Bytes (old ++ tupleBodies (source x d u) from k) =
+        each-join Bytes old (tupleBodies (source x d u) from k) (spas-bytes old (p .spas-right)) (tuple-bytes (source x d u) (subst Bytes (sym e) (l .bytes)) k from) in
+        let right : Each RightSpas (bodiesOf d u ys n) =
+        spas-all (bodiesOf d u ys n) (t .right new inside (spas-every old (p .spas-right))) (subst (Each Bytes) (sym (t .bodies)) bytes) in
         let fits = spas-fits in
         let more : n ≡ v .spas + (to - from) / 15 = s .0 in
         held-with d u w o v r (v .attr) (v .inas) (v .coord) n (takeParts (fieldAs SPAS spasBody) (r .parts)) h (record {
@@ -100,7 +102,7 @@ module _ (b : List ℕ) (from to : ℕ) (v : Version) (w : List ℕ) (l : Loads 
               ∙ ap (λ (a : List ℕ). each spatialIn old ++ each spatialOf (many (tupleOf Spas) (between a from to))) (sym e)
               ∙ sym (t .is any inside)
               ∙ ap (λ (a : List ℕ). each spatialIn (bodiesOf d u a n)) (sym spas-now);
-          spas-right = subst (λ (a : List ℕ). All RightSpas (bodiesOf d u a n)) (sym spas-now) right;
+          spas-right = subst (λ (a : List ℕ). Each RightSpas (bodiesOf d u a n)) (sym spas-now) right;
           attr-room = p .attr-room;
           inas-room = p .inas-room;
           coord-room = p .coord-room;

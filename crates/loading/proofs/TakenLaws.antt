@@ -9,10 +9,11 @@ use borrow.Author.Tests.{eqb-true}
 use lib.ListN.{length, getD}
 use lib.Dec.{eqb}
 use Rattle.base.specs.Choice.{pick, either}
-use Rattle.base.specs.Lists.{each, gather}
+use Rattle.base.specs.Lists.{each, gather, Each}
 use Rattle.base.proofs.ChoiceLaws.{either-false}
 use Rattle.base.proofs.ListLaws.{each-gather}
 use Rattle.base.proofs.OptionLaws.{never}
+use Rattle.base.proofs.EachLaws.{each-map}
 use Rattle.skeleton.specs.File.{Field}
 use Rattle.fields.specs.Table.{tupleOf}
 use Rattle.fields.specs.Content.{many}
@@ -21,19 +22,17 @@ use Rattle.forest.specs.Forest.{Forest}
 use Rattle.rules.specs.Tags.{FOID, ATTR, INAS, SPAS, C2IT, C2IL}
 use Rattle.rules.specs.ByTag.{withTag, bodies, front}
 use Rattle.rules.specs.Kind.{kindOf, rowsOf}
-use Rattle.rules.specs.Coordinates.{Coord, coordsIn}
+use Rattle.rules.specs.Coordinates.{Coord, coordsIn, isCoordinates}
 use Rattle.rules.specs.Trees.{attrTree}
 use Rattle.rules.specs.Record.{Rec, Assoc, Spatial, Ident, identOf, foidOf, standing, assocOf, spatialOf, partsOf, recOf}
 use Rattle.rules.specs.declared.Kind.{Kind}
 use Rattle.rules.specs.declared.Kind.the-variants.{Info, Point, Multi, Feature}
-use Rattle.sequence.specs.Keyed.{Each}
 use Rattle.sequence.proofs.Tests.{by-bool}
 use Rattle.sound.specs.Sound.{rowed}
-use Rattle.sound.proofs.Lists.{each-map}
 use Rattle.sound.proofs.Order.{most, tag-none}
 use Rattle.sound.proofs.Bodies.{bodies-none, bodies-length}
 use Rattle.sound.proofs.Records.{Whole}
-use Rattle.loading.specs.Taken.{isCoord, takeParts, takeField, takeFields}
+use Rattle.loading.specs.Taken.{takeParts, takeField, takeFields}
 
 -- ---- one part each
 
@@ -45,7 +44,7 @@ lastly g (b ∷ bs) a = lastly g bs (g b)
 -- the bodies of coordinates, in order
 coordBodies : List Field → List (List ℕ)
 coordBodies [] = []
-coordBodies (f ∷ fs) = let later = coordBodies fs in pick (isCoord (f .tag)) (f .body ∷ later) later
+coordBodies (f ∷ fs) = let later = coordBodies fs in pick (isCoordinates (f .tag)) (f .body ∷ later) later
 
 -- a part that is set
 set-step : {A : Type 0} (g : List ℕ → A) (t : ℕ) (f : Field) (fs : List Field) (a : A)
@@ -61,9 +60,9 @@ add-step g t f fs p = by-bool (eqb (f .tag) t) (λ h. rw h (append-assoc p (g (f
 
 -- the coordinates
 coord-step : (f : Field) (fs : List Field) (p : List Coord)
-    → pick (isCoord (f .tag)) (p ++ coordsIn (f .body)) p ++ gather coordsIn (coordBodies fs) ≡ p ++ gather coordsIn (coordBodies (f ∷ fs))
+    → pick (isCoordinates (f .tag)) (p ++ coordsIn (f .body)) p ++ gather coordsIn (coordBodies fs) ≡ p ++ gather coordsIn (coordBodies (f ∷ fs))
 unfolding coordBodies gather
-coord-step f fs p = by-bool (isCoord (f .tag)) (λ h. rw h (append-assoc p (coordsIn (f .body)) (gather coordsIn (coordBodies fs)))) (λ h. rw h refl)
+coord-step f fs p = by-bool (isCoordinates (f .tag)) (λ h. rw h (append-assoc p (coordsIn (f .body)) (gather coordsIn (coordBodies fs)))) (λ h. rw h refl)
 
 -- what an ATTR says
 attrOf : List ℕ → Forest
@@ -144,7 +143,7 @@ singles [] = refl
 singles (b ∷ bs) = ap (λ (l : List Assoc). assocOf b ∷ l) (singles bs)
 
 -- coordinates of one tag only
-only : (a : ℕ) (fs : List Field) → Each (λ f. isCoord (f .tag) ≡ eqb (f .tag) a) fs → coordBodies fs ≡ bodies a fs
+only : (a : ℕ) (fs : List Field) → Each (λ f. isCoordinates (f .tag) ≡ eqb (f .tag) a) fs → coordBodies fs ≡ bodies a fs
 unfolding Each coordBodies bodies withTag each
 only a [] e = refl
 only a (f ∷ fs) e = by-bool (eqb (f .tag) a) (λ h. rw (e .0, h) (ap (λ (l : List (List ℕ)). f .body ∷ l) (only a fs (e .1)))) (λ h. rw (e .0, h) (only a fs (e .1)))
@@ -160,14 +159,14 @@ not-tag k f t n e =
     (λ h. h)
 
 list-none : (k : Kind) (fs : List Field) → Rowed k fs → rowed C2IL (rowsOf k) ≡ false → coordBodies fs ≡ bodies C2IT fs ++ bodies C2IL fs
-unfolding isCoord
+unfolding isCoordinates
 list-none k fs e n =
     let tags = each-map fs (λ f q. ap (either (eqb (f .tag) C2IT)) (not-tag k f C2IL n q) ∙ either-false (eqb (f .tag) C2IT)) e in
     let none = bodies-none C2IL fs (tag-none C2IL (rowsOf k) fs e n) in
     only C2IT fs tags ∙ sym (ap (λ (l : List (List ℕ)). bodies C2IT fs ++ l) none ∙ append-nil (bodies C2IT fs))
 
 point-none : (k : Kind) (fs : List Field) → Rowed k fs → rowed C2IT (rowsOf k) ≡ false → coordBodies fs ≡ bodies C2IT fs ++ bodies C2IL fs
-unfolding isCoord
+unfolding isCoordinates
 point-none k fs e n =
     let tags = each-map fs (λ f q. ap (λ (b : Bool). either b (eqb (f .tag) C2IL)) (not-tag k f C2IT n q)) e in
     let none = bodies-none C2IT fs (tag-none C2IT (rowsOf k) fs e n) in

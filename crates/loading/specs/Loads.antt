@@ -5,6 +5,7 @@ use mathlib.Core.Bool.{true, false}
 use mathlib.Core.List.{List}
 use lib.ListN.{length, drop}
 use Rattle.base.specs.Check.{pass}
+use Rattle.base.specs.Lists.{Each}
 use Rattle.skeleton.specs.Emit.{size, sizes}
 use Rattle.skeleton.specs.File.{Field}
 use Rattle.skeleton.specs.Place.{between}
@@ -17,7 +18,6 @@ use Rattle.rules.specs.Trees.{treeStands}
 use Rattle.rules.specs.Record.{Rec, Ident}
 use Rattle.rules.specs.Written.{fieldAs}
 use Rattle.rules.specs.declared.Kind.{Kind}
-use Rattle.sequence.specs.Keyed.{Each}
 use Rattle.sound.specs.Sound.{rowed}
 use Rattle.items.specs.Items.{source}
 use Rattle.version.specs.Held.{takesTree, Held}

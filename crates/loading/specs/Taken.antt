@@ -1,22 +1,16 @@
 -- What a stored record says, field by field: the record so far takes one field more.
-use Prim.Native.Nat.{ℕ}
-use mathlib.Core.Bool.{Bool}
 use mathlib.Core.List.{List, [], _∷_, _++_}
 use lib.Dec.{eqb}
-use Rattle.base.specs.Choice.{pick, either}
+use Rattle.base.specs.Choice.{pick}
 use Rattle.base.specs.Lists.{each}
 use Rattle.skeleton.specs.File.{Field}
 use Rattle.fields.specs.Table.{tupleOf}
 use Rattle.fields.specs.Content.{many}
 use Rattle.fields.specs.declared.Format.the-variants.{Spas}
-use Rattle.rules.specs.Tags.{FOID, ATTR, INAS, SPAS, C2IT, C2IL}
-use Rattle.rules.specs.Coordinates.{coordsIn}
+use Rattle.rules.specs.Tags.{FOID, ATTR, INAS, SPAS}
+use Rattle.rules.specs.Coordinates.{isCoordinates, coordsIn}
 use Rattle.rules.specs.Trees.{attrTree}
 use Rattle.rules.specs.Record.{Rec, Parts, foidOf, standing, assocOf, spatialOf}
-
--- the tag of coordinates
-unfoldable pub isCoord : ℕ → Bool
-isCoord t = either (eqb t C2IT) (eqb t C2IL)
 
 -- the parts with those of one field more
 unfoldable pub takeParts : Field → Parts → Parts
@@ -24,7 +18,7 @@ takeParts f p =
     record {
       attributes = pick (eqb (f .tag) ATTR) (standing (attrTree (f .body))) (p .attributes);
       associations = pick (eqb (f .tag) INAS) (p .associations ++ (assocOf (f .body) ∷ [])) (p .associations);
-      coordinates = pick (isCoord (f .tag)) (p .coordinates ++ coordsIn (f .body)) (p .coordinates);
+      coordinates = pick (isCoordinates (f .tag)) (p .coordinates ++ coordsIn (f .body)) (p .coordinates);
       spatial = pick (eqb (f .tag) SPAS) (p .spatial ++ each spatialOf (many (tupleOf Spas) (f .body))) (p .spatial);
     }
 

@@ -6,7 +6,7 @@ ghost use Prim.Native.Nat.{ℕ};
 ghost use Rattle.skeleton.specs.Place.{between};
 ghost use Rattle.rules.specs.Tags.{ATTR, INAS, SPAS};
 ghost use Rattle.rules.specs.Written.{fieldAs};
-ghost use Rattle.loading.specs.Taken.{isCoord};
+ghost use Rattle.rules.specs.Coordinates.{isCoordinates};
 ghost use Rattle.loading.specs.Loads.{Loads, LoadsCoords, Took};
 
 // The tree of an ATTR.
@@ -34,7 +34,7 @@ fn load_inas(b: &[u8], from: usize, to: usize, x: u8, v: Version, work: &mut [u8
 // The tuples of a C2IT or of a C2IL.
 fn load_coords(b: &[u8], from: usize, to: usize, v: Version, work: &mut [u8]) -> Version
     requires { ⌜ LoadsCoords (now b) from to v (now work) ⌝ }
-    ensures { λ r. ⌜ ((x t : ℕ) → isCoord t ≡ true → Took (now (b .entry)) x (fieldAs t (between (now (b .entry)) from to)) (now (work .entry)) v (now (work .exit)) r) ⌝ }
+    ensures { λ r. ⌜ ((x t : ℕ) → isCoordinates t ≡ true → Took (now (b .entry)) x (fieldAs t (between (now (b .entry)) from to)) (now (work .entry)) v (now (work .exit)) r) ⌝ }
 {
     let n = coords::tuples::put_tuples(b, from, to, &mut work[0..200000], v.coord, v.coord);
     let mut r = v;

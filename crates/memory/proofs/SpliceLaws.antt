@@ -1,11 +1,12 @@
 -- Laws of splices. Assumes nothing.
 use mathlib.Core.Path.{_≡_, refl, sym, _∙_}
-use mathlib.Core.List.{List, [], _∷_, _++_, append-assoc}
-use Prim.Native.Nat.{ℕ, zero, suc, _+_, _-_, _≤_, _<_}
-use native.Mathlib.Nat.{add-zero, sub-zero, zero-sub, suc-sub-suc}
+use mathlib.Core.List.{List, [], _++_, append-assoc}
+use Prim.Native.Nat.{ℕ, _+_, _-_, _≤_, _<_}
+use native.Mathlib.Nat.{add-zero}
 use native.Mathlib.Omega.{arith}
 use lib.ListN.{length, take, drop, getD, length-append, length-take, length-drop}
-use lib.Seq.{take-nil, take-take, take-at, length-take-le, getD-append-add}
+use lib.Seq.{take-take, take-at, length-take-le, getD-append-add}
+use Rattle.base.proofs.ListLaws.{drop-take}
 use Rattle.memory.specs.Put.{part, put}
 use Rattle.memory.specs.Splice.{spliced, splicedIn, opened}
 use Rattle.memory.proofs.PutLaws.{length-put, put-is, put-put-last-first, length-part, getD-part, getD-put-below, getD-put-in}
@@ -36,14 +37,6 @@ pub opened-put : (used at n : ℕ) (ys w : List ℕ) → length ys ≡ n → put
 unfolding opened
 opened-put used at n ys w size = splicedIn-stored used at 0 n ys w size (rw add-zero) refl
 
--- what is left of the first n without the first m
-drop-take : (m n : ℕ) (l : List ℕ) → drop m (take n l) ≡ part m (n - m) l
-unfolding part
-drop-take zero n l = rw sub-zero
-drop-take (suc m) zero l = rw zero-sub
-drop-take (suc m) (suc n) [] = rw take-nil
-drop-take (suc m) (suc n) (x ∷ l) = rw suc-sub-suc (drop-take m n l)
-
 -- a splice in place of n elements ys for `del` others, inside what is in use and with room
 module _ (used at del n : ℕ) (ys w : List ℕ) (size : length ys ≡ n) (inside : at + del ≤ used) (fits : used ≤ length w) (room : used - del + n ≤ length w) where
   -- what is moved
@@ -57,7 +50,7 @@ module _ (used at del n : ℕ) (ys w : List ℕ) (size : length ys ≡ n) (insid
 
   -- what is in use afterwards is the spliced list
   pub take-splicedIn : {r : ℕ} {e : List ℕ} → r ≡ used - del + n → e ≡ splicedIn used at del ys w → take r e ≡ spliced at del ys (take used w)
-  unfolding splicedIn spliced tail
+  unfolding splicedIn spliced tail part
   take-splicedIn {r} {e} next is =
       let end : at + length (ys ++ tail) ≡ r = simp length-append (omega (arith, length-tail)) in
       let front : length (take at w ++ (ys ++ tail)) ≡ r = length-append (take at w) (ys ++ tail) ∙ omega (arith, length-take-le at w (omega arith)) in

@@ -11,13 +11,13 @@ use lib.Dec.{ltb, eqb}
 use borrow.Author.Tests.{lt-ltb, le-ltb, ne-eqb}
 use Rattle.base.specs.Choice.{pick}
 use Rattle.forest.specs.Forest.{Forest, Tup, tuplesOf}
-use Rattle.forest.specs.Flat.{Item, flat}
+use Rattle.forest.specs.Flat.{Item, flat, countFlat}
 use Rattle.forest.proofs.Numbers.{eq-or-ne}
 use Rattle.items.specs.Items.{depthOf, codeOf, itemAt, its, twinAt}
 use Rattle.items.proofs.ItemLaws.{its-end, its-more, twin-is, twin-once}
 use Rattle.numbering.specs.Numbers.{parentBefore, twinsBefore}
 use Rattle.numbering.specs.Tuples.{tupleWith, tupleAt}
-use Rattle.numbering.proofs.ForestLaws.{parentIn, twinsIn, numbered, numbered-forest}
+use Rattle.numbering.proofs.ForestLaws.{parentIn, numbered, numbered-forest}
 
 -- ---- one item further back
 
@@ -120,8 +120,8 @@ module _ (s u w : List ℕ) where
   one-more t h n true = refl
   one-more t h n false = ⊎-elim (λ (e : t ≡ 1). rw e (omega arith)) (λ (e : t ≡ 1 → ⊥). rw (ne-eqb t 1 e) (omega (arith, e))) (eq-or-ne t 1)
 
-  twins-list : (d c i : ℕ) → twinsIn d c (earlier i) ≡ twinsBefore w d c i
-  unfolding earlier twinsIn twinsBefore itemAt
+  twins-list : (d c i : ℕ) → countFlat d c (earlier i) ≡ twinsBefore w d c i
+  unfolding earlier countFlat twinsBefore itemAt
   twins-list d c zero = refl
   twins-list d c (suc i) = rw (twins-list d c i, twin-is s u w i d c) (one-more (twinAt w i d c) (twin-once w i d c) (twinsBefore w d c i) (ltb (depthOf w i) d))
 

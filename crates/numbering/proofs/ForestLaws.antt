@@ -8,7 +8,7 @@ use lib.Dec.{ltb}
 use borrow.Author.Tests.{lt-ltb, le-ltb, eq-eqb, ne-eqb}
 use Rattle.base.specs.Choice.{pick}
 use Rattle.forest.specs.Forest.{Forest, nil, tree, Tup, occurs, size, tuplesFrom, tuplesOf}
-use Rattle.forest.specs.Flat.{Item, item, flat, named}
+use Rattle.forest.specs.Flat.{Item, item, flat, named, countFlat}
 use Rattle.forest.proofs.TuplesLaws.{onto, onto-append, onto-length}
 use Rattle.forest.proofs.FlatLaws.{flat-length}
 
@@ -19,16 +19,11 @@ unfoldable pub parentIn : ℕ → List Item → ℕ
 parentIn d [] = 0
 parentIn d (x ∷ r) = let on = parentIn d r in pick (ltb (x .depth) d) (suc (length r)) on
 
--- how many are named so, up to there
-unfoldable pub twinsIn : ℕ → ℕ → List Item → ℕ
-twinsIn d c [] = 0
-twinsIn d c (x ∷ r) = let on = pick (named d c x) (suc (twinsIn d c r)) (twinsIn d c r) in pick (ltb (x .depth) d) 0 on
-
 -- the tuples of items
 unfoldable pub numbered : List Item → List Item → List Tup
 numbered back [] = []
 numbered back (x ∷ xs) =
-    record { natc = x .code; atix = suc (twinsIn (x .depth) (x .code) back); paix = parentIn (x .depth) back; atvl = x .value } ∷ numbered (x ∷ back) xs
+    record { natc = x .code; atix = suc (countFlat (x .depth) (x .code) back); paix = parentIn (x .depth) back; atvl = x .value } ∷ numbered (x ∷ back) xs
 
 -- ---- a run
 
@@ -43,24 +38,24 @@ parent-deep d e (tree c v kids rest) back h =
     ∙ rw (le-ltb e d h)
 
 -- a run that is deeper leaves the twins
-twins-deep : (d c′ e : ℕ) (f : Forest) (back : List Item) → d < e → twinsIn d c′ (onto (flat e f) back) ≡ twinsIn d c′ back
-unfolding onto flat twinsIn named
+twins-deep : (d c′ e : ℕ) (f : Forest) (back : List Item) → d < e → countFlat d c′ (onto (flat e f) back) ≡ countFlat d c′ back
+unfolding onto flat countFlat named
 twins-deep d c′ e nil back h = refl
 twins-deep d c′ e (tree c v kids rest) back h =
-    ap (twinsIn d c′) (onto-append (flat (suc e) kids) (flat e rest) (item e c v ∷ back))
+    ap (countFlat d c′) (onto-append (flat (suc e) kids) (flat e rest) (item e c v ∷ back))
     ∙ twins-deep d c′ e rest (onto (flat (suc e) kids) (item e c v ∷ back)) h
     ∙ twins-deep d c′ (suc e) kids (item e c v ∷ back) (omega arith)
     ∙ rw (le-ltb e d (omega arith), ne-eqb e d (λ z. omega (arith, z)))
 
 -- ---- one entry
 
-twins-entry : (d c′ c : ℕ) (v : List ℕ) (back : List Item) (seen : List ℕ) → twinsIn d c′ back ≡ occurs c′ seen
-    → twinsIn d c′ (item d c v ∷ back) ≡ occurs c′ (c ∷ seen)
-unfolding twinsIn named occurs
+twins-entry : (d c′ c : ℕ) (v : List ℕ) (back : List Item) (seen : List ℕ) → countFlat d c′ back ≡ occurs c′ seen
+    → countFlat d c′ (item d c v ∷ back) ≡ occurs c′ (c ∷ seen)
+unfolding countFlat named occurs
 twins-entry d c′ c v back seen e = rw (le-ltb d d (omega arith), eq-eqb d d refl, e)
 
-twins-first : (d c′ c : ℕ) (v : List ℕ) (back : List Item) → twinsIn (suc d) c′ (item d c v ∷ back) ≡ 0
-unfolding twinsIn
+twins-first : (d c′ c : ℕ) (v : List ℕ) (back : List Item) → countFlat (suc d) c′ (item d c v ∷ back) ≡ 0
+unfolding countFlat
 twins-first d c′ c v back = rw (lt-ltb d (suc d) (omega arith))
 
 parent-first : (d c : ℕ) (v : List ℕ) (back : List Item) → parentIn (suc d) (item d c v ∷ back) ≡ suc (length back)
@@ -75,7 +70,7 @@ parent-entry d c v back = rw (le-ltb d d (omega arith))
 
 -- a run and what follows it, where the items before have the numbers that the run's tuples go on from
 numbered-run : (back : List Item) (d : ℕ) (seen : List ℕ) (p k : ℕ) (f : Forest) (xs : List Item)
-    → k ≡ suc (length back) → parentIn d back ≡ p → ((c : ℕ) → twinsIn d c back ≡ occurs c seen)
+    → k ≡ suc (length back) → parentIn d back ≡ p → ((c : ℕ) → countFlat d c back ≡ occurs c seen)
     → numbered back (flat d f ++ xs) ≡ tuplesFrom seen p k f ++ numbered (onto (flat d f) back) xs
 unfolding flat tuplesFrom numbered onto occurs
 numbered-run back d seen p k nil xs ek ep ec = refl
@@ -95,6 +90,6 @@ numbered-run back d seen p k (tree c v kids rest) xs ek ep ec =
 
 -- the items of a forest
 pub numbered-forest : (f : Forest) → numbered [] (flat 0 f) ≡ tuplesOf f
-unfolding tuplesOf numbered parentIn twinsIn occurs
+unfolding tuplesOf numbered parentIn countFlat occurs
 numbered-forest f =
     ap (numbered []) (sym (append-nil (flat 0 f))) ∙ numbered-run [] 0 [] 0 1 f [] refl refl (λ c. refl) ∙ append-nil (tuplesFrom [] 0 1 f)

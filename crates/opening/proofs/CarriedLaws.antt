@@ -8,11 +8,11 @@ use borrow.Author.Tests.{eq-eqb, ne-eqb, lt-ltb, le-ltb, le-leb, lt-leb}
 use lib.Dec.{leb, ltb}
 use lib.ListN.{length}
 use Rattle.base.specs.Choice.{pick, both}
-use Rattle.base.specs.Check.{ok, no, fault, Passed}
+use Rattle.base.specs.Check.{ok, no, Passed}
 use Rattle.base.specs.Verdict.{verdictOf}
 use Rattle.base.specs.declared.Verdict.{Verdict}
 use Rattle.base.specs.declared.Verdict.the-variants.{Passed as Through, Refused as Failed}
-use Rattle.base.proofs.CheckLaws.{passed-is}
+use Rattle.base.proofs.CheckLaws.{passed-is, refused-is}
 use Rattle.skeleton.specs.File.{Field}
 use Rattle.skeleton.specs.Place.{between, placeAt, fieldsAt}
 use Rattle.skeleton.specs.Record.{recordAt}
@@ -61,17 +61,6 @@ there f n p q e len base a b x = go (both (ltb 1 n) (leb (length f) p)) e
     go : (t : Bool) → q ≡ pick t (Refused 4) (recordAt f p) → q ≡ recordAt f p
     go true z = absurd (let y : _≡_ {A = ℕ} 0 1 = cc in omega arith)
     go false z = z
-
--- ---- a test passed or refused
-
-refused-is : (c : Passed) (k i j : ℕ) → Failed k i j ≡ verdictOf c → c ≡ no (fault k i j)
-unfolding verdictOf
-refused-is (ok u) k i j e = absurd (let y : _≡_ {A = ℕ} 0 1 = cc in omega arith)
-refused-is (no x) k i j e =
-    let a : k ≡ x .number = cc in
-    let b : i ≡ x .field = cc in
-    let d : j ≡ x .tuple = cc in
-    rw (a, b, d)
 
 -- ---- record n by a test
 

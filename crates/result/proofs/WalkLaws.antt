@@ -5,8 +5,9 @@ use mathlib.Core.List.{List, [], _∷_, _++_, append-assoc}
 use native.Mathlib.Omega.{arith}
 use borrow.Author.Tests.{ne-eqb}
 use lib.ListN.{length}
-use Rattle.base.specs.Lists.{gather}
+use Rattle.base.specs.Lists.{gather, Each}
 use Rattle.base.specs.Walk.{Got}
+use Rattle.base.proofs.EachLaws.{each-map, each-join}
 use Rattle.skeleton.specs.File.{Field, recordsFrom}
 use Rattle.skeleton.specs.Place.{between, fieldsAt}
 use Rattle.skeleton.specs.Record.{recordAt, statedAt}
@@ -17,12 +18,10 @@ use Rattle.skeleton.proofs.AgainLaws.{again, records-some}
 use Rattle.skeleton.proofs.FileLaws.{records-over, records-more}
 use Rattle.skeleton.proofs.RecordLaws.{right}
 use Rattle.rules.specs.Record.{Rec}
-use Rattle.sequence.specs.Keyed.{Each, rank, Ordered}
+use Rattle.sequence.specs.Keyed.{rank, Ordered}
 use Rattle.sequence.specs.Stream.{keptOf, kept, joinedOf, joined}
 use Rattle.sequence.proofs.Lists.{ordered-from}
-use Rattle.sequence.proofs.EachLaws.{each-join}
 use Rattle.sequence.proofs.Stream.{kept-beyond}
-use Rattle.sound.proofs.Lists.{each-map}
 use Rattle.updates.specs.Acts.{chart}
 use Rattle.keys.specs.Key.{keyAt}
 use Rattle.keys.specs.Look.{Sound}
@@ -36,8 +35,8 @@ use Rattle.history.proofs.PlayingLaws.{rest-sound}
 use Rattle.composing.specs.Composing.{leftKinds, leftOld, leftNew}
 use Rattle.composing.proofs.ActsLaws.{turn-sound}
 use Rattle.composing.proofs.ComposingLaws.{left-old, left-turn, left-new, left-next}
-use Rattle.lasting.proofs.NamingLaws.{place-is}
 use Rattle.lasting.specs.Whole.{Whole, Old, New}
+use Rattle.lasting.proofs.NamingLaws.{place-is}
 use Rattle.result.specs.Side.{Reached, NewAt}
 use Rattle.result.specs.Pass.{kindsLeft, oldLeft, newLeft}
 

@@ -6,11 +6,12 @@ use mathlib.Core.List.{List, _++_}
 use lib.Dec.{ltb}
 use lib.ListN.{length}
 use Rattle.base.specs.Walk.{Got}
+use Rattle.base.specs.Lists.{Each}
 use Rattle.skeleton.specs.File.{Field, recordsFrom}
 use Rattle.skeleton.specs.Place.{between, fieldsAt}
 use Rattle.skeleton.specs.declared.directory.Shape.{Shape}
 use Rattle.rules.specs.Record.{Rec}
-use Rattle.sequence.specs.Keyed.{Each, rank}
+use Rattle.sequence.specs.Keyed.{rank}
 use Rattle.sequence.specs.Stream.{keptOf, joinedOf}
 use Rattle.updates.specs.Acts.{chart}
 use Rattle.keys.specs.Look.{Sound}

@@ -5,7 +5,7 @@ use mathlib.Core.Bool.{true}
 use mathlib.Core.List.{List, [], _∷_, _++_, append-nil}
 use native.Mathlib.Omega.{arith}
 use lib.ListN.{length, getD}
-use Rattle.base.specs.Lists.{each, gather}
+use Rattle.base.specs.Lists.{each, gather, Each}
 use Rattle.base.specs.Walk.{Got}
 use Rattle.fields.specs.Table.{headOf, tupleOf}
 use Rattle.fields.specs.Values.{Val, puts}
@@ -24,7 +24,6 @@ use Rattle.rules.specs.Written.{nums, treeBytes, assocField, identBytes, writte
 use Rattle.rules.specs.declared.Kind.{Kind}
 use Rattle.rules.specs.declared.Kind.the-variants.{Info, Point, Multi, Feature}
 use Rattle.rules.proofs.CoordinateLaws.{coords-none}
-use Rattle.sequence.specs.Keyed.{Each}
 use Rattle.sound.specs.Sound.{SoundAssoc, SoundFoid, SoundRec}
 use Rattle.sound.proofs.Parts.{standing-ok}
 use Rattle.roundtrip.proofs.Attributes.{attr-tree}

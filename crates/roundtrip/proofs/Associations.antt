@@ -7,7 +7,7 @@ use Rattle.base.specs.Lists.{each}
 use Rattle.base.proofs.ChoiceLaws.{both-too}
 use Rattle.fields.specs.Table.{headOf, tupleOf}
 use Rattle.fields.specs.Content.{Content, content, encode}
-use Rattle.fields.specs.Valid.{valid}
+use Rattle.fields.specs.Valid.{valid, Has}
 use Rattle.fields.specs.declared.Format.the-variants.{InasNew}
 use Rattle.fields.proofs.DecodeLaws.{encode-fill}
 use Rattle.forest.specs.Forest.{tuplesOf}
@@ -16,7 +16,6 @@ use Rattle.rules.specs.Trees.{tupOf, inasTree}
 use Rattle.rules.specs.Record.{Assoc, standing, assocOf}
 use Rattle.rules.specs.Written.{tupVals, treeBytes, assocField}
 use Rattle.sound.specs.Sound.{SoundAssoc}
-use Rattle.sound.proofs.Stand.{Has}
 use Rattle.sound.proofs.WrittenKeys.{assocVals, assoc-format, assoc-key}
 use Rattle.roundtrip.proofs.Attributes.{tree-pass, tree-again}
 

@@ -10,10 +10,11 @@ use Rattle.base.specs.Check.{ok}
 use Rattle.base.specs.Lists.{each, gather}
 use Rattle.base.specs.Walk.{Got}
 use Rattle.base.proofs.ChoiceLaws.{both-too}
+use Rattle.base.proofs.EachLaws.{each-map}
 use Rattle.fields.specs.Table.{code, count, insert, headOf, tupleOf}
 use Rattle.fields.specs.Values.{Val, num, txt, mark, puts, putAll}
 use Rattle.fields.specs.Content.{tuples, many}
-use Rattle.fields.specs.Valid.{allows, passes, passAll, passEach}
+use Rattle.fields.specs.Valid.{allows, passes, passAll, passEach, Has}
 use Rattle.fields.specs.Places.{endingAt}
 use Rattle.fields.specs.declared.Format.the-variants.{AttrNew}
 use Rattle.fields.specs.declared.Sub.the-variants.{Raw, Text}
@@ -26,10 +27,8 @@ use Rattle.forest.proofs.TuplesLaws.{tuples-length}
 use Rattle.rules.specs.Trees.{tupOf, attrTree}
 use Rattle.rules.specs.Written.{tupVals, treeBytes}
 use Rattle.sound.specs.Sound.{Attributes}
-use Rattle.sound.proofs.Lists.{each-map}
 use Rattle.sound.proofs.Values.{pass-each}
 use Rattle.sound.proofs.Trees.{Small, tuples-small}
-use Rattle.sound.proofs.Stand.{Has}
 
 -- ---- one tuple
 

@@ -2,7 +2,8 @@
 use Prim.Native.Nat.{ℕ}
 use mathlib.Core.Bool.{true}
 use mathlib.Core.List.{List, [], _∷_}
-use Rattle.base.specs.Lists.{each}
+use Rattle.base.specs.Lists.{each, Each}
+use Rattle.base.proofs.EachLaws.{each-map, each-join}
 use Rattle.skeleton.specs.File.{Field}
 use Rattle.fields.specs.Table.{headOf, tupleOf}
 use Rattle.fields.specs.Values.{puts}
@@ -14,11 +15,8 @@ use Rattle.rules.specs.Coordinates.{Coord}
 use Rattle.rules.specs.Content.{identFormat}
 use Rattle.rules.specs.Record.{Rec, Assoc, Spatial}
 use Rattle.rules.specs.Written.{Dataset, listField, nums, identBytes, tupVals, treeBytes, assocField, coordVals, spatialVals, coordTag, partFields, writtenFields, written, writtenBytes}
-use Rattle.sequence.specs.Keyed.{Each}
-use Rattle.sequence.proofs.EachLaws.{each-join}
 use Rattle.updates.proofs.Kept.{of-each}
 use Rattle.sound.specs.Sound.{Ranged, SoundAssoc, SoundRec, Sound}
-use Rattle.sound.proofs.Lists.{each-map}
 use Rattle.sound.proofs.Trees.{GoodTuple, tuples-good}
 use Rattle.sound.proofs.Texts.{TextBytes, bytes-none}
 use Rattle.sound.proofs.FileBytes.{Bodies}

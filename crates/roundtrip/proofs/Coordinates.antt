@@ -4,21 +4,20 @@ use mathlib.Core.Path.{_≡_, refl, ap, _∙_}
 use mathlib.Core.List.{List, [], _∷_, append-nil}
 use native.Mathlib.Omega.{arith}
 use lib.ListN.{length}
-use Rattle.base.specs.Lists.{each, gather}
+use Rattle.base.specs.Lists.{each, gather, Each}
 use Rattle.base.specs.Walk.{Got}
 use Rattle.fields.specs.Table.{headOf, tupleOf}
 use Rattle.fields.specs.Values.{Val, puts, putAll}
 use Rattle.fields.specs.Content.{tuples, many}
 use Rattle.fields.specs.Places.{endingAt}
 use Rattle.fields.specs.declared.Format.the-variants.{C2it, C2il}
+use Rattle.fields.specs.Valid.{Has}
 use Rattle.fields.proofs.FieldLaws.{list-fill}
 use Rattle.fields.proofs.DecodeLaws.{all-back, length-numbers}
 use Rattle.rules.specs.Coordinates.{Coord, coordOf, coordsIn}
 use Rattle.rules.specs.Written.{coordVals}
-use Rattle.sequence.specs.Keyed.{Each}
 use Rattle.sound.specs.Sound.{SoundCoord}
 use Rattle.sound.proofs.Values.{pass-each}
-use Rattle.sound.proofs.Stand.{Has}
 use Rattle.roundtrip.proofs.Heads.{head-back}
 
 -- the bytes of coordinate tuples

@@ -8,10 +8,11 @@ use native.Mathlib.Omega.{arith}
 use borrow.Author.Tests.{lt-leb}
 use lib.ListN.{length}
 use Rattle.base.specs.Check.{Check, ok, bind, pass}
-use Rattle.base.specs.Lists.{each}
+use Rattle.base.specs.Lists.{each, Each}
 use Rattle.base.specs.Keys.{same, among}
 use Rattle.base.proofs.KeysLaws.{same-sound, same-refl}
 use Rattle.base.proofs.OptionLaws.{never}
+use Rattle.base.proofs.EachLaws.{each-zip, each-join}
 use Rattle.skeleton.specs.File.{Field, recordsOf}
 use Rattle.skeleton.specs.Writable.{TagFits, TagsFit, Widths, Writable, AllWritable}
 use Rattle.skeleton.proofs.EmitFileLaws.{writable as writable-fields, file-back}
@@ -26,14 +27,12 @@ use Rattle.rules.specs.declared.Kind.{Kind}
 use Rattle.rules.specs.declared.Kind.the-variants.{Info, Point, Multi, Feature}
 use Rattle.rules.proofs.OutcomeLaws.{andThen-inv, done-inj}
 use Rattle.rules.proofs.FileLaws.{test-later}
-use Rattle.sequence.specs.Keyed.{Each, Ordered, Once, find}
+use Rattle.sequence.specs.Keyed.{Ordered, Once, find}
 use Rattle.sequence.proofs.Tests.{by-bool}
-use Rattle.sequence.proofs.EachLaws.{each-join}
 use Rattle.updates.specs.Acts.{chart}
 use Rattle.updates.proofs.Steps.{placed}
 use Rattle.updates.proofs.Kept.{every-done, every-inv, each-of, of-each}
 use Rattle.sound.specs.Sound.{SoundRec, Sound}
-use Rattle.sound.proofs.Lists.{each-zip}
 use Rattle.sound.proofs.General.{each-fits}
 use Rattle.roundtrip.proofs.Room.{short}
 use Rattle.roundtrip.proofs.Record.{eleven-passes, record-reads}

@@ -6,10 +6,12 @@ use mathlib.Core.List.{List, [], _∷_, _++_}
 use lib.ListN.{length}
 use lib.Dec.{eqb}
 use Rattle.base.specs.Check.{Check, ok, bind, pass, passed}
-use Rattle.base.specs.Lists.{each, gather}
+use Rattle.base.specs.Lists.{each, gather, Each}
+use Rattle.base.proofs.EachLaws.{each-zip, each-join}
 use Rattle.skeleton.specs.File.{Field}
 use Rattle.fields.specs.Table.{headOf}
 use Rattle.fields.specs.Values.{puts, putAll}
+use Rattle.fields.specs.Valid.{Has}
 use Rattle.rules.specs.Tags.{FOID, ATTR, SPAS, COCC, C2IT, C2IL}
 use Rattle.rules.specs.Content.{inasFormat, formatOf, counted}
 use Rattle.rules.specs.Coordinates.{Coord}
@@ -18,12 +20,9 @@ use Rattle.rules.specs.Record.{Rec, Assoc}
 use Rattle.rules.specs.Written.{fieldAs, listField, nums, treeBytes, assocField, coordTag, partFields}
 use Rattle.rules.specs.declared.Kind.{Kind}
 use Rattle.rules.specs.declared.Kind.the-variants.{Info, Point, Multi, Feature}
-use Rattle.sequence.specs.Keyed.{Each}
-use Rattle.sequence.proofs.EachLaws.{each-join}
 use Rattle.updates.proofs.Kept.{of-each}
 use Rattle.sound.specs.Sound.{SoundAssoc, SoundCoord, Counted, SoundFoid, SoundRec}
-use Rattle.sound.proofs.Lists.{each-zip}
-use Rattle.sound.proofs.Stand.{Has, Formed}
+use Rattle.sound.proofs.Stand.{Formed}
 use Rattle.roundtrip.proofs.Attributes.{attr-has, attr-tree}
 use Rattle.roundtrip.proofs.Associations.{inas-has, inas-tree}
 use Rattle.roundtrip.proofs.Coordinates.{coordBytes, c2il-has, c2it-has}

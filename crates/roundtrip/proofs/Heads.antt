@@ -7,10 +7,9 @@ use Rattle.base.proofs.ChoiceLaws.{both-too}
 use Rattle.fields.specs.Table.{headOf, tupleOf}
 use Rattle.fields.specs.Values.{Val, values, puts, putAll}
 use Rattle.fields.specs.Content.{Content, content, encode}
-use Rattle.fields.specs.Valid.{passAll, passEach, valid}
+use Rattle.fields.specs.Valid.{passAll, passEach, valid, Has}
 use Rattle.fields.specs.declared.Format.{Format}
 use Rattle.fields.proofs.DecodeLaws.{encode-fill}
-use Rattle.sound.proofs.Stand.{Has}
 
 -- it fills the field, and is read again
 pub head-back : (k : Format) (vs : List Val) → passAll (headOf k) vs ≡ true → Has k (puts (headOf k) vs) × (values (headOf k) (puts (headOf k) vs) ≡ vs)

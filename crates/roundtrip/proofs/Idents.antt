@@ -8,7 +8,7 @@ use Rattle.base.specs.Lists.{each}
 use Rattle.fields.specs.Table.{headOf}
 use Rattle.fields.specs.Values.{values, numAt, puts}
 use Rattle.fields.specs.Content.{Content, content}
-use Rattle.fields.specs.Valid.{passAll}
+use Rattle.fields.specs.Valid.{passAll, Has}
 use Rattle.fields.specs.declared.Format.the-variants.{Foid}
 use Rattle.fields.proofs.WiderLaws.{format-wider}
 use Rattle.rules.specs.Kind.{coded}
@@ -18,7 +18,6 @@ use Rattle.rules.specs.Written.{nums, identBytes}
 use Rattle.sequence.proofs.Tests.{by-bool}
 use Rattle.sound.specs.Sound.{identVals, SoundRec}
 use Rattle.sound.proofs.Values.{all-length}
-use Rattle.sound.proofs.Stand.{Has}
 use Rattle.sound.proofs.Records.{ident-wider}
 use Rattle.roundtrip.proofs.Heads.{head-back}
 

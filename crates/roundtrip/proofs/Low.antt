@@ -4,11 +4,8 @@ use mathlib.Core.Path.{_≡_, refl}
 use mathlib.Core.Bool.{Bool, true, false}
 use mathlib.Core.List.{List, [], _∷_, _++_}
 use native.Mathlib.Omega.{arith}
-use borrow.Author.Tests.{ltb-true}
-use lib.Dec.{ltb}
-use Rattle.base.specs.Choice.{both}
-use Rattle.base.specs.Lists.{each, gather}
-use Rattle.base.proofs.ChoiceLaws.{both-hold}
+use Rattle.base.specs.Lists.{each, gather, Each}
+use Rattle.base.proofs.EachLaws.{each-join}
 use Rattle.skeleton.specs.Digits.{inDigits}
 use Rattle.skeleton.specs.File.{Field}
 use Rattle.skeleton.specs.Emit.{tagBytes, size, middle, marks, leading, entry, entries, contents, baseOf, lengthOf, emit, emits}
@@ -17,8 +14,7 @@ use Rattle.fields.specs.Values.{Val, num, txt, width, mark, put, puts, putAll}
 use Rattle.fields.specs.Valid.{Bytes}
 use Rattle.fields.specs.declared.Sub.{Sub}
 use Rattle.fields.specs.declared.Sub.the-variants.{B11, B12, B14, Among, Raw, Text, Fixed}
-use Rattle.sequence.specs.Keyed.{Each}
-use Rattle.sequence.proofs.EachLaws.{each-join}
+use Rattle.fields.proofs.ByteLaws.{areBytes, are-bytes}
 use Rattle.sound.proofs.Texts.{TextBytes}
 
 -- each number is a byte
@@ -42,16 +38,9 @@ bytes-low (x ∷ l) g = (g 0, bytes-low l (λ k. g (suc k)))
 pub low-join : (a b : List ℕ) → Low a → Low b → Low (a ++ b)
 low-join a b p q = each-join (λ x. x < 256) a b p q
 
--- each number of a list is a byte, by computation
-unfoldable under : List ℕ → Bool
-under [] = true
-under (x ∷ l) = both (ltb x 256) (under l)
-
--- such a list
-low-known : (l : List ℕ) → under l ≡ true → Low l
-unfolding under Each
-low-known [] e = tt
-low-known (x ∷ l) e = let (a, b) = both-hold (ltb x 256) (under l) e in (ltb-true x 256 a, low-known l b)
+-- a list that is known
+low-known : (l : List ℕ) → areBytes l ≡ true → Low l
+low-known l e = bytes-low l (are-bytes l e)
 
 -- ---- values
 
@@ -101,13 +90,13 @@ low-digits (suc w) n = low-join (inDigits w (n / 10)) ((n % 10 + 48) ∷ []) (lo
 
 -- the leader's constant bytes
 low-middle : (first : Bool) → Low (middle first) × Low (marks first)
-unfolding under
+unfolding areBytes
 low-middle true = (low-known (middle true) refl, low-known (marks true) refl)
 low-middle false = (low-known (middle false) refl, low-known (marks false) refl)
 
 -- a leader
 low-leading : (a b : ℕ) (first : Bool) (len base : ℕ) → Low (leading a b first len base)
-unfolding leading under
+unfolding leading areBytes
 low-leading a b first len base =
     let (m, k) = low-middle first in
     low-join (inDigits 5 len) _ (low-digits 5 len)

@@ -8,8 +8,9 @@ use borrow.Author.Tests.{le-ltb}
 use lib.ListN.{length}
 use lib.Dec.{eqb}
 use Rattle.base.specs.Check.{ok, bind, pass}
-use Rattle.base.specs.Lists.{each, gather}
+use Rattle.base.specs.Lists.{each, gather, Each}
 use Rattle.base.specs.Keys.{among}
+use Rattle.base.proofs.EachLaws.{each-map, each-join}
 use Rattle.fields.specs.Table.{headOf, tupleOf}
 use Rattle.fields.specs.Values.{putAll}
 use Rattle.fields.specs.declared.Format.the-variants.{Foid, C2it}
@@ -32,11 +33,8 @@ use Rattle.rules.specs.declared.Kind.{Kind}
 use Rattle.rules.specs.declared.Kind.the-variants.{Info, Point, Multi, Feature}
 use Rattle.rules.specs.declared.Mode.the-variants.{InDataset}
 use Rattle.rules.proofs.KindLaws.{kind-of-tag}
-use Rattle.sequence.specs.Keyed.{Each}
-use Rattle.sequence.proofs.EachLaws.{each-join}
 use Rattle.updates.proofs.Kept.{of-each}
 use Rattle.sound.specs.Sound.{SoundCoord, rowed, Counted, SoundParts, SoundFoid, SoundRec, Named}
-use Rattle.sound.proofs.Lists.{each-map}
 use Rattle.sound.proofs.Keys.{apart-two}
 use Rattle.sound.proofs.Stand.{fill-stands, formed-all, treed-all}
 use Rattle.sound.proofs.Marks.{apart-once, Stands, each-eleven, marks-keys}

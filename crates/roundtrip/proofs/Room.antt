@@ -3,12 +3,9 @@ use Prim.Native.Nat.{ℕ, _≤_}
 use mathlib.Core.Path.{_≡_}
 use mathlib.Core.List.{List, [], _∷_, _++_}
 use native.Mathlib.Omega.{arith}
-use borrow.Author.Tests.{ltb-false}
 use lib.ListN.{length, length-append}
-use lib.Dec.{ltb}
 use Rattle.base.specs.Check.{pass}
-use Rattle.base.specs.Lists.{each}
-use Rattle.base.proofs.CheckLaws.{refused}
+use Rattle.base.specs.Lists.{each, Each}
 use Rattle.skeleton.specs.File.{Field}
 use Rattle.skeleton.specs.Emit.{sizes, lengthOf}
 use Rattle.skeleton.proofs.EmitFieldsLaws.{sizes-append}
@@ -18,8 +15,7 @@ use Rattle.fields.specs.declared.Format.the-variants.{InasNew}
 use Rattle.rules.specs.Tags.{FOID, ATTR, SPAS}
 use Rattle.rules.specs.Record.{Rec, Assoc}
 use Rattle.rules.specs.Written.{listField, treeBytes, assocField, nums, coordTag, partFields, writtenFields, writtenLength, number12}
-use Rattle.sequence.specs.Keyed.{Each}
-use Rattle.sequence.proofs.Tests.{by-bool}
+use Rattle.rules.proofs.LengthLaws.{short-record, list-size}
 use Rattle.roundtrip.proofs.Coordinates.{coordBytes}
 use Rattle.roundtrip.proofs.Spatial.{spatialBytes}
 use Rattle.roundtrip.proofs.Idents.{foidBytes}
@@ -28,14 +24,8 @@ use Rattle.roundtrip.proofs.Idents.{foidBytes}
 
 -- a record that 12 passes
 pub short : (fs : List Field) → number12 fs ≡ pass → lengthOf 5 5 fs ≤ 99999
-unfolding number12 writtenLength
-short fs e = by-bool (ltb 99999 (writtenLength fs)) (λ h. refused (rw h at e)) (λ h. ltb-false 99999 (lengthOf 5 5 fs) h)
-
--- a list is as long as its bytes, if not longer
-list-size : (t : ℕ) (b : List ℕ) → length b ≤ sizes (listField t b)
-unfolding listField sizes
-list-size t [] = omega arith
-list-size t (x ∷ b) = omega arith
+unfolding writtenLength
+short fs e = short-record fs e
 
 -- ---- its trees
 

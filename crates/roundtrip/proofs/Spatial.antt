@@ -2,21 +2,20 @@
 use Prim.Native.Nat.{ℕ}
 use mathlib.Core.Path.{_≡_, refl, sym, ap, ap₂, _∙_}
 use mathlib.Core.List.{List, [], _∷_, _++_}
-use Rattle.base.specs.Lists.{each}
+use Rattle.base.specs.Lists.{each, Each}
 use Rattle.base.specs.Walk.{Got}
 use Rattle.fields.specs.Table.{headOf, tupleOf}
 use Rattle.fields.specs.Values.{Val, numAt, putAll}
 use Rattle.fields.specs.Content.{many}
 use Rattle.fields.specs.Places.{endingAt}
 use Rattle.fields.specs.declared.Format.the-variants.{Spas, SpasNew}
+use Rattle.fields.specs.Valid.{Has}
 use Rattle.fields.proofs.FieldLaws.{list-fill}
 use Rattle.fields.proofs.DecodeLaws.{all-back}
 use Rattle.rules.specs.Associations.{spasKey}
 use Rattle.rules.specs.Record.{Spatial, spatialOf}
 use Rattle.rules.specs.Written.{nums, spatialVals}
-use Rattle.sequence.specs.Keyed.{Each}
 use Rattle.sound.specs.Sound.{SoundSpatial}
-use Rattle.sound.proofs.Stand.{Has}
 use Rattle.sound.proofs.WrittenKeys.{spatial-pass, spatial-back, spatial-key}
 
 -- the bytes of spatial associations

@@ -9,6 +9,7 @@ pub mod FileLaws
 pub mod KindLaws
 pub mod ByTagLaws
 pub mod FilledLaws
+pub mod LengthLaws
 pub mod MarkLaws
 pub mod CoordinateLaws
 pub mod Locality

@@ -7,6 +7,7 @@ use lib.Dec.{eqb}
 use Rattle.base.specs.Choice.{pick}
 use Rattle.base.specs.Check.{no, fault, Passed, pass}
 use Rattle.base.specs.Keys.{among}
+use Rattle.base.specs.Lists.{each}
 use Rattle.skeleton.specs.File.{Field}
 use Rattle.fields.specs.Table.{headOf, tupleOf}
 use Rattle.fields.specs.Values.{Val, values, numAt}
@@ -28,6 +29,14 @@ inasKey b = let v = values (headOf (inasFormat false b)) b in numAt v 0 ∷ numA
 -- a SPAS key: RRNM, RRID
 unfoldable pub spasKey : List Val → List ℕ
 spasKey v = numAt v 0 ∷ numAt v 1 ∷ []
+
+-- the keys of a SPAS
+unfoldable pub spasKeys : List ℕ → List (List ℕ)
+spasKeys b = each spasKey (many (tupleOf Spas) b)
+
+-- the keys of a field's associations
+unfoldable pub fieldKeys : Field → List (List ℕ)
+fieldKeys f = pick (eqb (f .tag) INAS) (inasKey (f .body) ∷ []) (pick (eqb (f .tag) SPAS) (spasKeys (f .body)) [])
 
 -- the marks of the tuples, from number j on, of SPAS field i
 unfoldable pub spasMarks : ℕ → ℕ → List (List Val) → List Mark

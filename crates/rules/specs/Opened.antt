@@ -3,10 +3,10 @@ use Rattle.rules.specs.ByTag.{withTag, has, bodies, firstTag, front}
 use Rattle.rules.specs.Kind.{kindOf, tagOf, rcnm, rank, coded, rowsOf, generalRows}
 use Rattle.rules.specs.Grammar.{rowsAfter, inOrder, complete, ruinByte, couiByte, asStored, forbidden, fieldsStand, number4}
 use Rattle.rules.specs.Place.{placed}
-use Rattle.rules.specs.Coordinates.{coordOf, coordsIn, sent, placeIn}
+use Rattle.rules.specs.Coordinates.{isCoordinates, coordOf, coordsIn, sent, placeIn}
 use Rattle.rules.specs.Content.{insertOnly, identFormat, inasFormat, formatOf, stands, allStand, miscounts, counted, number5}
 use Rattle.rules.specs.Trees.{tupOf, instructionOf, utupOf, attrTree, inasTree, attrActs, treeStands, treesStand, number6}
-use Rattle.rules.specs.Associations.{inasKey, spasKey, spasMarks, fieldMarks, marks, keysOnce, number7, number11}
+use Rattle.rules.specs.Associations.{inasKey, spasKey, spasKeys, fieldKeys, spasMarks, fieldMarks, marks, keysOnce, number7, number11}
 use Rattle.rules.specs.Record.{identOf, keyNamed, keyOf, foidOf, standing, assocOf, spatialOf, partsOf, recOf, datasetRecord, updateRecord}
 use Rattle.rules.specs.General.{generalFormat, generalRecord, dsidOf, nameOf, editionOf, numberOf, number8, newer, merged}
 use Rattle.rules.specs.Written.{listField, nums, identBytes, tupVals, treeBytes, assocField, coordVals, spatialVals, coordTag, partFields, writtenFields, writtenLength, number12, written, writtenBytes, count}
@@ -21,5 +21,5 @@ use Rattle.rules.specs.Listing.{line, recordLine, recordLines, printed, 
 
 -- all of them
 unfoldable pub opened : Unit {0}
-unfolding withTag has bodies firstTag front kindOf tagOf rcnm rank coded rowsOf generalRows rowsAfter inOrder complete ruinByte couiByte asStored forbidden fieldsStand number4 placed coordOf coordsIn sent placeIn insertOnly identFormat inasFormat formatOf stands allStand miscounts counted number5 tupOf instructionOf utupOf attrTree inasTree attrActs treeStands treesStand number6 inasKey spasKey spasMarks fieldMarks marks keysOnce number7 number11 identOf keyNamed keyOf foidOf standing assocOf spatialOf partsOf recOf datasetRecord updateRecord generalFormat generalRecord dsidOf nameOf editionOf numberOf number8 newer merged listField nums identBytes tupVals treeBytes assocField coordVals spatialVals coordTag partFields writtenFields writtenLength number12 written writtenBytes count andThen at everyRecord lastRank datasetTest updateTest through ending taken datasetOf references readDataset writable updateOf readUpdate actAttr actInas actSpas actField actFields follows sameFoid fitting revised inserted deleted modified change find settle replace remove store stepAs step steps general updated version refusal success notTooLong readOutcome readAnswer read roomFor outputOf writeOutcome write enoughWork updateOutcome update workAfter line recordLine recordLines printed listing
+unfolding withTag has bodies firstTag front kindOf tagOf rcnm rank coded rowsOf generalRows rowsAfter inOrder complete ruinByte couiByte asStored forbidden fieldsStand number4 placed isCoordinates coordOf coordsIn sent placeIn insertOnly identFormat inasFormat formatOf stands allStand miscounts counted number5 tupOf instructionOf utupOf attrTree inasTree attrActs treeStands treesStand number6 inasKey spasKey spasKeys fieldKeys spasMarks fieldMarks marks keysOnce number7 number11 identOf keyNamed keyOf foidOf standing assocOf spatialOf partsOf recOf datasetRecord updateRecord generalFormat generalRecord dsidOf nameOf editionOf numberOf number8 newer merged listField nums identBytes tupVals treeBytes assocField coordVals spatialVals coordTag partFields writtenFields writtenLength number12 written writtenBytes count andThen at everyRecord lastRank datasetTest updateTest through ending taken datasetOf references readDataset writable updateOf readUpdate actAttr actInas actSpas actField actFields follows sameFoid fitting revised inserted deleted modified change find settle replace remove store stepAs step steps general updated version refusal success notTooLong readOutcome readAnswer read roomFor outputOf writeOutcome write enoughWork updateOutcome update workAfter line recordLine recordLines printed listing
 opened = tt

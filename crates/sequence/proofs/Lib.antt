@@ -1,5 +1,4 @@
 pub mod Tests
-pub mod EachLaws
 pub mod Lists
 pub mod Local
 pub mod Refusal

@@ -11,7 +11,8 @@ use lib.Dec.{ltb}
 use Rattle.base.specs.Keys.{same}
 use Rattle.base.proofs.KeysLaws.{same-sound, same-refl, same-sym}
 use Rattle.base.proofs.OptionLaws.{never}
-use Rattle.sequence.specs.Keyed.{Parts, Each, Has, Under, rank, find, settle, replace, remove, Ordered, Once}
+use Rattle.base.specs.Lists.{Each}
+use Rattle.sequence.specs.Keyed.{Parts, Has, Under, rank, find, settle, replace, remove, Ordered, Once}
 use Rattle.sequence.specs.Order.{keep}
 use Rattle.sequence.proofs.Tests.{by-bool}
 

@@ -10,7 +10,8 @@ use Rattle.base.specs.Choice.{either}
 use Rattle.base.specs.Check.{ok}
 use Rattle.base.specs.Keys.{same}
 use Rattle.base.proofs.KeysLaws.{same-refl}
-use Rattle.sequence.specs.Keyed.{Parts, Each, Has, Under, done, rank, step, run, Ordered, Once, Laws}
+use Rattle.base.specs.Lists.{Each}
+use Rattle.sequence.specs.Keyed.{Parts, Has, Under, done, rank, step, run, Ordered, Once, Laws}
 use Rattle.sequence.specs.Order.{keep, isInsert, isDelete, named, untouched, inserts, deletes}
 use Rattle.sequence.proofs.Tests.{done-inj, goOn-done}
 use Rattle.sequence.proofs.Lists.{find-under, each-settle, each-remove, each-replace, each-find, ordered-settle, ordered-remove, ordered-replace, length-settle, length-remove, length-replace, keep-settle, keep-remove, keep-replace}

@@ -41,11 +41,6 @@ unfoldable pub goOn : {A B : Type 0} → ℕ → Check A → (A → Ran B) → R
 goOn j (ok a) k = k a
 goOn j (no x) k = stop j x
 
--- each of a list has Q
-unfoldable pub Each : {A : Type 0} → (A → Type 0) → List A → Type 0
-Each Q [] = Unit {0}
-Each Q (x ∷ xs) = Q x × Each Q xs
-
 module _ (P : Parts) where
   open Parts P using (Rec, Upd, key, place, names, act, change)
 

@@ -10,7 +10,7 @@ use Rattle.base.proofs.ChoiceLaws.{both-hold}
 use Rattle.fields.specs.Table.{code, insert, headOf, tupleOf}
 use Rattle.fields.specs.Values.{Val, num, values, numAt}
 use Rattle.fields.specs.Content.{content}
-use Rattle.fields.specs.Valid.{Bytes, passes, passAll, passEach, valid}
+use Rattle.fields.specs.Valid.{Bytes, passes, passAll, passEach, valid, Has}
 use Rattle.fields.specs.declared.Format.the-variants.{InasNew, AttrNew}
 use Rattle.fields.specs.declared.Sub.the-variants.{B11, Raw}
 use Rattle.fields.proofs.ByteLaws.{le1}
@@ -26,7 +26,6 @@ use Rattle.sound.specs.Sound.{SoundAssoc}
 use Rattle.sound.proofs.Values.{numsFrom, one-number, all-nums, each-pass}
 use Rattle.sound.proofs.Attributes.{tree-attributes}
 use Rattle.sound.proofs.Texts.{content-bytes}
-use Rattle.sound.proofs.Stand.{Has}
 
 -- the tenth byte is the instruction
 pub inas-byte : (b : List ℕ) → Has InasNew b → getD b 9 0 ≡ numAt (values (headOf InasNew) b) 4

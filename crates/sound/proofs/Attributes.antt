@@ -5,13 +5,14 @@ use mathlib.Core.Bool.{true}
 use mathlib.Core.List.{List, [], _∷_}
 use native.Mathlib.Omega.{arith}
 use Rattle.base.specs.Check.{ok}
-use Rattle.base.specs.Lists.{each}
+use Rattle.base.specs.Lists.{each, Each}
 use Rattle.base.proofs.ChoiceLaws.{both-hold}
 use Rattle.base.proofs.CheckLaws.{bind-inv}
+use Rattle.base.proofs.EachLaws.{each-zip}
 use Rattle.fields.specs.Table.{code, count, insert, change, headOf, tupleOf}
 use Rattle.fields.specs.Values.{Val, numAt, textAt}
 use Rattle.fields.specs.Content.{many}
-use Rattle.fields.specs.Valid.{Bytes, passes, passAll}
+use Rattle.fields.specs.Valid.{Bytes, passes, passAll, Has}
 use Rattle.fields.specs.Places.{endingAt}
 use Rattle.fields.specs.declared.Format.the-variants.{Attr, AttrNew}
 use Rattle.fields.specs.declared.Sub.{Sub}
@@ -24,14 +25,11 @@ use Rattle.forest.proofs.TreeLaws.{tree-sound}
 use Rattle.forest.proofs.EditLaws.{edit-plain}
 use Rattle.rules.specs.Trees.{tupOf, utupOf, attrTree, attrActs}
 use Rattle.rules.specs.Modify.{actAttr}
-use Rattle.sequence.specs.Keyed.{Each}
 use Rattle.updates.proofs.Kept.{of-each}
 use Rattle.sound.specs.Sound.{Attributes}
-use Rattle.sound.proofs.Lists.{each-zip}
 use Rattle.sound.proofs.Values.{is-num, is-text, all-length, each-pass}
 use Rattle.sound.proofs.Trees.{Good, GoodTuple, GoodAct, acts-ranged, edit-ranged, tuples-ranged}
 use Rattle.sound.proofs.Texts.{TextBytes, many-bytes}
-use Rattle.sound.proofs.Stand.{Has}
 
 -- the subfields of a tuple, by that of its instruction
 abbrev rows : Sub → List Sub

@@ -6,12 +6,11 @@ use mathlib.Core.List.{List, [], _∷_, _++_}
 use lib.ListN.{length}
 use lib.Dec.{eqb}
 use borrow.Author.Tests.{eqb-true}
-use Rattle.base.specs.Lists.{each}
+use Rattle.base.specs.Lists.{each, Each}
 use Rattle.base.proofs.ListLaws.{each-length}
 use Rattle.skeleton.specs.File.{Field}
 use Rattle.rules.specs.ByTag.{withTag, bodyOf, bodies}
 use Rattle.rules.specs.Written.{fieldAs}
-use Rattle.sequence.specs.Keyed.{Each}
 use Rattle.sequence.proofs.Tests.{by-bool}
 
 -- what each field has, each body with tag t has as a field

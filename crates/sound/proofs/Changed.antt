@@ -8,6 +8,7 @@ use lib.Dec.{eqb}
 use borrow.Author.Tests.{eqb-true, eq-eqb}
 use Rattle.base.specs.Choice.{pick}
 use Rattle.base.specs.Check.{ok, inField, pass}
+use Rattle.base.specs.Lists.{Each}
 use Rattle.base.proofs.ChoiceLaws.{both-hold}
 use Rattle.base.proofs.CheckLaws.{bind-inv, ok-inj, pass-inv, refused, field-inv}
 use Rattle.base.proofs.OptionLaws.{never, some-inj}
@@ -29,7 +30,7 @@ use Rattle.rules.specs.Written.{nums}
 use Rattle.rules.specs.declared.Kind.{Kind}
 use Rattle.rules.specs.declared.Kind.the-variants.{Info, Point, Multi, Feature}
 use Rattle.rules.specs.declared.Mode.the-variants.{InUpdate}
-use Rattle.sequence.specs.Keyed.{Each, Under, Has}
+use Rattle.sequence.specs.Keyed.{Under, Has}
 use Rattle.sequence.proofs.Tests.{by-bool}
 use Rattle.updates.specs.Acts.{kindIn, namedBy, chart}
 use Rattle.updates.proofs.Acted.{Acted, acted-insert, acted-modify}

@@ -8,14 +8,15 @@ use lib.ListN.{length, take, drop}
 use lib.Dec.{eqb, leb}
 use Rattle.base.specs.Check.{ok}
 use Rattle.base.specs.Choice.{pick}
-use Rattle.base.specs.Lists.{each}
+use Rattle.base.specs.Lists.{each, Each}
 use Rattle.base.specs.Walk.{Got}
 use Rattle.base.proofs.ChoiceLaws.{by-test}
 use Rattle.base.proofs.CheckLaws.{ok-inj, refused}
+use Rattle.base.proofs.EachLaws.{each-nil, each-map, each-join}
 use Rattle.fields.specs.Table.{headOf, tupleOf}
 use Rattle.fields.specs.Values.{Val, values}
 use Rattle.fields.specs.Content.{tuples, many}
-use Rattle.fields.specs.Valid.{Bytes, passAll}
+use Rattle.fields.specs.Valid.{Bytes, passAll, Has}
 use Rattle.fields.specs.Places.{endingAt}
 use Rattle.fields.specs.declared.Format.the-variants.{C2it, C2il}
 use Rattle.fields.proofs.FieldLaws.{fill-list, head-tuple, head-length}
@@ -23,14 +24,10 @@ use Rattle.fields.proofs.EncodeLaws.{pass-many}
 use Rattle.rules.specs.Place.{Place, placed}
 use Rattle.rules.specs.Coordinates.{coordOf, coordsIn}
 use Rattle.rules.specs.Written.{coordVals}
-use Rattle.sequence.specs.Keyed.{Each}
 use Rattle.sequence.proofs.Tests.{by-bool}
-use Rattle.sequence.proofs.EachLaws.{each-join}
 use Rattle.updates.proofs.Kept.{of-each}
 use Rattle.sound.specs.Sound.{SoundCoord}
-use Rattle.sound.proofs.Lists.{each-nil, each-map}
 use Rattle.sound.proofs.Values.{numsFrom, all-nums, each-pass}
-use Rattle.sound.proofs.Stand.{Has}
 
 -- a tuple that passes
 coord-made : (vs : List Val) → passAll (tupleOf C2il) vs ≡ true → SoundCoord (coordOf vs)

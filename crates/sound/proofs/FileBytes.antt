@@ -7,8 +7,10 @@ use borrow.Author.Tests.{ltb-true, ltb-false}
 use lib.ListN.{length}
 use lib.Dec.{eqb, ltb}
 use Rattle.base.specs.Walk.{Got}
+use Rattle.base.specs.Lists.{Each}
 use Rattle.base.proofs.ChoiceLaws.{by-test}
 use Rattle.base.proofs.WalkLaws.{by-measure}
+use Rattle.base.proofs.EachLaws.{each-nil}
 use Rattle.skeleton.specs.File.{Field, recordsFrom, recordsOf}
 use Rattle.skeleton.specs.Place.{between, placeAt, fieldsAt}
 use Rattle.skeleton.specs.Record.{recordAt}
@@ -23,10 +25,8 @@ use Rattle.skeleton.proofs.RecordLaws.{right}
 use Rattle.skeleton.proofs.FileLaws.{records-over, records-refused, records-more}
 use Rattle.skeleton.proofs.ReadLaws.{bytes-between, file-read}
 use Rattle.fields.specs.Valid.{Bytes}
-use Rattle.sequence.specs.Keyed.{Each}
 use Rattle.sequence.proofs.Tests.{by-bool}
 use Rattle.sound.specs.Sound.{Carried}
-use Rattle.sound.proofs.Lists.{each-nil}
 
 -- a record whose bodies are bytes
 abbrev pub Bodies : List Field → Type 0

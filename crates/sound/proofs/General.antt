@@ -9,9 +9,10 @@ use lib.Dec.{eqb}
 use borrow.Author.Tests.{eqb-true, eq-eqb, not-true}
 use Rattle.base.specs.Choice.{both}
 use Rattle.base.specs.Check.{bind, pass}
-use Rattle.base.specs.Lists.{each, gather, empty}
+use Rattle.base.specs.Lists.{each, gather, empty, Each}
 use Rattle.base.proofs.ChoiceLaws.{by-test, both-hold}
 use Rattle.base.proofs.CheckLaws.{bind-inv, refused}
+use Rattle.base.proofs.EachLaws.{each-map, each-gathered, each-join}
 use Rattle.skeleton.specs.File.{Field}
 use Rattle.skeleton.specs.Writable.{TagFits, TagsFit}
 use Rattle.fields.specs.Valid.{Bytes}
@@ -26,11 +27,8 @@ use Rattle.rules.specs.General.{generalFormat, generalRecord, newer, merged}
 use Rattle.rules.specs.declared.Mode.{Mode}
 use Rattle.rules.specs.declared.Mode.the-variants.{InDataset, InUpdate}
 use Rattle.rules.proofs.FilledLaws.{stands-fill}
-use Rattle.sequence.specs.Keyed.{Each}
 use Rattle.sequence.proofs.Tests.{by-bool}
-use Rattle.sequence.proofs.EachLaws.{each-join}
 use Rattle.sound.specs.Sound.{rowed, Carried}
-use Rattle.sound.proofs.Lists.{each-map, each-gathered}
 use Rattle.sound.proofs.Order.{most, order-once}
 use Rattle.sound.proofs.Stand.{fill-stands}
 

@@ -8,7 +8,7 @@ use Rattle.base.specs.Lists.{each}
 use Rattle.base.proofs.ChoiceLaws.{both-hold}
 use Rattle.fields.specs.Table.{rcid, count, code, change, headOf, tupleOf}
 use Rattle.fields.specs.Values.{Val, num, values, numAt}
-use Rattle.fields.specs.Valid.{Bytes, passes, passAll}
+use Rattle.fields.specs.Valid.{Bytes, passes, passAll, Has}
 use Rattle.fields.specs.declared.Format.{Format}
 use Rattle.fields.specs.declared.Format.the-variants.{Foid}
 use Rattle.fields.specs.declared.Sub.the-variants.{B11}
@@ -21,7 +21,6 @@ use Rattle.rules.specs.Written.{nums}
 use Rattle.rules.specs.declared.Kind.{Kind}
 use Rattle.rules.specs.declared.Kind.the-variants.{Info, Point, Multi, Feature}
 use Rattle.sound.proofs.Values.{numsFrom, one-number, all-nums, insert-last}
-use Rattle.sound.proofs.Stand.{Has}
 
 -- the values of a head that is read pass
 pub head-read : (k : Format) (b : List ℕ) → Bytes b → Has k b → passAll (headOf k) (values (headOf k) b) ≡ true

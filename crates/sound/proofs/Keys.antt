@@ -5,15 +5,14 @@ use mathlib.Core.Bool.{false}
 use mathlib.Core.List.{List, [], _∷_, _++_}
 use lib.ListN.{length}
 use Rattle.base.specs.Check.{ok}
-use Rattle.base.specs.Lists.{each}
+use Rattle.base.specs.Lists.{each, Each}
 use Rattle.base.specs.Keys.{same, among, join, leave}
 use Rattle.base.proofs.CheckLaws.{bind-inv, ok-inj, refused}
 use Rattle.base.proofs.KeysLaws.{same-sound}
 use Rattle.base.proofs.ChoiceLaws.{neither}
 use Rattle.base.proofs.ListLaws.{each-append}
-use Rattle.sequence.specs.Keyed.{Each}
+use Rattle.base.proofs.EachLaws.{each-join}
 use Rattle.sequence.proofs.Tests.{by-bool}
-use Rattle.sequence.proofs.EachLaws.{each-join}
 use Rattle.sound.specs.Sound.{Apart}
 
 -- ---- parts of a list

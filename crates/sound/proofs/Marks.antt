@@ -8,7 +8,7 @@ use lib.Dec.{eqb}
 use borrow.Author.Tests.{eqb-true}
 use Rattle.base.specs.Choice.{pick}
 use Rattle.base.specs.Check.{pass}
-use Rattle.base.specs.Lists.{each, gather}
+use Rattle.base.specs.Lists.{each, gather, Each}
 use Rattle.base.specs.Keys.{among}
 use Rattle.base.proofs.ListLaws.{each-append}
 use Rattle.base.proofs.CheckLaws.{refused}
@@ -18,9 +18,8 @@ use Rattle.fields.specs.Content.{many}
 use Rattle.fields.specs.declared.Format.the-variants.{Spas}
 use Rattle.rules.specs.Tags.{INAS, SPAS}
 use Rattle.rules.specs.ByTag.{withTag, bodies}
-use Rattle.rules.specs.Associations.{Mark, inasKey, spasKey, fieldMarks, marks, keysOnce, number11}
-use Rattle.rules.proofs.MarkLaws.{spas-marked, markKey}
-use Rattle.sequence.specs.Keyed.{Each}
+use Rattle.rules.specs.Associations.{Mark, inasKey, spasKey, spasKeys, fieldKeys, fieldMarks, marks, keysOnce, number11}
+use Rattle.rules.proofs.MarkLaws.{markKey, field-marked}
 use Rattle.sequence.proofs.Tests.{by-bool}
 use Rattle.sound.specs.Sound.{Apart}
 use Rattle.sound.proofs.Keys.{Within, w-none, w-keep, w-skip, within-all, within-none, within-join}
@@ -57,29 +56,15 @@ each-eleven keys (m ∷ ms) e = rw (e .0) (each-eleven keys ms (e .1))
 
 -- ---- the keys of fields
 
--- the keys of a field's associations
-unfoldable pub fieldKeys : Field → List (List ℕ)
-fieldKeys f = pick (eqb (f .tag) INAS) (inasKey (f .body) ∷ []) (pick (eqb (f .tag) SPAS) (each spasKey (many (tupleOf Spas) (f .body))) [])
-
--- those of a field's marks
-field-keys : (i : ℕ) (f : Field) → each markKey (fieldMarks i f) ≡ fieldKeys f
-unfolding fieldMarks fieldKeys
-field-keys i f =
-    by-bool (eqb (f .tag) INAS)
-    (λ h. rw h (unfold each in refl))
-    (λ h. by-bool (eqb (f .tag) SPAS)
-    (λ g. rw (h, g) (spas-marked i 1 (many (tupleOf Spas) (f .body))))
-    (λ g. rw (h, g) (unfold each in refl)))
-
--- those of a record's marks
+-- the marks of a record have its keys
 pub marks-keys : (i : ℕ) (fs : List Field) → each markKey (marks i fs) ≡ gather fieldKeys fs
 unfolding marks gather
 marks-keys i [] = unfold each in refl
-marks-keys i (f ∷ fs) = each-append markKey (fieldMarks i f) (marks (i + 1) fs) ∙ ap₂ (λ (a b : List (List ℕ)). a ++ b) (field-keys i f) (marks-keys (i + 1) fs)
+marks-keys i (f ∷ fs) = each-append markKey (fieldMarks i f) (marks (i + 1) fs) ∙ ap₂ (λ (a b : List (List ℕ)). a ++ b) (field-marked i f) (marks-keys (i + 1) fs)
 
 -- the keys of INAS fields are among them
 pub within-inas : (fs : List Field) → Within (each inasKey (bodies INAS fs)) (gather fieldKeys fs)
-unfolding bodies withTag each gather fieldKeys
+unfolding bodies withTag each gather fieldKeys spasKeys
 within-inas [] = w-none
 within-inas (f ∷ fs) =
     by-bool (eqb (f .tag) INAS)
@@ -92,7 +77,7 @@ spas-only f h = ap (λ (u : ℕ). eqb u INAS) (eqb-true (f .tag) SPAS h)
 
 -- so are those of SPAS fields
 pub within-spas : (fs : List Field) → Within (gather (λ b. each spasKey (many (tupleOf Spas) b)) (bodies SPAS fs)) (gather fieldKeys fs)
-unfolding bodies withTag each gather fieldKeys
+unfolding bodies withTag each gather fieldKeys spasKeys
 within-spas [] = w-none
 within-spas (f ∷ fs) =
     by-bool (eqb (f .tag) SPAS)

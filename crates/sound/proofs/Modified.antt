@@ -7,12 +7,14 @@ use lib.ListN.{length, getD}
 use lib.Dec.{eqb}
 use borrow.Author.Tests.{eqb-true}
 use Rattle.base.specs.Check.{ok, inField}
-use Rattle.base.specs.Lists.{each}
+use Rattle.base.specs.Lists.{each, Each}
 use Rattle.base.proofs.CheckLaws.{bind-inv, ok-inj, passed-inv, field-inv}
+use Rattle.base.proofs.EachLaws.{each-map, each-gathered}
 use Rattle.skeleton.specs.File.{Field}
 use Rattle.fields.specs.Table.{tupleOf}
 use Rattle.fields.specs.Content.{many}
 use Rattle.fields.specs.declared.Format.the-variants.{Spas, InasNew}
+use Rattle.fields.specs.Valid.{Has}
 use Rattle.forest.specs.Forest.{Forest}
 use Rattle.rules.specs.Tags.{ATTR, INAS, SPAS, COCC, C2IT, C2IL}
 use Rattle.rules.specs.ByTag.{bodies}
@@ -27,12 +29,9 @@ use Rattle.rules.specs.Modify.{assocKey, withAttributes, withAssociations, with
 use Rattle.rules.specs.Written.{fieldAs}
 use Rattle.rules.specs.declared.Kind.{Kind}
 use Rattle.rules.specs.declared.Kind.the-variants.{Info, Point, Multi, Feature}
-use Rattle.sequence.specs.Keyed.{Each}
 use Rattle.sequence.proofs.Tests.{by-bool}
 use Rattle.sound.specs.Sound.{Apart, SoundAssoc, SoundCoord, rowed, Counted, SoundTree, SoundCoords, SoundSpatials, SoundParts}
-use Rattle.sound.proofs.Lists.{each-map, each-gathered}
 use Rattle.sound.proofs.Keys.{joined, left}
-use Rattle.sound.proofs.Stand.{Has}
 use Rattle.sound.proofs.Attributes.{attributes-edited}
 use Rattle.sound.proofs.Associations.{assoc-read}
 use Rattle.sound.proofs.Coordinates.{list-read, point-read, placed-each}

@@ -10,17 +10,17 @@ use lib.Dec.{eqb}
 use borrow.Author.Tests.{eqb-true, eq-eqb, not-true}
 use Rattle.base.specs.Choice.{pick, both}
 use Rattle.base.specs.Check.{Passed, pass}
+use Rattle.base.specs.Lists.{Each}
 use Rattle.base.proofs.ChoiceLaws.{both-hold}
 use Rattle.base.proofs.OptionLaws.{never, some-inj}
 use Rattle.base.proofs.CheckLaws.{refused}
+use Rattle.base.proofs.EachLaws.{each-map}
 use Rattle.skeleton.specs.File.{Field}
 use Rattle.rules.specs.ByTag.{withTag}
 use Rattle.rules.specs.Kind.{Row}
 use Rattle.rules.specs.Grammar.{rowsAfter, onRows, inOrder}
-use Rattle.sequence.specs.Keyed.{Each}
 use Rattle.sequence.proofs.Tests.{by-bool}
 use Rattle.sound.specs.Sound.{rowed}
-use Rattle.sound.proofs.Lists.{each-map}
 
 -- ---- the rows behind a field
 

@@ -9,12 +9,13 @@ use lib.ListN.{length, getD}
 use lib.Dec.{eqb}
 use borrow.Author.Tests.{eqb-true}
 use Rattle.base.specs.Check.{ok, pass}
-use Rattle.base.specs.Lists.{each, gather, empty}
+use Rattle.base.specs.Lists.{each, gather, empty, Each}
 use Rattle.base.specs.Walk.{Got}
 use Rattle.base.proofs.ChoiceLaws.{both-hold}
 use Rattle.base.proofs.CheckLaws.{passed-inv}
 use Rattle.base.proofs.ListLaws.{each-each, each-gather}
 use Rattle.base.proofs.OptionLaws.{never}
+use Rattle.base.proofs.EachLaws.{each-map, each-gathered, each-join}
 use Rattle.skeleton.specs.File.{Field}
 use Rattle.fields.specs.Table.{headOf, tupleOf}
 use Rattle.fields.specs.Values.{Val}
@@ -33,7 +34,7 @@ use Rattle.rules.specs.Grammar.{complete}
 use Rattle.rules.specs.Content.{inasFormat, formatOf}
 use Rattle.rules.specs.Trees.{tupOf, attrTree, inasTree, treeStands}
 use Rattle.rules.specs.Coordinates.{coordsIn}
-use Rattle.rules.specs.Associations.{inasKey, spasKey, number7, marks}
+use Rattle.rules.specs.Associations.{inasKey, spasKey, number7, marks, fieldKeys}
 use Rattle.rules.specs.Record.{identOf, foidOf, standing, assocOf, spatialOf, partsOf, recOf}
 use Rattle.rules.specs.Modify.{assocKey, spatialKey}
 use Rattle.rules.specs.Written.{fieldAs, nums}
@@ -41,12 +42,9 @@ use Rattle.rules.specs.declared.Kind.{Kind}
 use Rattle.rules.specs.declared.Kind.the-variants.{Info, Point, Multi, Feature}
 use Rattle.rules.specs.declared.Mode.{Mode}
 use Rattle.rules.proofs.MarkLaws.{markKey}
-use Rattle.sequence.specs.Keyed.{Each}
 use Rattle.sequence.proofs.Tests.{by-bool}
-use Rattle.sequence.proofs.EachLaws.{each-join}
 use Rattle.updates.proofs.Kept.{of-each, each-of}
 use Rattle.sound.specs.Sound.{Attributes, r-nil, Apart, SoundAssoc, SoundCoord, SoundSpatial, rowed, Counted, SoundParts, SoundFoid, SoundRec, identVals, Named}
-use Rattle.sound.proofs.Lists.{each-map, each-gathered}
 use Rattle.sound.proofs.Keys.{apart-part}
 use Rattle.sound.proofs.Order.{most, tag-none}
 use Rattle.sound.proofs.Bodies.{each-body, bodies-skip, bodies-none}
@@ -55,7 +53,7 @@ use Rattle.sound.proofs.Associations.{assoc-read}
 use Rattle.sound.proofs.Coordinates.{list-read, point-read}
 use Rattle.sound.proofs.Spatial.{spatial-read}
 use Rattle.sound.proofs.Idents.{identNums, ident-read, foid-read}
-use Rattle.sound.proofs.Marks.{once-apart, Stands, fieldKeys, marks-keys, within-inas, within-spas, each-within}
+use Rattle.sound.proofs.Marks.{once-apart, Stands, marks-keys, within-inas, within-spas, each-within}
 use Rattle.sound.proofs.Records.{Stood, Whole, Through}
 
 -- ---- one part each, of fields that are as in a dataset

@@ -7,10 +7,11 @@ use lib.ListN.{length, drop}
 use lib.Dec.{eqb}
 use Rattle.base.specs.Choice.{pick}
 use Rattle.base.specs.Check.{ok, no, fault, pass}
-use Rattle.base.specs.Lists.{each}
+use Rattle.base.specs.Lists.{each, Each}
 use Rattle.base.specs.Keys.{among}
 use Rattle.base.specs.Walk.{Got}
 use Rattle.base.proofs.CheckLaws.{bind-inv, ok-inj, pass-inv, refused}
+use Rattle.base.proofs.EachLaws.{each-map}
 use Rattle.skeleton.specs.File.{Field}
 use Rattle.fields.specs.Valid.{Bytes}
 use Rattle.rules.specs.Tags.{CSID}
@@ -27,14 +28,12 @@ use Rattle.rules.specs.File.{lastRank, datasetTest, through, storedAs, referenc
 use Rattle.rules.specs.declared.Mode.the-variants.{InDataset}
 use Rattle.rules.proofs.OutcomeLaws.{andThen-inv, at-inv, done-inj}
 use Rattle.rules.proofs.FileLaws.{through-later}
-use Rattle.sequence.specs.Keyed.{Each}
 use Rattle.sequence.proofs.Tests.{by-bool}
 use Rattle.updates.specs.Sorted.{Sorted}
 use Rattle.updates.proofs.Read.{is-read}
 use Rattle.updates.proofs.Results.{read-sorted}
 use Rattle.updates.proofs.Kept.{every-inv}
 use Rattle.sound.specs.Sound.{SoundRec, Named, Carried, Sound}
-use Rattle.sound.proofs.Lists.{each-map}
 use Rattle.sound.proofs.Marks.{eleven-each}
 use Rattle.sound.proofs.Records.{through as through-fields}
 use Rattle.sound.proofs.Parts.{record-sound, record-named}

@@ -8,10 +8,12 @@ use lib.ListN.{length}
 use lib.Dec.{ltb}
 use Rattle.base.specs.Choice.{pick, either}
 use Rattle.base.specs.Check.{ok, no, bind, fault, pass}
+use Rattle.base.specs.Lists.{Each}
 use Rattle.base.proofs.CheckLaws.{bind-inv, ok-inj, pass-inv, refused}
+use Rattle.base.proofs.EachLaws.{each-map}
 use Rattle.skeleton.specs.File.{Field}
 use Rattle.fields.specs.Table.{headOf, tupleOf}
-use Rattle.fields.specs.Valid.{Bytes}
+use Rattle.fields.specs.Valid.{Bytes, Has}
 use Rattle.fields.proofs.ByteLaws.{le1}
 use Rattle.fields.proofs.ValueLaws.{head-number}
 use Rattle.fields.proofs.WiderLaws.{Wide, irid, prid, mrid, frid, format-wider}
@@ -27,12 +29,10 @@ use Rattle.rules.specs.declared.Kind.the-variants.{Info, Point, Multi, Feature}
 use Rattle.rules.specs.declared.Mode.{Mode}
 use Rattle.rules.specs.declared.Mode.the-variants.{InDataset, InUpdate}
 use Rattle.rules.proofs.FilledLaws.{stands-fill}
-use Rattle.sequence.specs.Keyed.{Each}
 use Rattle.sequence.proofs.Tests.{by-bool}
 use Rattle.sound.specs.Sound.{rowed}
-use Rattle.sound.proofs.Lists.{each-map}
 use Rattle.sound.proofs.Order.{most, order-rowed, order-once}
-use Rattle.sound.proofs.Stand.{Has, Formed, all-formed, all-treed}
+use Rattle.sound.proofs.Stand.{Formed, all-formed, all-treed}
 
 -- a field behind the identifier; new: every instruction is insert
 pub record Stood (new : Bool) (k : Kind) (f : Field) : Type 0 where

@@ -6,13 +6,14 @@ use mathlib.Core.List.{List, [], _∷_}
 use lib.Dec.{eqb}
 use Rattle.base.specs.Check.{ok}
 use Rattle.base.specs.Choice.{pick}
-use Rattle.base.specs.Lists.{each}
+use Rattle.base.specs.Lists.{each, Each}
 use Rattle.base.specs.Keys.{join, leave}
 use Rattle.base.proofs.CheckLaws.{bind-inv, ok-inj}
+use Rattle.base.proofs.EachLaws.{each-map}
 use Rattle.fields.specs.Table.{link, headOf, tupleOf}
 use Rattle.fields.specs.Values.{Val, num, numAt}
 use Rattle.fields.specs.Content.{many}
-use Rattle.fields.specs.Valid.{Bytes, passAll}
+use Rattle.fields.specs.Valid.{Bytes, passAll, Has}
 use Rattle.fields.specs.Places.{endingAt}
 use Rattle.fields.specs.declared.Format.the-variants.{Spas}
 use Rattle.fields.specs.declared.Sub.the-variants.{Among, Raw}
@@ -22,13 +23,10 @@ use Rattle.rules.specs.Associations.{spasKey}
 use Rattle.rules.specs.Record.{Spatial, spatialOf}
 use Rattle.rules.specs.Modify.{spatialKey, actSpas}
 use Rattle.rules.specs.Written.{nums, spatialVals}
-use Rattle.sequence.specs.Keyed.{Each}
 use Rattle.sequence.proofs.Tests.{by-bool}
 use Rattle.sound.specs.Sound.{SoundSpatial, Apart}
-use Rattle.sound.proofs.Lists.{each-map}
 use Rattle.sound.proofs.Values.{numsFrom, all-nums, insert-last, each-pass}
 use Rattle.sound.proofs.Keys.{joined, left}
-use Rattle.sound.proofs.Stand.{Has}
 
 -- a tuple that passes, its instruction set to insert
 spatial-made : (vs : List Val) → passAll (tupleOf Spas) vs ≡ true → SoundSpatial (spatialOf vs)

@@ -1,23 +1,19 @@
 -- Fields that passed numbers 5 and 6, one by one. Assumes nothing.
 use Prim.Native.Nat.{ℕ, _+_}
 use mathlib.Core.Path.{_≡_, refl}
-use mathlib.Core.Bool.{Bool, true}
+use mathlib.Core.Bool.{Bool}
 use mathlib.Core.List.{List, [], _∷_}
-use Rattle.base.specs.Check.{Check, bind, inField, pass}
+use Rattle.base.specs.Check.{bind, inField, pass}
+use Rattle.base.specs.Lists.{Each}
 use Rattle.base.proofs.CheckLaws.{bind-inv, field-inv}
 use Rattle.skeleton.specs.File.{Field}
 use Rattle.fields.specs.Table.{headOf, tupleOf}
-use Rattle.fields.specs.Content.{fill}
+use Rattle.fields.specs.Valid.{Has}
 use Rattle.fields.specs.declared.Format.{Format}
 use Rattle.fields.proofs.FieldLaws.{fill-count}
 use Rattle.rules.specs.Content.{formatOf, stands, allStand}
 use Rattle.rules.specs.Trees.{treeStands, treesStand}
 use Rattle.rules.proofs.FilledLaws.{stands-fill}
-use Rattle.sequence.specs.Keyed.{Each}
-
--- the subfields of a format fill a body
-abbrev pub Has : Format → List ℕ → Type 0
-Has k b = fill (headOf k) (tupleOf k) b ≡ true
 
 -- and the other way
 pub fill-stands : (i : ℕ) (k : Format) (b : List ℕ) → Has k b → stands i k b ≡ pass

@@ -1,11 +1,12 @@
 -- Texts that are read from bytes are made of bytes. Assumes nothing.
-use Prim.Native.Nat.{ℕ, zero, suc, _<_, _≤_}
+use Prim.Native.Nat.{ℕ, _<_, _≤_}
 use mathlib.Core.Path.{_≡_, sym, subst}
 use mathlib.Core.Bool.{true}
 use mathlib.Core.List.{List, [], _∷_}
 use native.Mathlib.Omega.{arith}
-use lib.ListN.{length, take, drop}
+use lib.ListN.{length, drop}
 use Rattle.base.specs.Walk.{Got}
+use Rattle.base.specs.Lists.{Each}
 use Rattle.fields.specs.Bytes.{run}
 use Rattle.fields.specs.Sizes.{size, amount}
 use Rattle.fields.specs.Values.{Val, value, values, textOf}
@@ -14,10 +15,9 @@ use Rattle.fields.specs.Valid.{Bytes}
 use Rattle.fields.specs.Places.{endingAt}
 use Rattle.fields.specs.declared.Sub.{Sub}
 use Rattle.fields.specs.declared.Sub.the-variants.{B11, B12, B14, Among, Raw, Text, Fixed}
-use Rattle.fields.proofs.ByteLaws.{bytes-drop}
+use Rattle.fields.proofs.ByteLaws.{bytes-drop, bytes-take}
 use Rattle.fields.proofs.TupleLaws.{First, tuples-end, tuples-ind}
 use Rattle.fields.proofs.FieldLaws.{filled}
-use Rattle.sequence.specs.Keyed.{Each}
 
 -- the text of a value is made of bytes; a number has none
 abbrev pub TextBytes : Val → Type 0
@@ -26,13 +26,6 @@ TextBytes v = Bytes (textOf v)
 -- no bytes
 pub bytes-none : Bytes []
 bytes-none k = omega arith
-
--- part of bytes
-bytes-take : (n : ℕ) (l : List ℕ) → Bytes l → Bytes (take n l)
-bytes-take zero l g k = omega arith
-bytes-take (suc n) [] g k = omega arith
-bytes-take (suc n) (x ∷ l) g zero = g 0
-bytes-take (suc n) (x ∷ l) g (suc k) = bytes-take n l (λ j. g (suc j)) k
 
 -- one value
 value-bytes : (d : Sub) (l : List ℕ) → Bytes l → TextBytes (value d l)

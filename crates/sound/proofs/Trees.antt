@@ -7,8 +7,10 @@ use native.Mathlib.Omega.{arith}
 use lib.ListN.{length}
 use lib.Dec.{eqb, ltb}
 use Rattle.base.specs.Check.{Check, ok}
+use Rattle.base.specs.Lists.{Each}
 use Rattle.base.proofs.ChoiceLaws.{by-test}
 use Rattle.base.proofs.CheckLaws.{bind-inv, ok-inj, refused}
+use Rattle.base.proofs.EachLaws.{each-parts, each-join}
 use Rattle.fields.specs.Table.{code}
 use Rattle.fields.specs.Values.{num}
 use Rattle.fields.specs.Valid.{passes}
@@ -16,11 +18,8 @@ use Rattle.forest.specs.Forest.{Forest, nil, tree, Tup, occurs, tuplesFrom, val
 use Rattle.forest.specs.Rule.{allTaken}
 use Rattle.forest.specs.Acts.{Act, insert, delete, modify, UTup, Acts, done, act, ActRun, actOf, actsUpTo, actsOf, deletes}
 use Rattle.forest.specs.Edit.{count, put, behind, cut, alter, edit}
-use Rattle.sequence.specs.Keyed.{Each}
 use Rattle.sequence.proofs.Tests.{by-bool}
-use Rattle.sequence.proofs.EachLaws.{each-join}
 use Rattle.sound.specs.Sound.{SoundText, Ranged, r-nil, r-tree}
-use Rattle.sound.proofs.Lists.{each-parts}
 
 -- ---- acts
 

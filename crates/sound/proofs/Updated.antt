@@ -6,9 +6,10 @@ use native.Mathlib.Omega.{arith}
 use borrow.Author.Tests.{ne-eqb}
 use lib.ListN.{length}
 use Rattle.base.specs.Check.{ok, bind, pass, passed}
-use Rattle.base.specs.Lists.{each}
+use Rattle.base.specs.Lists.{each, Each}
 use Rattle.base.specs.Walk.{Got}
 use Rattle.base.proofs.CheckLaws.{bind-inv, passed-inv}
+use Rattle.base.proofs.EachLaws.{each-map, each-zip, each-parts}
 use Rattle.skeleton.specs.File.{Field}
 use Rattle.fields.specs.Valid.{Bytes}
 use Rattle.rules.specs.Associations.{marks, number11}
@@ -22,13 +23,11 @@ use Rattle.rules.specs.Update.{updated}
 use Rattle.rules.proofs.OutcomeLaws.{andThen-inv, at-inv}
 use Rattle.rules.proofs.Follows.{general-inv}
 use Rattle.rules.proofs.MarkLaws.{markKey}
-use Rattle.sequence.specs.Keyed.{Each}
 use Rattle.updates.proofs.Read.{is-sent, general-sent}
 use Rattle.updates.proofs.Results.{steps-sorted}
 use Rattle.updates.proofs.Accepted.{parted}
 use Rattle.updates.proofs.Kept.{steps-each, every-inv, each-of}
 use Rattle.sound.specs.Sound.{SoundRec, Named, Carried, Sound}
-use Rattle.sound.proofs.Lists.{each-map, each-zip, each-parts}
 use Rattle.sound.proofs.Marks.{Stands, eleven-each, marks-keys}
 use Rattle.sound.proofs.Changed.{Sendable, changed-sound}
 use Rattle.sound.proofs.FileBytes.{Bodies, file-carried}

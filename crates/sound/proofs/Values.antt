@@ -8,7 +8,7 @@ use lib.ListN.{length}
 use lib.Dec.{leb, ltb}
 use borrow.Author.Tests.{lt-ltb, leb-true}
 use Rattle.base.specs.Choice.{both}
-use Rattle.base.specs.Lists.{each}
+use Rattle.base.specs.Lists.{each, Each}
 use Rattle.base.proofs.ChoiceLaws.{both-hold, both-too}
 use Rattle.fields.specs.Bytes.{clean}
 use Rattle.fields.specs.Table.{insert}
@@ -17,7 +17,6 @@ use Rattle.fields.specs.Valid.{allows, takesText, passes, passAll, passEach}
 use Rattle.fields.specs.declared.Sub.{Sub}
 use Rattle.fields.specs.declared.Sub.the-variants.{B11, B12, B14, Among, Raw, Text, Fixed}
 use Rattle.fields.proofs.SizeLaws.{isNum, allNum}
-use Rattle.sequence.specs.Keyed.{Each}
 
 -- ---- one value
 

@@ -6,7 +6,7 @@ use mathlib.Core.List.{List, [], _∷_, _++_, append-assoc, append-nil}
 use native.Mathlib.Omega.{arith}
 use lib.ListN.{length, getD, drop}
 use lib.Dec.{eqb}
-use Rattle.base.specs.Lists.{each, gather}
+use Rattle.base.specs.Lists.{each, gather, Each}
 use Rattle.base.specs.Walk.{Got}
 use Rattle.skeleton.specs.File.{Field}
 use Rattle.fields.specs.Table.{headOf, tupleOf}
@@ -26,16 +26,14 @@ use Rattle.fields.proofs.DecodeLaws.{puts-back, all-back, length-numbers}
 use Rattle.rules.specs.Tags.{FOID, ATTR, INAS, SPAS}
 use Rattle.rules.specs.Kind.{tagOf}
 use Rattle.rules.specs.Content.{inasFormat}
-use Rattle.rules.specs.Associations.{inasKey, spasKey}
+use Rattle.rules.specs.Associations.{inasKey, spasKey, fieldKeys, spasKeys}
 use Rattle.rules.specs.Record.{Rec, Parts, Assoc, Spatial}
 use Rattle.rules.specs.Modify.{assocKey, spatialKey}
 use Rattle.rules.specs.Written.{fieldAs, listField, nums, treeBytes, assocField, spatialVals, coordTag, partFields, writtenFields}
 use Rattle.rules.specs.declared.Kind.{Kind}
 use Rattle.rules.specs.declared.Kind.the-variants.{Info, Point, Multi, Feature}
-use Rattle.sequence.specs.Keyed.{Each}
 use Rattle.sound.specs.Sound.{SoundAssoc, SoundSpatial, SoundRec}
 use Rattle.sound.proofs.Values.{all-length, pass-each}
-use Rattle.sound.proofs.Marks.{fieldKeys}
 
 -- ---- an association
 
@@ -163,7 +161,7 @@ list-keys t (x ∷ b) h g = rw (other-keys t (x ∷ b) h g)
 
 -- the keys of a list of spatial associations
 spas-list : (b : List ℕ) → gather fieldKeys (listField SPAS b) ≡ each spasKey (many (tupleOf Spas) b)
-unfolding listField gather many fieldKeys each
+unfolding listField gather many fieldKeys spasKeys each
 spas-list [] = ap (λ (g : Got (List Val)). each spasKey (g .items)) (sym (tuples-end (tupleOf Spas) [] (omega arith)))
 spas-list (x ∷ b) = append-nil (each spasKey (many (tupleOf Spas) (x ∷ b)))
 

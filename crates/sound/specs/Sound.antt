@@ -8,7 +8,7 @@ use lib.ListN.{length, take}
 use lib.Dec.{eqb}
 use Rattle.base.specs.Choice.{pick}
 use Rattle.base.specs.Check.{pass}
-use Rattle.base.specs.Lists.{each}
+use Rattle.base.specs.Lists.{each, Each}
 use Rattle.base.specs.Keys.{among}
 use Rattle.skeleton.specs.File.{Field}
 use Rattle.skeleton.specs.Writable.{TagsFit}
@@ -30,7 +30,6 @@ use Rattle.rules.specs.Written.{Dataset, nums, coordVals, spatialVals}
 use Rattle.rules.specs.declared.Kind.{Kind}
 use Rattle.rules.specs.declared.Kind.the-variants.{Info, Point, Multi, Feature}
 use Rattle.rules.specs.declared.Mode.the-variants.{InDataset}
-use Rattle.sequence.specs.Keyed.{Each}
 use Rattle.updates.specs.Sorted.{Sorted}
 
 -- ---- attributes

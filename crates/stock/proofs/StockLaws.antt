@@ -9,17 +9,18 @@ use borrow.Author.Tests.{le-ltb, eqb-true}
 use lib.Dec.{ltb, eqb, leb}
 use lib.ListN.{length}
 use Rattle.base.specs.Choice.{pick}
-use Rattle.base.specs.Check.{Check, ok, no, bind, fault, Passed}
+use Rattle.base.specs.Check.{ok, no, bind, fault}
 use Rattle.base.specs.Lists.{each}
 use Rattle.base.specs.Keys.{among}
 use Rattle.base.specs.Walk.{Got}
-use Rattle.base.proofs.CheckLaws.{bind-inv, ok-inj}
+use Rattle.base.proofs.CheckLaws.{refused as not-passed, bind-inv, ok-inj}
 use Rattle.skeleton.specs.File.{Field, recordsFrom}
 use Rattle.skeleton.specs.Place.{between, fieldsAt}
 use Rattle.skeleton.specs.Record.{recordAt}
 use Rattle.skeleton.specs.declared.leader.Head.{Head}
 use Rattle.skeleton.specs.declared.leader.Head.the-variants.{Good, Refused}
 use Rattle.skeleton.proofs.FileLaws.{records-more, records-refused, records-over}
+use Rattle.skeleton.proofs.RecordLaws.{refusal-some}
 use Rattle.rules.specs.Kind.{rank, kindOf}
 use Rattle.rules.specs.ByTag.{firstTag}
 use Rattle.rules.specs.Grammar.{onKind, fieldsStand, number4}
@@ -27,38 +28,34 @@ use Rattle.rules.specs.Content.{number5}
 use Rattle.rules.specs.Trees.{number6}
 use Rattle.rules.specs.Associations.{number7}
 use Rattle.rules.specs.Record.{Rec, recOf, keyOf, datasetRecord}
-use Rattle.rules.specs.Outcome.{Outcome, done, refused}
+use Rattle.rules.specs.Outcome.{done, refused}
 use Rattle.rules.specs.File.{lastRank, datasetTest, through, taken, ending}
 use Rattle.rules.specs.declared.Kind.{Kind}
 use Rattle.rules.specs.declared.Mode.the-variants.{InDataset}
 use Rattle.rules.proofs.OutcomeLaws.{andThen-inv, done-inj}
 use Rattle.rules.proofs.FileLaws.{through-later}
-use Rattle.skeleton.proofs.RecordLaws.{refusal-some}
 use Rattle.updates.specs.Acts.{kindIn}
 use Rattle.stock.specs.Stored.{Stored}
 use Rattle.stock.specs.Stock.{recBy, recIn, AllStored, stockFrom, Stock}
 
 -- ---- one record
 
-not-kind {ℓ} : {X : Type ℓ} {n i j : ℕ} {k : Kind} → no (fault n i j) ≡ ok k → X
-not-kind e = absurd (let z : _≡_ {A = ℕ} 0 1 = cc in omega arith)
-
 -- number 4 with no kind before it
 four-alone : (least : ℕ) (fs : List Field) (k : Kind) → number4 InDataset least fs ≡ ok k → (number4 InDataset 0 fs ≡ ok k) × (kindIn fs ≡ some k)
 unfolding number4 firstTag
-four-alone least [] k e = not-kind e
+four-alone least [] k e = not-passed e
 four-alone least (f ∷ fs) k e = by-kind (kindOf (f .tag)) e
   where
     by-rank : (j : Kind) (b : Bool) → pick b (no (fault 4 1 0)) (bind (fieldsStand InDataset j (f .body) fs) (λ _. ok j)) ≡ ok k
         → (pick (ltb (rank j) 0) (no (fault 4 1 0)) (bind (fieldsStand InDataset j (f .body) fs) (λ _. ok j)) ≡ ok k) × (some j ≡ some k)
-    by-rank j true x = not-kind x
+    by-rank j true x = not-passed x
     by-rank j false x =
         let r = bind-inv (fieldsStand InDataset j (f .body) fs) (λ _. ok j) k x in
         (rw (le-ltb (rank j) 0 (omega arith)) x, ap (λ (i : Kind). some i) (ok-inj j k (r .2)))
 
     by-kind : (o : Option Kind) → onKind o (λ j. pick (ltb (rank j) least) (no (fault 4 1 0)) (bind (fieldsStand InDataset j (f .body) fs) (λ _. ok j))) ≡ ok k
         → (onKind o (λ j. pick (ltb (rank j) 0) (no (fault 4 1 0)) (bind (fieldsStand InDataset j (f .body) fs) (λ _. ok j))) ≡ ok k) × (o ≡ some k)
-    by-kind none x = not-kind x
+    by-kind none x = not-passed x
     by-kind (some j) x = by-rank j (ltb (rank j) least) x
 
 -- a record that passed is stored, and is what its fields say

@@ -1,12 +1,12 @@
 // The index that is due to an entry: one more than the earlier entries of its run with its code.
 use crate::tuple;
 ghost use mathlib.Core.Path.{_≡_};
-ghost use mathlib.Core.Bool.{Bool, true};
+ghost use mathlib.Core.Bool.{true};
 ghost use Prim.Native.Nat.{_+_, _≤_, _<_};
 ghost use lib.ListN.{length};
 ghost use lib.Dec.{ltb};
 ghost use Rattle.base.specs.Choice.{pick};
-ghost use Rattle.tree.specs.Source.{two, hit, count};
+ghost use Rattle.tree.specs.Source.{hit, count};
 ghost use Rattle.tree.specs.Known.{Whole, Reach, Fresh, Seen};
 
 // 1 where the tuple has this code and parent, else 0.

@@ -2,8 +2,8 @@
 use crate::siblings;
 use crate::tuple;
 ghost use mathlib.Core.Path.{_≡_};
-ghost use mathlib.Core.Bool.{Bool, true, false};
-ghost use Prim.Native.Nat.{_+_, _≤_, _<_};
+ghost use mathlib.Core.Bool.{true, false};
+ghost use Prim.Native.Nat.{_+_, _<_};
 ghost use lib.ListN.{length};
 ghost use Rattle.tree.specs.Source.{two, count, runAt, entryAt, remains};
 ghost use Rattle.tree.specs.Known.{Whole, Fresh, Known};

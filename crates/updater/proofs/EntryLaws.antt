@@ -6,11 +6,12 @@ use native.Mathlib.Omega.{arith}
 use lib.ListN.{length, replicate}
 use Rattle.base.specs.Check.{fault}
 use Rattle.base.specs.declared.Fault.{Fault}
+use Rattle.base.specs.Lists.{Each}
 use Rattle.rules.specs.Outcome.{Outcome, done, refused}
 use Rattle.rules.specs.declared.Answer.{Answer}
-use Rattle.fields.specs.Valid.{Bytes}
 use Rattle.rules.specs.Record.{Rec}
-use Rattle.sequence.specs.Keyed.{Each, Ordered}
+use Rattle.fields.specs.Valid.{Bytes}
+use Rattle.sequence.specs.Keyed.{Ordered}
 use Rattle.updates.specs.Acts.{chart}
 use Rattle.updates.specs.Streamed.{verdicts}
 use Rattle.updates.proofs.Results.{read-sorted}
@@ -22,7 +23,6 @@ use Rattle.keys.specs.Table.{Tails, Laid}
 use Rattle.keys.proofs.TableLaws.{tails-same}
 use Rattle.stock.specs.Stock.{stockFrom}
 use Rattle.version.specs.Areas.{flagArea}
-use Rattle.updater.specs.Stages.{sentFrom, Fits, Begun, Acted, Built}
 use Rattle.history.specs.Ready.{Short, Ready}
 use Rattle.history.specs.Judged.{judgedBy, AllJudged}
 use Rattle.history.specs.Flags.{Flags}
@@ -31,6 +31,7 @@ use Rattle.history.specs.declared.judging.Judged.the-variants.{Fine, Stopped}
 use Rattle.result.specs.Composed.{ComposedBy}
 use Rattle.result.specs.declared.Composed.{Composed}
 use Rattle.result.specs.declared.Composed.the-variants.{Loose, Whole}
+use Rattle.updater.specs.Stages.{sentFrom, Fits, Begun, Acted, Built}
 use Rattle.updater.proofs.StageLaws.{refusing, built-as, little-work, long-dataset, long-update}
 use Rattle.updater.proofs.PlacedLaws.{begun-once, begun-writable}
 use Rattle.updater.proofs.ActLaws.{acted-as, verdict-file, behind-count, acted-wrong, acted-loose, acted-long, acted-short, acted-done}

@@ -1,15 +1,11 @@
 -- The five records at the front of a dataset and an update, as they are found. Assumes nothing.
 use Prim.Native.Nat.{ℕ, _+_, _≤_}
-use mathlib.Core.Path.{_≡_, refl, sym, ap, ap₂, _∙_, subst}
-use mathlib.Core.Bool.{Bool, true, false}
+use mathlib.Core.Path.{_≡_, sym, ap, ap₂, _∙_, subst}
 use mathlib.Core.List.{List, [], _∷_}
 use native.Mathlib.Omega.{arith}
-use borrow.Author.Tests.{ltb-false}
 use lib.ListN.{length}
-use lib.Dec.{ltb}
-use Rattle.base.specs.Choice.{pick}
-use Rattle.base.specs.Check.{no, ok, fault, pass}
-use Rattle.base.specs.Lists.{each}
+use Rattle.base.specs.Check.{pass}
+use Rattle.base.specs.Lists.{each, Each}
 use Rattle.skeleton.specs.File.{Field}
 use Rattle.rules.specs.General.{generalRecord}
 use Rattle.rules.specs.Record.{Rec}
@@ -18,8 +14,9 @@ use Rattle.rules.specs.Outcome.{done, at, everyRecord}
 use Rattle.rules.specs.File.{writable}
 use Rattle.rules.specs.Update.{general}
 use Rattle.rules.specs.declared.Mode.the-variants.{InDataset, InUpdate}
+use Rattle.rules.proofs.LengthLaws.{short-record}
 use Rattle.rules.proofs.OutcomeLaws.{andThen-inv, at-inv}
-use Rattle.sequence.specs.Keyed.{Each, Once}
+use Rattle.sequence.specs.Keyed.{Once}
 use Rattle.updates.specs.Acts.{chart}
 use Rattle.updates.specs.Streamed.{headLength}
 use Rattle.updates.proofs.Results.{read-sorted}
@@ -34,15 +31,6 @@ use Rattle.updater.proofs.OpensLaws.{dataset-opens, run-there, run-in, 
 use Rattle.updater.proofs.StageLaws.{general-long}
 
 -- ---- a dataset that can be written
-
--- a record that passed 12
-short-record : (fs : List Field) (t : Unit {0}) → number12 fs ≡ ok t → writtenLength fs ≤ 99999
-unfolding number12
-short-record fs t e = go (ltb 99999 (writtenLength fs)) refl e
-  where
-    go : (b : Bool) → ltb 99999 (writtenLength fs) ≡ b → pick b (no (fault 12 0 0)) pass ≡ ok t → writtenLength fs ≤ 99999
-    go true h x = absurd (let w : _≡_ {A = ℕ} 0 1 = cc in omega arith)
-    go false h x = ltb-false 99999 (writtenLength fs) h
 
 -- the first of records that passed 12, and the others
 every-inv : (n : ℕ) (fs : List Field) (rest : List (List Field)) (t : Unit {0}) → everyRecord number12 1 n (fs ∷ rest) ≡ done t
@@ -67,7 +55,7 @@ writable-parts d e =
     let (one, b) = every-inv 1 (d .descriptive) (d .general ∷ d .systems ∷ each writtenFields (d .records)) t a in
     let (_, c) = every-inv 2 (d .general) (d .systems ∷ each writtenFields (d .records)) t b in
     let (three, rest) = every-inv 3 (d .systems) (each writtenFields (d .records)) t c in
-    (short-record (d .descriptive) tt one, short-record (d .systems) tt three, every-records 4 (d .records) t rest)
+    (short-record (d .descriptive) one, short-record (d .systems) three, every-records 4 (d .records) t rest)
 
 -- ---- what the records behind the third stand on
 

@@ -1,14 +1,11 @@
 -- From each way out of the updater to the rules' outcome, up to the general records. Assumes nothing.
 use Prim.Native.Nat.{ℕ, _≤_, _<_}
 use mathlib.Core.Path.{_≡_, refl, sym, ap, _∙_, subst}
-use mathlib.Core.Bool.{Bool, true, false}
 use mathlib.Core.List.{List}
 use native.Mathlib.Omega.{arith}
-use borrow.Author.Tests.{lt-ltb, le-ltb, ltb-false}
+use borrow.Author.Tests.{lt-ltb, le-ltb}
 use lib.ListN.{length}
-use lib.Dec.{ltb}
-use Rattle.base.specs.Choice.{pick}
-use Rattle.base.specs.Check.{Check, ok, no, fault, pass}
+use Rattle.base.specs.Check.{Check, ok, no, fault}
 use Rattle.base.specs.Walk.{Got}
 use Rattle.base.specs.declared.Fault.{Fault}
 use Rattle.base.proofs.CheckLaws.{bind-inv, ok-inj}
@@ -21,6 +18,7 @@ use Rattle.rules.specs.File.{Sent, sentAs, readDataset, writable, readUpdate}
 use Rattle.rules.specs.Update.{general}
 use Rattle.rules.specs.Answers.{Written, refusal, success, notTooLong, enoughWork, readOutcome, readAnswer, read, outputOf, update}
 use Rattle.rules.specs.declared.Answer.{Answer}
+use Rattle.rules.proofs.LengthLaws.{short-record}
 use Rattle.numbers.specs.Zero.{Done}
 use Rattle.numbers.proofs.Answers.{zero-is-done}
 use Rattle.updates.specs.Streamed.{streamedTo, streamedOutcome}
@@ -166,18 +164,11 @@ module _ (f u : List ℕ) (us : ℕ) (k : Fits f u us) where
 
 -- the result's general record, where it stands
 pub general-inv : (old new g : List Field) → general old new ≡ ok g → (g ≡ merged old new) × (writtenLength (merged old new) ≤ 99999)
-unfolding general number12
+unfolding general
 general-inv old new g e =
     let (_, a, b) = bind-inv (number8 old new) _ g e in
     let (_, c, d) = bind-inv (number12 (merged old new)) _ g b in
-    (sym (ok-inj (merged old new) g d), short c)
-  where
-    short : {t : Unit {0}} → pick (ltb 99999 (writtenLength (merged old new))) (no (fault 12 0 0)) pass ≡ ok t → writtenLength (merged old new) ≤ 99999
-    short {t} c = go (ltb 99999 (writtenLength (merged old new))) refl c
-      where
-        go : (b : Bool) → ltb 99999 (writtenLength (merged old new)) ≡ b → pick b (no (fault 12 0 0)) pass ≡ ok t → writtenLength (merged old new) ≤ 99999
-        go true h x = absurd (let w : _≡_ {A = ℕ} 0 1 = cc in omega arith)
-        go false h x = ltb-false 99999 (writtenLength (merged old new)) h
+    (sym (ok-inj (merged old new) g d), short-record (merged old new) c)
 
 pub general-long : (old new : List Field) (n : ℕ) → Long n ≡ generalBy (general old new)
     → (general old new ≡ ok (merged old new)) × (n ≡ writtenLength (merged old new)) × (n ≤ 99999)

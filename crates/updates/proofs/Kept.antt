@@ -4,7 +4,7 @@ use mathlib.Core.Path.{_≡_, refl, sym, ap, _∙_}
 use mathlib.Core.Option.{Option, some, none}
 use mathlib.Core.List.{List, [], _∷_}
 use Rattle.base.specs.Check.{ok, Passed, pass}
-use Rattle.base.specs.Lists.{each}
+use Rattle.base.specs.Lists.{each, Each}
 use Rattle.base.proofs.CheckLaws.{bind-inv, refused}
 use Rattle.skeleton.specs.File.{Field}
 use Rattle.rules.specs.Record.{Rec}
@@ -16,9 +16,10 @@ use Rattle.rules.specs.Update.{general, steps, updated}
 use Rattle.rules.specs.declared.Kind.{Kind}
 use Rattle.rules.proofs.OutcomeLaws.{andThen-inv, at-inv}
 use Rattle.rules.proofs.Follows.{general-inv}
-use Rattle.sequence.specs.Keyed.{Each, Has, Under}
+use Rattle.sequence.specs.Keyed.{Has, Under}
 use Rattle.sequence.proofs.Result.{run-each}
 use Rattle.updates.specs.Acts.{kindIn, namedBy, changedBy, chart}
+use Rattle.updates.specs.Accepted.{Writable}
 use Rattle.updates.proofs.Acted.{Acted, acted-insert, acted-modify, acted, lawful}
 use Rattle.updates.proofs.Accepted.{parted}
 use Rattle.updates.proofs.Results.{ran-so}
@@ -72,12 +73,8 @@ each-any (x ∷ l) = (tt, each-any l)
 
 -- ---- what can be written
 
--- a record that can be written
-abbrev Fits : Rec → Type 0
-Fits r = number12 (writtenFields r) ≡ pass
-
 -- an accepted update record leaves one
-acted-fits : (k : Kind) (fs : List Field) (o : Option Rec) (s : Rec) → Acted k fs o (some s) → Fits s
+acted-fits : (k : Kind) (fs : List Field) (o : Option Rec) (s : Rec) → Acted k fs o (some s) → Writable s
 acted-fits k fs none s (acted-insert i v w) = w
 acted-fits k fs (some r) s (acted-modify i j f g a w) = w
 
@@ -91,7 +88,7 @@ result-writable d u r w e =
     let (v, b, c) = bind-inv (number8 (d .general) (u .general)) _ (r .general) (p .general) in
     let (z, f, g) = bind-inv (number12 (merged (d .general) (u .general))) _ (r .general) c in
     let m : number12 (r .general) ≡ pass = ap number12 (sym ((general-inv (d .general) (u .general) (r .general) (p .general)) .1)) ∙ f in
-    let s = steps-each Fits (λ fs. Unit {0}) (λ fs k o s _ _ _ _ h. acted-fits k fs o s h) 3 (u .records) (d .records) (r .records) (each-any (u .records))
+    let s = steps-each Writable (λ fs. Unit {0}) (λ fs k o s _ _ _ _ h. acted-fits k fs o s h) 3 (u .records) (d .records) (r .records) (each-any (u .records))
     (each-of (λ fs. number12 fs ≡ pass) writtenFields (d .records) (a .1 .1 .1)) (p .stepped) in
     let q : everyRecord number12 1 1 (written r) ≡ done tt =
     every-done number12 1 1 (written r) (ap number12 (p .descriptive) ∙ a .0, (m, (ap number12 (p .systems) ∙ a .1 .1 .0, of-each (λ fs. number12 fs ≡ pass) writtenFields (r .records) s))) in

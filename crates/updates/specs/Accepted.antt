@@ -5,12 +5,12 @@ use mathlib.Core.Bool.{false}
 use mathlib.Core.Option.{Option, some, none}
 use mathlib.Core.List.{List}
 use lib.ListN.{length}
-use Rattle.base.specs.Check.{ok}
+use Rattle.base.specs.Check.{ok, pass}
 use Rattle.base.specs.Keys.{same}
 use Rattle.skeleton.specs.File.{Field}
 use Rattle.rules.specs.Record.{Rec}
 use Rattle.rules.specs.General.{nameOf, editionOf, numberOf}
-use Rattle.rules.specs.Written.{Dataset}
+use Rattle.rules.specs.Written.{Dataset, writtenFields, number12}
 use Rattle.rules.specs.File.{Sent}
 use Rattle.rules.specs.Update.{find}
 use Rattle.sequence.specs.History.{version}
@@ -18,6 +18,10 @@ use Rattle.sequence.specs.Order.{keep, deleted, untouched, inserts, deletes}
 use Rattle.updates.specs.Acts.{kindIn, namedBy, chart}
 use Rattle.updates.specs.Sorted.{Sorted}
 use Rattle.updates.specs.Streamed.{resultRecords}
+
+-- a record that can be written
+abbrev pub Writable : Rec → Type 0
+Writable r = number12 (writtenFields r) ≡ pass
 
 -- the RVER of a version, 0 where there is none
 unfoldable pub rverOf : Option Rec → ℕ

@@ -1,28 +1,14 @@
--- What each body of a list has, as cells and as a version say it. Assumes nothing.
+-- Tuples of SPAS, which are made of bytes: what each body of a list has. Assumes nothing.
 use Prim.Native.Nat.{ℕ}
-use mathlib.Core.List.{List, [], _∷_}
+use mathlib.Core.List.{List}
+use Rattle.base.specs.Lists.{Each}
+use Rattle.base.proofs.EachLaws.{each-map, each-zip}
 use Rattle.fields.specs.Valid.{Bytes}
-use Rattle.cells.specs.Keys.{Every, SpasBody}
-use Rattle.version.specs.Held.{All, RightSpas}
+use Rattle.cells.specs.Keys.{SpasBody}
+use Rattle.version.specs.Held.{RightSpas}
 
--- each has it, said either way
-pub every-all : (P : List ℕ → Type 0) (bs : List (List ℕ)) → Every P bs → All P bs
-unfolding All
-every-all P [] a = tt
-every-all P (b ∷ bs) a = (a .0, every-all P bs (a .1))
+pub spas-every : (bs : List (List ℕ)) → Each RightSpas bs → Each SpasBody bs
+spas-every bs a = each-map bs (λ b r. (r .long, r .filled)) a
 
-pub all-every : (P : List ℕ → Type 0) (bs : List (List ℕ)) → All P bs → Every P bs
-unfolding All
-all-every P [] a = tt
-all-every P (b ∷ bs) a = (a .0, all-every P bs (a .1))
-
--- tuples of SPAS, which are made of bytes
-pub spas-every : (bs : List (List ℕ)) → All RightSpas bs → Every SpasBody bs
-unfolding All
-spas-every [] a = tt
-spas-every (b ∷ bs) a = ((a .0 .long, a .0 .filled), spas-every bs (a .1))
-
-pub spas-all : (bs : List (List ℕ)) → Every SpasBody bs → All Bytes bs → All RightSpas bs
-unfolding All
-spas-all [] e a = tt
-spas-all (b ∷ bs) e a = (record { bytes = a .0; long = e .0 .0; filled = e .0 .1 }, spas-all bs (e .1) (a .1))
+pub spas-all : (bs : List (List ℕ)) → Each SpasBody bs → Each Bytes bs → Each RightSpas bs
+spas-all bs e a = each-zip bs (λ b s g. record { bytes = g; long = s .0; filled = s .1 }) e a

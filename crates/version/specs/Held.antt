@@ -7,7 +7,7 @@ use lib.ListN.{length, take}
 use lib.Dec.{eqb}
 use Rattle.base.specs.Choice.{pick}
 use Rattle.base.specs.Check.{passed, pass}
-use Rattle.base.specs.Lists.{each, gather}
+use Rattle.base.specs.Lists.{each, gather, Each}
 use Rattle.skeleton.specs.Place.{between}
 use Rattle.fields.specs.Table.{headOf, tupleOf}
 use Rattle.fields.specs.Content.{fill}
@@ -23,11 +23,6 @@ use Rattle.items.specs.Items.{its, source}
 use Rattle.cells.specs.Cells.{bodiesOf, spatialIn}
 use Rattle.version.specs.Areas.{listArea, inasArea, spasArea}
 use Rattle.version.specs.declared.Version.{Version}
-
--- each of a list is so
-unfoldable pub All : {A : Type 0} → (A → Type 0) → List A → Type 0
-All P [] = Unit {0}
-All P (x ∷ xs) = P x × All P xs
 
 -- an INAS that is inserted: it has its format, and the tree rule holds
 pub record RightInas (b : List ℕ) : Type 0 where
@@ -46,6 +41,11 @@ pub record RightFoid (b : List ℕ) : Type 0 where
   pub bytes : Bytes b
   pub filled : fill (headOf Foid) [] b ≡ true
 
+-- a version with so many items, associations, coordinate tuples and spatial associations
+abbrev pub counted : Version → ℕ → ℕ → ℕ → ℕ → Version
+counted v a i c s =
+    record { kind = v .kind; rcid = v .rcid; code = v .code; rver = v .rver; foids = v .foids; foid = v .foid; slice = v .slice; attr = a; inas = i; coord = c; spas = s }
+
 -- the kind has attributes of its own; the others have coordinates
 unfoldable pub takesTree : Kind → Bool
 takesTree Info = true
@@ -61,10 +61,10 @@ foidBodies d u v = pick (eqb (v .foids) 0) [] (between (source (v .slice) d u) (
 pub record HeldParts (d u w : List ℕ) (v : Version) (p : Parts) : Type 0 where
   pub attributes : its d u (listArea w) 0 (v .attr) ≡ flat 0 (p .attributes)
   pub associations : p .associations ≡ each assocOf (bodiesOf d u (inasArea w) (v .inas))
-  pub inas-right : All RightInas (bodiesOf d u (inasArea w) (v .inas))
+  pub inas-right : Each RightInas (bodiesOf d u (inasArea w) (v .inas))
   pub coordinates : p .coordinates ≡ coordsIn (take (8 * v .coord) (listArea w))
   pub spatial : p .spatial ≡ each spatialIn (bodiesOf d u (spasArea w) (v .spas))
-  pub spas-right : All RightSpas (bodiesOf d u (spasArea w) (v .spas))
+  pub spas-right : Each RightSpas (bodiesOf d u (spasArea w) (v .spas))
   pub attr-room : 8 * v .attr ≤ 200000
   pub inas-room : 7 * v .inas ≤ 92000
   pub coord-room : 8 * v .coord ≤ 200000
@@ -79,5 +79,5 @@ pub record Held (d u w : List ℕ) (v : Version) (r : Rec) : Type 0 where
   pub code : v .code ≡ r .code
   pub rver : v .rver ≡ r .rver
   pub foid : r .foid ≡ gather foidOf (foidBodies d u v)
-  pub foid-right : All RightFoid (foidBodies d u v)
+  pub foid-right : Each RightFoid (foidBodies d u v)
   pub parts : HeldParts d u w v (r .parts)

@@ -6,7 +6,7 @@ use mathlib.Core.List.{List, [], _∷_, _++_, append-nil}
 use borrow.Author.Tests.{eq-eqb}
 use lib.Dec.{eqb}
 use lib.ListN.{length}
-use Rattle.base.specs.Lists.{gather}
+use Rattle.base.specs.Lists.{gather, Each}
 use Rattle.skeleton.specs.File.{Field}
 use Rattle.rules.specs.Tags.{ATTR, SPAS, C2IT, C2IL}
 use Rattle.rules.specs.ByTag.{bodyOf}
@@ -15,11 +15,12 @@ use Rattle.rules.specs.declared.Kind.{Kind}
 use Rattle.rules.specs.declared.Kind.the-variants.{Info, Point, Multi, Feature}
 use Rattle.writing.specs.House.{isList, listBefore, inHouseForm}
 use Rattle.writing.proofs.HouseLaws.{house-plain, house-list}
-use Rattle.writing.proofs.OrderedLaws.{Every, Tagged}
+use Rattle.writing.proofs.OrderedLaws.{Tagged}
 use Rattle.writing.proofs.RecordPartLaws.{Right, point-part}
 
 -- fields of a tag that is no list's
 pub house-plains : (t : ℕ) (xs ys : List Field) → isList true t ≡ false → Tagged t xs → inHouseForm true (xs ++ ys) ≡ xs ++ inHouseForm true ys
+unfolding Each
 house-plains t [] ys l h = refl
 house-plains t (f ∷ xs) ys l h =
     house-plain true f (xs ++ ys) (ap (isList true) (h .0) ∙ l) ∙ ap (λ (gs : List Field). f ∷ gs) (house-plains t xs ys l (h .1))
@@ -40,7 +41,7 @@ list-joins t (x ∷ b) [] (g ∷ gs) a = rw a (ap (λ (l : List ℕ). fieldAs t 
 -- lists of one tag are one, and where they are empty none
 pub house-lists : (t : ℕ) (xs ys : List Field) → isList true t ≡ true → Tagged t xs → Apart t (inHouseForm true ys)
     → inHouseForm true (xs ++ ys) ≡ listField t (gather bodyOf xs) ++ inHouseForm true ys
-unfolding gather
+unfolding gather Each
 house-lists t [] ys l h a = unfold listField in refl
 house-lists t (f ∷ xs) ys l h a =
     house-list true f (xs ++ ys) (ap (isList true) (h .0) ∙ l)
@@ -48,6 +49,7 @@ house-lists t (f ∷ xs) ys l h a =
     ∙ list-joins t (f .body) (gather bodyOf xs) (inHouseForm true ys) a
 
 pub apart-tagged : (t u : ℕ) (xs ys : List Field) → eqb t u ≡ false → Tagged u xs → Apart t ys → Apart t (xs ++ ys)
+unfolding Each
 apart-tagged t u [] ys n h a = a
 apart-tagged t u (f ∷ xs) ys n h a = ap (eqb t) (h .0) ∙ n
 
@@ -73,7 +75,7 @@ house-c2il xs ys h t =
     let a : Apart C2IL (inHouseForm true ys) = rw (house-spas ys t) (apart-alone C2IL SPAS (gather bodyOf ys) refl) in
     house-lists C2IL xs ys refl h a ∙ ap (λ (gs : List Field). listField C2IL (gather bodyOf xs) ++ gs) (house-spas ys t)
 
-pub house-coords : (k : Kind) (xs ys : List Field) → Tagged (coordTag k) xs → Tagged SPAS ys → Every Right xs → (k ≡ Point → length xs ≤ 1)
+pub house-coords : (k : Kind) (xs ys : List Field) → Tagged (coordTag k) xs → Tagged SPAS ys → Each Right xs → (k ≡ Point → length xs ≤ 1)
     → inHouseForm true (xs ++ ys) ≡ listField (coordTag k) (gather bodyOf xs) ++ listField SPAS (gather bodyOf ys)
 unfolding coordTag isList
 house-coords Info xs ys h t r o = house-c2il xs ys h t

@@ -10,6 +10,8 @@ use lib.Dec.{eqb}
 use lib.ListN.{length}
 use Rattle.base.specs.Choice.{pick}
 use Rattle.base.specs.Check.{no, fault, pass}
+use Rattle.base.specs.Lists.{Each}
+use Rattle.base.proofs.CheckLaws.{refused}
 use Rattle.skeleton.specs.File.{Field}
 use Rattle.fields.specs.Valid.{Bytes}
 use Rattle.rules.specs.Tags.{FOID, ATTR, INAS, SPAS, COCC, C2IT, C2IL}
@@ -20,22 +22,13 @@ use Rattle.rules.specs.declared.Kind.{Kind}
 use Rattle.rules.specs.declared.Kind.the-variants.{Info, Point, Multi, Feature}
 use Rattle.rules.specs.declared.Mode.the-variants.{InDataset}
 
--- each of the fields is so
-abbrev pub Every : (Field → Type 0) → List Field → Type 0
-Every P [] = Unit {0}
-Every P (f ∷ fs) = P f × Every P fs
-
 -- each has this tag
 abbrev pub Tagged : ℕ → List Field → Type 0
-Tagged t fs = Every (λ (f : Field). f .tag ≡ t) fs
+Tagged t fs = Each (λ (f : Field). f .tag ≡ t) fs
 
 -- the bodies are bytes
 abbrev pub BodiesBytes : List Field → Type 0
-BodiesBytes fs = Every (λ (f : Field). Bytes (f .body)) fs
-
--- a refusal did not pass
-pub not-passed {ℓ} : {X : Type ℓ} {n i j : ℕ} → no (fault n i j) ≡ pass → X
-not-passed e = absurd (let z : _≡_ {A = ℕ} 0 1 = cc in omega arith)
+BodiesBytes fs = Each (λ (f : Field). Bytes (f .body)) fs
 
 -- ---- one row
 
@@ -45,7 +38,7 @@ pub record Split (out : ℕ → Bool) (row : Row) (rows : List Row) (fs : List F
   pub others : List Field
   pub is : fs ≡ mine ++ others
   pub tagged : Tagged (row .tag) mine
-  pub allowed : Every (λ (f : Field). out (f .tag) ≡ false) mine
+  pub allowed : Each (λ (f : Field). out (f .tag) ≡ false) mine
   pub few : row .often ≡ false → length mine ≤ 1
   pub place : ℕ
   pub rest : inOrder out rows place others ≡ pass
@@ -56,7 +49,8 @@ split-by : (out : ℕ → Bool) (row : Row) (rows : List Row) (i : ℕ) (f : Fie
     → (w : Bool) → out (f .tag) ≡ w → (u : Bool) → eqb (row .tag) (f .tag) ≡ u → (v : Bool) → row .often ≡ v
     → pick w (no (fault 4 i 0)) (onRows (pick u (some (pick v (row ∷ rows) rows)) (rowsAfter (f .tag) rows)) i (λ left. inOrder out left (i + 1) fs)) ≡ pass
     → Split out row rows (f ∷ fs)
-split-by out row rows i f fs ih true p u q v o e = not-passed e
+unfolding Each
+split-by out row rows i f fs ih true p u q v o e = refused e
 split-by out row rows i f fs ih false p true q true o e =
     let s = ih (i + 1) e in
     record {
@@ -84,7 +78,7 @@ split-by out row rows i f fs ih false p false q v o e =
     record { mine = []; others = f ∷ fs; is = refl; tagged = tt; allowed = tt; few = λ z. omega arith; place = i; rest = unfold inOrder in rw p e }
 
 pub split : (out : ℕ → Bool) (row : Row) (rows : List Row) (i : ℕ) (fs : List Field) → inOrder out (row ∷ rows) i fs ≡ pass → Split out row rows fs
-unfolding inOrder rowsAfter
+unfolding inOrder rowsAfter Each
 split out row rows i [] e = record { mine = []; others = []; is = refl; tagged = tt; allowed = tt; few = λ z. omega arith; place = i; rest = refl }
 split out row rows i (f ∷ fs) e =
     split-by out row rows i f fs (λ j x. split out row rows j fs x) (out (f .tag)) refl (eqb (row .tag) (f .tag)) refl (row .often) refl e
@@ -96,8 +90,8 @@ none-left out i [] e = refl
 none-left out i (f ∷ fs) e = go (out (f .tag)) e
   where
     go : (w : Bool) → pick w (no (fault 4 i 0)) (no (fault 4 i 0)) ≡ pass → f ∷ fs ≡ []
-    go true x = not-passed x
-    go false x = not-passed x
+    go true x = refused x
+    go false x = refused x
 
 -- ---- the parts of a record of a dataset
 
@@ -119,7 +113,8 @@ pub record Parted (k : Kind) (fs : List Field) : Type 0 where
   pub one-coord : k ≡ Point → length coords ≤ 1
 
 -- COCC is shut out
-no-cocc : (fs : List Field) → Tagged COCC fs → Every (λ (f : Field). eqb (f .tag) COCC ≡ false) fs → fs ≡ []
+no-cocc : (fs : List Field) → Tagged COCC fs → Each (λ (f : Field). eqb (f .tag) COCC ≡ false) fs → fs ≡ []
+unfolding Each
 no-cocc [] t a = refl
 no-cocc (f ∷ fs) t a = absurd (eqb-false (f .tag) COCC (a .0) (t .0))
 
@@ -129,7 +124,7 @@ module _ (ruin coui : ℕ) (controlled : Bool) where
   out = forbidden InDataset ruin coui controlled
 
   pub parted : (k : Kind) (i : ℕ) (fs : List Field) → inOrder (forbidden InDataset ruin coui controlled) (rowsOf k) i fs ≡ pass → Parted k fs
-  unfolding rowsOf coordTag out forbidden
+  unfolding rowsOf coordTag out forbidden Each
   parted Info i fs e =
       let a = split out (once ATTR) (any INAS ∷ []) i fs e in
       let b = split out (any INAS) [] (a .place) (a .others) (a .rest) in

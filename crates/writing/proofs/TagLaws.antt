@@ -5,6 +5,7 @@ use mathlib.Core.Bool.{Bool, true, false}
 use mathlib.Core.List.{List, [], _∷_, _++_, append-nil}
 use lib.Dec.{eqb}
 use Rattle.base.specs.Choice.{pick}
+use Rattle.base.specs.Lists.{Each}
 use Rattle.skeleton.specs.File.{Field}
 use Rattle.rules.specs.Tags.{FOID, ATTR, INAS, SPAS, C2IT, C2IL}
 use Rattle.rules.specs.ByTag.{withTag}
@@ -25,7 +26,7 @@ with-append t (f ∷ xs) ys = go (eqb (f .tag) t) (with-append t xs ys)
 
 -- fields of one tag are all of that tag, and none of another
 with-tagged : (t u : ℕ) (xs : List Field) → Tagged u xs → withTag t xs ≡ pick (eqb u t) xs []
-unfolding withTag
+unfolding withTag Each
 with-tagged t u [] h = go (eqb u t)
   where
     go : (b : Bool) → _≡_ {A = List Field} [] (pick b [] [])

@@ -9,10 +9,11 @@ use lib.Dec.{eqb, ltb}
 use lib.ListN.{getD}
 use Rattle.base.specs.Choice.{pick, both}
 use Rattle.base.specs.Check.{ok, no, bind, fault, pass}
-use Rattle.base.specs.Lists.{each, gather}
+use Rattle.base.specs.Lists.{each, gather, Each}
 use Rattle.base.specs.Keys.{among}
-use Rattle.base.proofs.CheckLaws.{bind-inv, ok-inj}
+use Rattle.base.proofs.CheckLaws.{refused, bind-inv, ok-inj}
 use Rattle.base.proofs.ListLaws.{each-append}
+use Rattle.base.proofs.EachLaws.{each-parts}
 use Rattle.skeleton.specs.File.{Field}
 use Rattle.skeleton.specs.Place.{fieldsAt}
 use Rattle.skeleton.specs.declared.directory.Shape.{Shape}
@@ -38,9 +39,9 @@ use Rattle.rules.proofs.KindLaws.{tag-of-kind}
 use Rattle.rules.proofs.FilledLaws.{stands-fill}
 use Rattle.writing.specs.House.{isList, inHouseForm}
 use Rattle.writing.proofs.HouseLaws.{house-plain}
-use Rattle.writing.proofs.OrderedLaws.{Every, Tagged, BodiesBytes, Parted, parted}
+use Rattle.writing.proofs.OrderedLaws.{Tagged, BodiesBytes, Parted, parted}
 use Rattle.writing.proofs.SameBytesLaws.{identVals, ident-again, Lists, coords-again, spatials-again}
-use Rattle.writing.proofs.RecordPartLaws.{Right, all-right, every-append, foid-part, attr-part, inas-part, coord-lists, point-lists, spatial-lists}
+use Rattle.writing.proofs.RecordPartLaws.{Right, all-right, foid-part, attr-part, inas-part, coord-lists, point-lists, spatial-lists}
 use Rattle.writing.proofs.BytesLaws.{bytes-fields}
 use Rattle.writing.proofs.TagLaws.{with-foid, with-attr, with-inas, with-spas, with-coords}
 use Rattle.writing.proofs.HousePartLaws.{Apart, house-plains, house-lists, apart-tagged, apart-list, apart-alone, house-coords, attr-coord}
@@ -55,18 +56,18 @@ Whole k fs p =
 
 -- the fields of each part have passed 5 and 6
 record Rights (k : Kind) (fs : List Field) (p : Parted k fs) : Type 0 where
-  foids : Every Right (p .foids)
-  attrs : Every Right (p .attrs)
-  inass : Every Right (p .inass)
-  coords : Every Right (p .coords)
-  spass : Every Right (p .spass)
+  foids : Each Right (p .foids)
+  attrs : Each Right (p .attrs)
+  inass : Each Right (p .inass)
+  coords : Each Right (p .coords)
+  spass : Each Right (p .spass)
 
-rights-of : (k : Kind) (fs : List Field) (p : Parted k fs) → Every Right fs → Rights k fs p
+rights-of : (k : Kind) (fs : List Field) (p : Parted k fs) → Each Right fs → Rights k fs p
 rights-of k fs p r =
-    let a = every-append Right (p .foids) _ (rw (p .is) at r) in
-    let b = every-append Right (p .attrs) _ (a .1) in
-    let c = every-append Right (p .inass) _ (b .1) in
-    let d = every-append Right (p .coords) (p .spass) (c .1) in
+    let a = each-parts Right (p .foids) _ (rw (p .is) at r) in
+    let b = each-parts Right (p .attrs) _ (a .1) in
+    let c = each-parts Right (p .inass) _ (b .1) in
+    let d = each-parts Right (p .coords) (p .spass) (c .1) in
     record { foids = a .0; attrs = b .0; inass = c .0; coords = d .0; spass = d .1 }
 
 house-whole : (k : Kind) (fs : List Field) (p : Parted k fs) → Rights k fs p → inHouseForm true fs ≡ Whole k fs p
@@ -89,7 +90,7 @@ unfolding gather each
 gather-bodies [] = refl
 gather-bodies (f ∷ xs) = ap (λ (b : List ℕ). f .body ++ b) (gather-bodies xs)
 
-coord-bodies : (k : Kind) (xs : List Field) → Tagged (coordTag k) xs → Every Right xs → Lists (tupleOf C2il) (each bodyOf xs)
+coord-bodies : (k : Kind) (xs : List Field) → Tagged (coordTag k) xs → Each Right xs → Lists (tupleOf C2il) (each bodyOf xs)
 unfolding coordTag
 coord-bodies Info xs h r = coord-lists xs h r
 coord-bodies Point xs h r = point-lists xs h r
@@ -159,12 +160,6 @@ written-whole k f fs p t g e r =
 
 -- ---- the tests, turned round
 
-not-some {ℓ} : {X : Type ℓ} {k : Kind} → none ≡ some k → X
-not-some e = absurd (let z : _≡_ {A = ℕ} 0 1 = cc in omega arith)
-
-not-kind {ℓ} : {X : Type ℓ} {n i j : ℕ} {k : Kind} → no (fault n i j) ≡ ok k → X
-not-kind e = absurd (let z : _≡_ {A = ℕ} 0 1 = cc in omega arith)
-
 -- number 4 passed
 four-inv : (least : ℕ) (f : Field) (fs : List Field) (k : Kind) → number4 InDataset least (f ∷ fs) ≡ ok k
     → (kindOf (f .tag) ≡ some k) × (fieldsStand InDataset k (f .body) fs ≡ pass)
@@ -174,7 +169,7 @@ four-inv least f fs k e = go (kindOf (f .tag)) refl e
     by-rank : (j : Kind) (b : Bool) → kindOf (f .tag) ≡ some j
         → pick b (no (fault 4 1 0)) (bind (fieldsStand InDataset j (f .body) fs) (λ _. ok j)) ≡ ok k
         → (kindOf (f .tag) ≡ some k) × (fieldsStand InDataset k (f .body) fs ≡ pass)
-    by-rank j true p x = not-kind x
+    by-rank j true p x = refused x
     by-rank j false p x =
         let r = bind-inv (fieldsStand InDataset j (f .body) fs) (λ _. ok j) k x in
         let s : j ≡ k = ok-inj j k (r .2) in
@@ -183,7 +178,7 @@ four-inv least f fs k e = go (kindOf (f .tag)) refl e
     go : (o : Option Kind) → kindOf (f .tag) ≡ o
         → onKind o (λ j. pick (ltb (rank j) least) (no (fault 4 1 0)) (bind (fieldsStand InDataset j (f .body) fs) (λ _. ok j))) ≡ ok k
         → (kindOf (f .tag) ≡ some k) × (fieldsStand InDataset k (f .body) fs ≡ pass)
-    go none p x = not-kind x
+    go none p x = refused x
     go (some j) p x = by-rank j (ltb (rank j) least) p x
 
 order-inv : (k : Kind) (b : List ℕ) (fs : List Field) → fieldsStand InDataset k b fs ≡ pass
@@ -196,8 +191,8 @@ order-inv k b fs e = bind-inv (inOrder (forbidden InDataset (ruinByte k b) (coui
 -- a record of a dataset that has passed 4, 5 and 6
 pub written-passed : (least : ℕ) (fs : List Field) (k : Kind) → BodiesBytes fs → number4 InDataset least fs ≡ ok k
     → number5 InDataset k fs ≡ pass → number6 InDataset k fs ≡ pass → writtenFields (recOf k fs) ≡ inHouseForm true fs
-unfolding number4 number5 number6 insertOnly asStored
-written-passed least [] k g e₄ e₅ e₆ = not-kind e₄
+unfolding number4 number5 number6 insertOnly asStored Each
+written-passed least [] k g e₄ e₅ e₆ = refused e₄
 written-passed least (f ∷ fs) k g e₄ e₅ e₆ =
     let a = four-inv least f fs k e₄ in
     let t = tag-of-kind (f .tag) k (a .0) in

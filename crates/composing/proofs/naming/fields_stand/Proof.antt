@@ -1,9 +1,9 @@
-use Rattle.composing.proofs.NamingLaws.{fields-turn}
-use Rattle.composing.specs.Settled.{Alike}
-use Rattle.composing.specs.Keys.{keysIn}
 use Rattle.base.specs.Lists.{gather}
+use Rattle.rules.specs.Associations.{fieldKeys}
 use Rattle.references.specs.Readable.{allReadable}
 use Rattle.skeleton.specs.Place.{fieldsAt}
+use Rattle.composing.specs.Settled.{Alike}
+use Rattle.composing.proofs.NamingLaws.{fields-turn}
 use lib.ListN.{length}
 use mathlib.Core.Bool.{true}
 use mathlib.Core.Path.{_≡_}
@@ -13,7 +13,7 @@ use Rattle.composing.proofs.naming.fields_stand.Statement.{statement}
 use Rattle.composing.proofs.naming.fields_stand.Tie as tie
 
 abbrev Inv-loop : tie.InvT-loop
-Inv-loop d ds t n map u us flags r h q₀ q = (allReadable (fieldsAt r h q) ≡ true) × Alike d ds u us flags (gather keysIn (fieldsAt r h q)) (gather keysIn (fieldsAt r h 24))
+Inv-loop d ds t n map u us flags r h q₀ q = (allReadable (fieldsAt r h q) ≡ true) × Alike d ds u us flags (gather fieldKeys (fieldsAt r h q)) (gather fieldKeys (fieldsAt r h 24))
 
 abbrev μ-loop : tie.MeasureT-loop
 μ-loop d ds t n map u us flags r h q₀ q = length r - q

@@ -1,9 +1,9 @@
-use Rattle.composing.proofs.NamingLaws.{tuples-turn}
-use Rattle.composing.specs.Settled.{Alike}
-use Rattle.composing.specs.Keys.{spasKeys}
+use Rattle.rules.specs.Associations.{spasKeys}
 use Rattle.fields.specs.Table.{tupleOf}
 use Rattle.fields.specs.Places.{endingAt}
 use Rattle.fields.specs.declared.Format.the-variants.{Spas}
+use Rattle.composing.specs.Settled.{Alike}
+use Rattle.composing.proofs.NamingLaws.{tuples-turn}
 use lib.ListN.{length, drop}
 use mathlib.Core.Path.{_≡_}
 use Prim.Native.Nat.{_-_, _≤_}

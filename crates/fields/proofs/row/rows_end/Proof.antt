@@ -1,63 +1,57 @@
-use Rattle.fields.proofs.RowLaws.{rows-turn}
-use Rattle.fields.specs.Places.{subfieldsEnd}
-use Rattle.fields.specs.Rows.{table}
-use lib.Seq.{slice}
-use lib.ListN.{length}
-use Prim.Native.Nat.{_≤_, _-_}
-use mathlib.Core.Path.{_≡_, refl}
+use Rattle.fields.proofs.OftenLaws.{named-rows}
 use borrow.Author.Needs.{needs}
 use Rattle.fields.proofs.row.rows_end.Statement.{statement}
 use Rattle.fields.proofs.row.rows_end.Tie as tie
 
-abbrev Inv-loop : tie.InvT-loop
-Inv-loop from to b at j₀ p₀ j p = (from ≤ j) × (j ≤ to) × (p ≤ length b) × (subfieldsEnd (slice j to table) b p ≡ subfieldsEnd (slice from to table) b at)
+attribute-end-requires : tie.Need-attribute-end-requires
+attribute-end-requires c κs = search needs
 
-abbrev μ-loop : tie.MeasureT-loop
-μ-loop from to b at j₀ p₀ j p = to - j
+returns : tie.Need-returns
+returns c = search named-rows
 
-loop-holds : tie.Need-loop-holds Inv-loop μ-loop
-loop-holds c = (search needs, search needs, search needs, refl)
+spatial-end-requires : tie.Need-spatial-end-requires
+spatial-end-requires c κs = search needs
 
-row-requires : tie.Need-row-requires Inv-loop μ-loop
-row-requires c κs = search needs
+returns-2 : tie.Need-returns-2
+returns-2 c = search named-rows
 
-subfield-end-requires : tie.Need-subfield-end-requires Inv-loop μ-loop
-subfield-end-requires c κs = search needs
+feature-end-requires : tie.Need-feature-end-requires
+feature-end-requires c κs = search needs
 
-enum-told : tie.Need-enum-told Inv-loop μ-loop
-enum-told c = search needs
+returns-3 : tie.Need-returns-3
+returns-3 c = search named-rows
 
-returns : tie.Need-returns Inv-loop μ-loop
-returns c = search rows-turn
+point-end-requires : tie.Need-point-end-requires
+point-end-requires c κs = search needs
 
-enum-known-r : tie.Need-enum-known-r Inv-loop μ-loop
-enum-known-r c = search needs
+returns-4 : tie.Need-returns-4
+returns-4 c = search named-rows
 
-add-j : tie.Need-add-j Inv-loop μ-loop
-add-j c = search needs
+association-end-requires : tie.Need-association-end-requires
+association-end-requires c κs = search needs
 
-loop-less : tie.Need-loop-less Inv-loop μ-loop
-loop-less c = search needs
+returns-5 : tie.Need-returns-5
+returns-5 c = search named-rows
 
-loop-again : tie.Need-loop-again Inv-loop μ-loop
-loop-again c = (search needs, search needs, search rows-turn, search rows-turn)
+table-end-requires : tie.Need-table-end-requires
+table-end-requires c κs = search needs
 
-returns-2 : tie.Need-returns-2 Inv-loop μ-loop
-returns-2 c = search rows-turn
+returns-6 : tie.Need-returns-6
+returns-6 c = search needs
 
 pub rows-end-spec : {M : Type 1} → statement M
 rows-end-spec =
     tie.close
     (tie.spec
-    Inv-loop
-    μ-loop
-    loop-holds
-    row-requires
-    subfield-end-requires
-    enum-told
+    attribute-end-requires
     returns
-    enum-known-r
-    add-j
-    loop-less
-    loop-again
-    returns-2)
+    spatial-end-requires
+    returns-2
+    feature-end-requires
+    returns-3
+    point-end-requires
+    returns-4
+    association-end-requires
+    returns-5
+    table-end-requires
+    returns-6)

@@ -1,7 +1,7 @@
 -- `load_field` meets its contract. Assumes nothing.
 use Rattle.rules.specs.Tags.{FOID, ATTR, INAS, SPAS, C2IT, C2IL}
 use mathlib.Core.Path.{refl}
-use Rattle.loading.specs.Taken.{isCoord}
+use Rattle.rules.specs.Coordinates.{isCoordinates}
 use Rattle.loading.proofs.CoordLaws.{point-ready, list-ready}
 use Rattle.loading.proofs.FoidLaws.{foid-took, loads-as, took-as, other-took}
 use borrow.Author.Needs.{needs}
@@ -45,7 +45,7 @@ same-length-4 : tie.Need-same-length-4
 same-length-4 c = search needs
 
 returns-5 : tie.Need-returns-5
-unfolding isCoord
+unfolding isCoordinates
 returns-5 c = took-as _ _ _ _ _ _ (c .before .before .before .before .before .before .before .before .before .before .before .pre) C2IT (c .before .before .before .before .if5 .taken) _ _ _ (c .before .before .load-coords .ensures _ C2IT refl)
 
 load-coords-requires-2 : tie.Need-load-coords-requires-2
@@ -55,7 +55,7 @@ same-length-5 : tie.Need-same-length-5
 same-length-5 c = search needs
 
 returns-6 : tie.Need-returns-6
-unfolding isCoord
+unfolding isCoordinates
 returns-6 c = took-as _ _ _ _ _ _ (c .before .before .before .before .before .before .before .before .before .before .before .before .pre) C2IL (c .before .before .before .before .if6 .taken) _ _ _ (c .before .before .load-coords2 .ensures _ C2IL refl)
 
 returns-7 : tie.Need-returns-7

@@ -1,8 +1,6 @@
 -- What each of a list has: of parts of lists, of lists joined, and of what is made of each. Assumes nothing.
 use mathlib.Core.List.{List, [], _∷_, _++_}
-use Rattle.base.specs.Lists.{gather}
-use Rattle.sequence.specs.Keyed.{Each}
-use Rattle.sequence.proofs.EachLaws.{each-join}
+use Rattle.base.specs.Lists.{gather, Each}
 
 -- none
 pub each-nil : {A : Type 0} (P : A → Type 0) → Each P []
@@ -20,6 +18,12 @@ pub each-zip : {A : Type 0} {P Q R : A → Type 0} (l : List A) → ((a : A) →
 unfolding Each
 each-zip [] f p q = tt
 each-zip (x ∷ l) f p q = (f x (p .0) (q .0), each-zip l f (p .1) (q .1))
+
+-- lists joined
+pub each-join : {A : Type 0} (P : A → Type 0) (a b : List A) → Each P a → Each P b → Each P (a ++ b)
+unfolding Each
+each-join P [] b p q = q
+each-join P (x ∷ a) b p q = (p .0, each-join P a b (p .1) q)
 
 -- the lists that are made of each
 pub each-gathered : {A B : Type 0} (P : B → Type 0) (f : A → List B) (l : List A) → Each (λ a. Each P (f a)) l → Each P (gather f l)
