@@ -15,6 +15,7 @@ use Rattle.rules.specs.Record.{Rec}
 use Rattle.rules.specs.Written.{writtenFields, fieldWidth, writtenLength}
 use Rattle.sequence.proofs.Tests.{by-bool}
 use Rattle.updates.specs.Streamed.{recordBytes, recordLength}
+use Rattle.writing.proofs.MeasuringLaws.{length-told}
 use Rattle.composing.specs.Emitted.{Emitted}
 use Rattle.composing.specs.Composing.{Composing}
 use Rattle.composing.proofs.ComposingLaws.{composing-written, composing-counted}
@@ -34,7 +35,7 @@ module _ (fs : List Field) (to : ℕ) (before : List ℕ) (l : ℕ) (el : l ≡ 
   pub emitted-word : to ≤ 4611686018427387904 → writtenLength fs ≤ 99999 → to + l < 2 ^ 64
   emitted-word h g = omega arith
 
-pub ruleset emitted-ways = (emitted-not, emitted-room, emitted-there, emitted-word)
+pub ruleset emitted-ways = (length-told, emitted-not, emitted-room, emitted-there, emitted-word)
 
 -- ---- as one more record of the result
 

@@ -1,7 +1,8 @@
 // A record of the dataset that no update record names: it is written as it stands.
 use skeleton::directory::Shape;
-use writing::measuring::written_length;
-use writing::writer::write_record;
+use writing::measuring::count_written;
+use writing::measuring::length_of;
+use writing::writer::write_counted;
 ghost use mathlib.Core.Bool.{true};
 ghost use Prim.Native.Nat.{_≤_};
 ghost use lib.ListN.{length};
@@ -16,9 +17,10 @@ pub fn carry(r: &[u8], h: Shape, out: &mut [u8], to: usize) -> usize
     requires { ⌜ Bounded h × (length (now r) ≤ 16777216) × (to ≤ 4611686018427387904) × (writtenLength (inHouseForm true (fieldsAt (now r) h 24)) ≤ 99999) ⌝ }
     ensures { λ n. ⌜ Emitted (inHouseForm true (fieldsAt (now (r .entry)) h 24)) to (now (out .entry)) n (now (out .exit)) ⌝ }
 {
-    let n = to + written_length(r, h, true);
+    let s = count_written(r, h, true);
+    let n = to + length_of(s);
     if out.len() < n {
         return n;
     }
-    write_record(r, h, true, false, out, to)
+    write_counted(r, h, true, false, s, out, to)
 }

@@ -92,7 +92,7 @@ module _ (joins : Bool) (r : List ℕ) (h : Shape) (q fields bytes : ℕ) (inv :
 
 pub ruleset count-turn = (counted-start, counted-done, counted-word, counted-bytes, counted-more, found-falls, found-word)
 
--- ---- `written_length`
+-- ---- the length of a record
 
 -- the fields fs, counted in s
 module _ (fs : List Field) (s : Sum) (e : Summed fs s) where
@@ -109,4 +109,7 @@ module _ (fs : List Field) (s : Sum) (e : Summed fs s) where
   unfolding writtenLength
   length-is = omega (arith, e .fields-are, e .bytes-are)
 
-pub ruleset length-ways = (length-product, length-head, length-word, length-is)
+  pub length-told : (n : ℕ) → n ≡ 25 + 14 * s .fields + s .bytes → n ≡ writtenLength fs
+  length-told n h = h ∙ length-is
+
+pub ruleset length-ways = (length-product, length-head, length-word, length-is, length-told)

@@ -3,7 +3,7 @@ use crate::joining::Written;
 use crate::joining::next_written;
 use skeleton::directory::Shape;
 ghost use mathlib.Core.Path.{_≡_};
-ghost use Prim.Native.Nat.{_≤_};
+ghost use Prim.Native.Nat.{_+_, _*_, _≤_};
 ghost use lib.ListN.{length};
 ghost use Rattle.skeleton.specs.Place.{fieldsAt};
 ghost use Rattle.skeleton.specs.Shape.{Bounded};
@@ -46,11 +46,18 @@ pub fn count_written(r: &[u8], h: Shape, joins: bool) -> Sum
     }
 }
 
+// The length of a record with so many fields and bytes.
+pub fn length_of(s: Sum) -> usize
+    requires { ⌜ (s .fields ≤ 16777216) × (s .bytes ≤ 281474993487872) ⌝ }
+    ensures { λ n. ⌜ n ≡ 25 + 14 * s .fields + s .bytes ⌝ }
+{
+    25 + 14 * s.fields + s.bytes
+}
+
 // The length of a record as it is written; joins: its lists are joined, else its fields are carried as they are.
 pub fn written_length(r: &[u8], h: Shape, joins: bool) -> usize
     requires { ⌜ Bounded h × (length (now r) ≤ 16777216) ⌝ }
     ensures { λ n. ⌜ n ≡ writtenLength (inHouseForm joins (fieldsAt (now (r .entry)) h 24)) ⌝ }
 {
-    let s = count_written(r, h, joins);
-    25 + 14 * s.fields + s.bytes
+    length_of(count_written(r, h, joins))
 }

@@ -3,6 +3,7 @@ use crate::joining::Written;
 use crate::joining::goes_on;
 use crate::joining::is_list;
 use crate::joining::next_written;
+use crate::measuring::Sum;
 use crate::measuring::count_written;
 use crate::parts::put_entry;
 use crate::parts::put_leader;
@@ -20,7 +21,7 @@ ghost use Rattle.skeleton.specs.Place.{fieldsAt};
 ghost use Rattle.skeleton.specs.Shape.{Bounded};
 ghost use Rattle.rules.specs.Written.{fieldWidth, writtenLength};
 ghost use Rattle.writing.specs.House.{inHouseForm};
-ghost use Rattle.writing.specs.Found.{houseAt, joinedAt};
+ghost use Rattle.writing.specs.Found.{houseAt, joinedAt, Summed};
 
 // The directory, without the 1E that ends it.
 fn put_directory(r: &[u8], h: Shape, joins: bool, out: &mut [u8], at: usize) -> usize
@@ -122,7 +123,29 @@ fn put_fields(r: &[u8], h: Shape, joins: bool, out: &mut [u8], at: usize) -> usi
     }
 }
 
-// A record of the slice r; joins: its lists are joined, else its fields are carried as they are; first: it is the first of its file.
+// A record of the slice r, its written fields counted before; joins: its lists are joined, else its fields are carried as they are; first: it
+// is the first of its file.
+pub fn write_counted(
+    r: &[u8],
+    h: Shape,
+    joins: bool,
+    first: bool,
+    s: Sum,
+    out: &mut [u8],
+    at: usize,
+) -> usize
+    requires { ⌜ Bounded h × (length (now r) ≤ 16777216) × Summed (houseAt joins (now r) h 24) s ⌝ }
+    requires { ⌜ at + writtenLength (inHouseForm joins (fieldsAt (now r) h 24)) ≤ length (now out) ⌝ }
+    ensures { λ n. ⌜ (n ≡ at + writtenLength (inHouseForm joins (fieldsAt (now (r .entry)) h 24))) × Wrote at (emit fieldWidth fieldWidth first (inHouseForm joins (fieldsAt (now (r .entry)) h 24))) (now (out .entry)) n (now (out .exit)) ⌝ }
+{
+    let base = 25 + 14 * s.fields;
+    let p1 = put_leader(out, at, first, base + s.bytes, base);
+    let p2 = put_directory(r, h, joins, out, p1);
+    let p3 = put_byte(out, p2, 30);
+    put_fields(r, h, joins, out, p3)
+}
+
+// The same, counted here.
 pub fn write_record(
     r: &[u8],
     h: Shape,
@@ -136,9 +159,5 @@ pub fn write_record(
     ensures { λ n. ⌜ (n ≡ at + writtenLength (inHouseForm joins (fieldsAt (now (r .entry)) h 24))) × Wrote at (emit fieldWidth fieldWidth first (inHouseForm joins (fieldsAt (now (r .entry)) h 24))) (now (out .entry)) n (now (out .exit)) ⌝ }
 {
     let s = count_written(r, h, joins);
-    let base = 25 + 14 * s.fields;
-    let p1 = put_leader(out, at, first, base + s.bytes, base);
-    let p2 = put_directory(r, h, joins, out, p1);
-    let p3 = put_byte(out, p2, 30);
-    put_fields(r, h, joins, out, p3)
+    write_counted(r, h, joins, first, s, out, at)
 }
