@@ -1,4 +1,4 @@
-// The subfields that most bytes of a chart stand in, one after the other by name: as `rows_end` of their rows, in a third of the time.
+// The subfields that most bytes of a chart stand in, one after the other by name, where `table_end` looks up each row.
 use crate::Format;
 use crate::Stop;
 use crate::subfield::any_bytes;

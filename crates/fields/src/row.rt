@@ -1,7 +1,7 @@
 // The tables of all formats as one, and the subfields of some of its rows one after the other.
 // A further field: its rows, as specs/Table.antt has them, are put at the end of the last function of rows here and of `table` in
 // specs/Rows.antt, its format has an arm in `rows_of`, a clause in `shapeOf` and a line in `its-rows` (proofs/RowLaws.antt), and tools/rows.py
-// writes the proofs of these functions anew.
+// writes the proofs of these functions anew. Rows that most bytes of a chart stand in may have a function in `often`, which `rows_end` asks first.
 // Rows are arms of a `match`, which the compiler keeps as constant tables; an array of them would be made anew at each call.
 use crate::Format;
 use crate::Stop;
@@ -258,7 +258,7 @@ pub fn rows_of(k: Format) -> Shape
     }
 }
 
-// The same by the table, row by row.
+// Where the subfields of the rows from..to end, read from `at` on: row by row.
 fn table_end(from: usize, to: usize, b: &[u8], at: usize) -> Stop
     requires { ⌜ (from ≤ to) × (to ≤ rows) × (at ≤ length (now b)) ⌝ }
     ensures { λ r. ⌜ r ≡ subfieldsEnd (slice from to table) (now (b .entry)) at ⌝ }
@@ -280,7 +280,7 @@ fn table_end(from: usize, to: usize, b: &[u8], at: usize) -> Stop
     Stop::At(p)
 }
 
-// Where the subfields of the rows from..to end, read from `at` on; those of which most bytes are made without the table.
+// The same; those of which most bytes are made are read by name.
 pub fn rows_end(from: usize, to: usize, b: &[u8], at: usize) -> Stop
     requires { ⌜ (from ≤ to) × (to ≤ rows) × (at ≤ length (now b)) ⌝ }
     ensures { λ r. ⌜ r ≡ subfieldsEnd (slice from to table) (now (b .entry)) at ⌝ }
