@@ -150,7 +150,7 @@ fn systems() -> Vec<Field> {
 // ---- the chart
 
 /// The attributes of clause 10a-4.1.
-const BEACON: [Tuple; 10] = [
+pub const BEACON: [Tuple; 10] = [
     (21, 1, 0, 1, "Vachon"),
     (22, 1, 0, 1, ""),
     (25, 1, 2, 1, "42.0"),
@@ -164,7 +164,7 @@ const BEACON: [Tuple; 10] = [
 ];
 
 /// Their update of clause 10a-4.2.
-const BEACON_UPDATE: [Tuple; 11] = [
+pub const BEACON_UPDATE: [Tuple; 11] = [
     (22, 1, 0, 3, ""),
     (26, 1, 1, 3, ""),
     (29, 2, 2, 1, "32"),

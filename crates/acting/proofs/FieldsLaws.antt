@@ -16,9 +16,9 @@ use Rattle.skeleton.specs.Shape.{Bounded}
 use Rattle.skeleton.specs.declared.directory.Shape.{Shape}
 use Rattle.skeleton.specs.declared.place.Place.{Place}
 use Rattle.skeleton.specs.declared.place.Place.the-variants.{At, Done}
-use Rattle.skeleton.proofs.PlaceLaws.{place-falls, place-runs, place-in, fields-more, fields-done}
+use Rattle.skeleton.proofs.PlaceLaws.{place-falls, place-runs, place-in, fields-done}
 use Rattle.skeleton.proofs.RecordLaws.{right}
-use Rattle.skeleton.proofs.BetweenLaws.{length-between, between-between}
+use Rattle.skeleton.proofs.BetweenLaws.{length-between, fields-within}
 use Rattle.fields.specs.Valid.{Bytes}
 use Rattle.rules.specs.Tags.{ATTR, INAS, SPAS, COCC, C2IT}
 use Rattle.rules.specs.ByTag.{withTag}
@@ -204,7 +204,7 @@ module _ (d u : List ℕ) (at len : ℕ) (h : Shape) (w : List ℕ) (v : Version
       rest = fieldsAt rs h next
 
       fields-are : fieldsAt rs h q ≡ here ∷ rest
-      fields-are = fields-more rs h q x en tag start end next y ∙ ap (λ (body : List ℕ). fieldAs tag body ∷ rest) (between-between u at len start end within)
+      fields-are = fields-within u at len h q x en tag start end next y within
 
       due-here : Due (v .kind) here × Each (Due (v .kind)) rest
       unfolding Each

@@ -1,5 +1,7 @@
 -- What each of a list has: of parts of lists, of lists joined, and of what is made of each. Assumes nothing.
+use Prim.Native.Nat.{ℕ, zero, suc}
 use mathlib.Core.List.{List, [], _∷_, _++_}
+use lib.ListN.{take, drop}
 use Rattle.base.specs.Lists.{gather, Each}
 
 -- none
@@ -30,6 +32,19 @@ pub each-gathered : {A B : Type 0} (P : B → Type 0) (f : A → List B) (l : Li
 unfolding Each gather
 each-gathered P f [] e = tt
 each-gathered P f (x ∷ l) e = each-join P (f x) (gather f l) (e .0) (each-gathered P f l (e .1))
+
+-- the first n of a list, and those behind them
+pub each-taken : {A : Type 0} (P : A → Type 0) (n : ℕ) (l : List A) → Each P l → Each P (take n l)
+unfolding Each
+each-taken P zero l e = tt
+each-taken P (suc n) [] e = tt
+each-taken P (suc n) (x ∷ l) e = (e .0, each-taken P n l (e .1))
+
+pub each-dropped : {A : Type 0} (P : A → Type 0) (n : ℕ) (l : List A) → Each P l → Each P (drop n l)
+unfolding Each
+each-dropped P zero l e = e
+each-dropped P (suc n) [] e = tt
+each-dropped P (suc n) (x ∷ l) e = each-dropped P n l (e .1)
 
 -- each of two lists joined
 pub each-parts : {A : Type 0} (P : A → Type 0) (a b : List A) → Each P (a ++ b) → Each P a × Each P b

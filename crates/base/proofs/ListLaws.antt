@@ -1,11 +1,12 @@
 -- What is made of each thing of a list, or gathered from it: how many, of lists joined, and of parts of a list. Assumes nothing.
 use mathlib.Core.Path.{_≡_, refl, ap, _∙_}
 use mathlib.Core.List.{List, [], _∷_, _++_}
-use Prim.Native.Nat.{ℕ, zero, suc, _-_, _≤_}
+use Prim.Native.Nat.{ℕ, zero, suc, _+_, _-_, _≤_, _<_}
 use native.Mathlib.Omega.{arith}
 use native.Mathlib.Nat.{sub-zero, zero-sub, suc-sub-suc}
-use lib.ListN.{length, take, drop}
-use lib.Seq.{drop-nil, take-nil}
+use native.Mathlib.Numerals.{add-one, sub-one}
+use lib.ListN.{length, take, drop, getD}
+use lib.Seq.{drop-nil, take-nil, drop-cons}
 use Rattle.base.specs.Lists.{each, gather}
 
 -- what f makes of each is as many
@@ -52,6 +53,11 @@ each-gather f g (x ∷ xs) = each-append f (g x) (gather g xs) ∙ ap (λ (zs : 
 pub none-long : {A : Type 0} (l : List A) → length l ≤ 0 → l ≡ []
 none-long [] h = refl
 none-long (x ∷ l) h = absurd (omega arith)
+
+-- the first of those behind i things, and the others
+pub take-drop-cons : (i n : ℕ) (l : List ℕ) → i < length l → 0 < n → take n (drop i l) ≡ getD l i 0 ∷ take (n - 1) (drop (i + 1) l)
+take-drop-cons i zero l h k = absurd (omega arith)
+take-drop-cons i (suc n) l h k = rw (add-one, sub-one, drop-cons l i 0)
 
 -- the first m things, behind k of them
 pub drop-take : {A : Type 0} (k m : ℕ) (l : List A) → drop k (take m l) ≡ take (m - k) (drop k l)

@@ -1,16 +1,14 @@
 -- Joining and leaving by keys that are alike, and what things made of bodies do where the bodies do it. Assumes nothing.
 use Prim.Native.Nat.{ℕ}
-use mathlib.Core.Path.{_≡_, refl, sym, ap, subst}
+use mathlib.Core.Path.{_≡_, refl, sym, ap}
 use mathlib.Core.Bool.{Bool, true, false}
 use mathlib.Core.List.{List, [], _∷_, _++_}
-use native.Mathlib.Omega.{arith}
 use Rattle.base.specs.Choice.{pick}
 use Rattle.base.specs.Check.{Check, ok, no, bind, refuse}
 use Rattle.base.specs.Keys.{same, among, join, leave}
 use Rattle.base.specs.Lists.{each, Each}
-use Rattle.base.proofs.CheckLaws.{bind-inv, ok-inj}
 use Rattle.base.proofs.ListLaws.{each-append, each-each}
-use Rattle.base.proofs.EachLaws.{each-join}
+use Rattle.base.proofs.KeysLaws.{joined-each, left-each}
 use Rattle.cells.specs.Acts.{actOn, Acts}
 use Rattle.cells.specs.declared.acting.Acted.{Acted}
 
@@ -84,29 +82,7 @@ module _ {A : Type 0} (f : List ℕ → A) (key : A → List ℕ) (j : ℕ) wher
 -- ---- what holds of each body, and of one that joins, holds of each afterwards
 
 module _ (P : List ℕ → Type 0) (key : List ℕ → List ℕ) (j : ℕ) where
-  join-every : (b : List ℕ) (bs cs : List (List ℕ)) → P b → Each P bs → join key j b bs ≡ ok cs → Each P cs
-  unfolding join Each
-  join-every b bs cs p q e = go (among (key b) (each key bs)) e
-    where
-      go : (t : Bool) → pick t (refuse 7 j) (ok (bs ++ (b ∷ []))) ≡ ok cs → Each P cs
-      go true x = absurd (let z : _≡_ {A = ℕ} 0 1 = cc in omega arith)
-      go false x = let s : bs ++ (b ∷ []) ≡ cs = cc in rw s at (each-join P bs (b ∷ []) q (p, tt))
-
-  leave-every : (k : List ℕ) (bs cs : List (List ℕ)) → Each P bs → leave key j k bs ≡ ok cs → Each P cs
-  unfolding leave Each
-  leave-every k [] cs q e = absurd (let z : _≡_ {A = ℕ} 0 1 = cc in omega arith)
-  leave-every k (b ∷ bs) cs q e = go (same (key b) k) (leave key j k bs) (λ ys x. leave-every k bs ys (q .1) x) e
-    where
-      go : (t : Bool) (m : Check (List (List ℕ))) → ((ys : List (List ℕ)) → m ≡ ok ys → Each P ys)
-          → pick t (ok bs) (bind m (λ ys. ok (b ∷ ys))) ≡ ok cs → Each P cs
-      go true m ih x = let s : bs ≡ cs = cc in rw s at (q .1)
-      go false m ih x =
-          let r = bind-inv m (λ (ys : List (List ℕ)). ok (b ∷ ys)) cs x in
-          let s : b ∷ r .0 ≡ cs = ok-inj (b ∷ r .0) cs (r .2) in
-          let every : Each P (b ∷ r .0) = (q .0, ih (r .0) (r .1)) in
-          subst (Each P) s every
-
   pub acted-every : (inserted : Bool) (b : List ℕ) (bs cs : List (List ℕ)) → Each P bs → (inserted ≡ true → P b) → actOn key inserted j b bs ≡ ok cs → Each P cs
   unfolding actOn
-  acted-every true b bs cs q p e = join-every b bs cs (p refl) q e
-  acted-every false b bs cs q p e = leave-every (key b) bs cs q e
+  acted-every true b bs cs q p e = joined-each P key j b bs cs (p refl) q e
+  acted-every false b bs cs q p e = left-each P key j (key b) bs cs q e

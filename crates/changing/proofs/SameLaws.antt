@@ -19,9 +19,9 @@ use Rattle.skeleton.specs.declared.directory.Shape.{Shape}
 use Rattle.skeleton.specs.declared.leader.Head.the-variants.{Good}
 use Rattle.skeleton.specs.declared.place.Place.{Place}
 use Rattle.skeleton.specs.declared.place.Place.the-variants.{At, Done}
-use Rattle.skeleton.proofs.PlaceLaws.{place-falls, place-runs, place-in, fields-more, fields-done}
+use Rattle.skeleton.proofs.PlaceLaws.{place-falls, place-runs, place-in, fields-done}
 use Rattle.skeleton.proofs.RecordLaws.{right}
-use Rattle.skeleton.proofs.BetweenLaws.{length-between, between-between}
+use Rattle.skeleton.proofs.BetweenLaws.{length-between, fields-within}
 use Rattle.rules.specs.Tags.{FOID}
 use Rattle.rules.specs.Record.{Rec, foidOf}
 use Rattle.rules.specs.Change.{sameFoid}
@@ -126,7 +126,7 @@ module _ (d u : List ℕ) (at len : ℕ) (h : Shape) (v : Version) (q i : ℕ) (
       rest = fieldsAt rs h next
 
       fields-are : fieldsAt rs h q ≡ here ∷ rest
-      fields-are = fields-more rs h q e en tag start end next y ∙ ap (λ (body : List ℕ). fieldAs tag body ∷ rest) (between-between u at len start end within)
+      fields-are = fields-within u at len h q e en tag start end next y within
 
       foids-here : FoidFilled here × Each FoidFilled rest
       unfolding Each

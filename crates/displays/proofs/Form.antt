@@ -9,8 +9,8 @@ use Rattle.rules.specs.Written.{Dataset, writtenBytes, count}
 use Rattle.rules.specs.Outcome.{done, andThen}
 use Rattle.rules.specs.File.{readDataset, writable}
 use Rattle.rules.specs.Answers.{success, notTooLong, readOutcome, roomFor, outputOf, writeOutcome, write}
+use Rattle.rules.proofs.OutcomeLaws.{refuses}
 use Rattle.sequence.proofs.Tests.{by-bool}
-use Rattle.updates.proofs.Read.{refuses}
 use Rattle.displays.specs.Display.{taken}
 use Rattle.displays.proofs.Room.{takes}
 

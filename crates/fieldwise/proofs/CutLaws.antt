@@ -1,8 +1,8 @@
 -- A record that is right, cut out of its file: its leader says what it said there, and a reader of it passes its fields. Assumes nothing.
-use mathlib.Core.Path.{_≡_, refl, sym, ap, subst}
+use mathlib.Core.Path.{_≡_, refl, sym, ap, subst, _∙_}
 use mathlib.Core.List.{List, [], _∷_}
 use mathlib.Core.Bool.{Bool, true, false}
-use Prim.Native.Nat.{ℕ, zero, suc, _+_, _≤_}
+use Prim.Native.Nat.{ℕ, zero, suc, _+_, _-_, _≤_}
 use native.Mathlib.Omega.{arith}
 use borrow.Author.Tests.{le-ltb}
 use lib.Dec.{eqb, ltb}
@@ -11,6 +11,7 @@ use lib.Seq.{take-take, getD-take, length-take-le}
 use Rattle.base.specs.Choice.{both}
 use Rattle.base.specs.Lists.{each}
 use Rattle.base.proofs.ChoiceLaws.{by-test}
+use Rattle.base.proofs.ListLaws.{drop-take}
 use Rattle.skeleton.specs.Digits.{digits, digitsFrom, numberAt}
 use Rattle.skeleton.specs.Directory.{fieldsOf}
 use Rattle.skeleton.specs.File.{cutOut}
@@ -30,10 +31,7 @@ use Rattle.fieldwise.proofs.ReaderLaws.{refused, passed-fields}
 
 -- k bytes from i on
 pub window-cut : (i k n : ℕ) (l : List ℕ) → i + k ≤ n → take k (drop i (take n l)) ≡ take k (drop i l)
-window-cut zero k n l h = take-take k n l (omega arith)
-window-cut (suc i) k zero l h = absurd (omega arith)
-window-cut (suc i) k (suc n) [] h = refl
-window-cut (suc i) k (suc n) (x ∷ l) h = window-cut i k n l (omega arith)
+window-cut i k n l h = ap (take k) (drop-take i n l) ∙ take-take k (n - i) (drop i l) (omega arith)
 
 number-cut : (s : List ℕ) (at w n : ℕ) → at + w ≤ n → numberAt (take n s) at w ≡ numberAt s at w
 unfolding digitsFrom

@@ -8,7 +8,8 @@ use native.Mathlib.Omega.{arith}
 use borrow.Author.Tests.{ne-eqb}
 use lib.ListN.{length, drop}
 use Rattle.base.specs.Choice.{pick}
-use Rattle.base.specs.Lists.{each}
+use Rattle.base.specs.Lists.{each, Each}
+use Rattle.base.proofs.EachLaws.{each-dropped}
 use Rattle.base.specs.Keys.{same}
 use Rattle.base.specs.Walk.{Got}
 use Rattle.base.proofs.KeysLaws.{same-sound, same-refl}
@@ -23,7 +24,7 @@ use Rattle.sequence.specs.Keyed.{find, Once}
 use Rattle.updates.specs.Acts.{chart}
 use Rattle.updates.specs.Accepted.{Writable}
 use Rattle.stock.specs.Stored.{Stored}
-use Rattle.stock.specs.Stock.{recBy, recIn, AllStored, stockFrom, Stock}
+use Rattle.stock.specs.Stock.{recBy, recIn, AnyStored, stockFrom, Stock}
 use Rattle.stock.proofs.StockLaws.{stock-good, stock-here}
 use Rattle.keys.specs.Key.{keyAt, kindRanked}
 use Rattle.keys.specs.Listed.{keyOf, keysFrom, listed, hasFrom}
@@ -60,9 +61,9 @@ said k fs s =
     record { ranged = rw e (n .ranged); number = rw e (n .number) }
 
 -- a key that is not listed is not found
-pub none-listed : (items : List (List Field)) → AllStored items → (k : List ℕ) → Ranged k → listed (numberOf k) (each keyOf items) ≡ false
+pub none-listed : (items : List (List Field)) → Each AnyStored items → (k : List ℕ) → Ranged k → listed (numberOf k) (each keyOf items) ≡ false
     → find chart k (each recIn items) ≡ none
-unfolding AllStored each find
+unfolding Each each find
 none-listed [] s k r e = refl
 none-listed (fs ∷ items) s k r e =
     let t = said (s .0 .0) fs (s .0 .1) in
@@ -94,22 +95,15 @@ once-found (suc i) (gs ∷ items) o fs later e =
 
 -- ---- `locate`
 
--- the records from i on are such as the first are
-stored-drop : (i : ℕ) (items : List (List Field)) → AllStored items → AllStored (drop i items)
-unfolding AllStored
-stored-drop zero items s = s
-stored-drop (suc i) [] s = s
-stored-drop (suc i) (fs ∷ items) s = stored-drop i items (s .1)
-
 module _ (d : List ℕ) (ds : ℕ) (s : Stock d ds) (o : Once chart (stockFrom d ds)) (key : ℕ) where
   sits-stock : (r : ℕ) → Sits d ds key r → Stock d r
-  sits-stock r t = record { ended = t .tail .sound .clean; right = rw (t .tail .same) at (stored-drop (t .tail .skipped) ((recordsFrom d ds) .items) (s .right)) }
+  sits-stock r t = record { ended = t .tail .sound .clean; right = rw (t .tail .same) at (each-dropped AnyStored (t .tail .skipped) ((recordsFrom d ds) .items) (s .right)) }
 
   sits-stands : (r : ℕ) → Sits d ds key r → Stands d ds key (recIn (recordHere d r))
-  unfolding stockFrom AllStored
+  unfolding stockFrom Each
   sits-stands r t =
       let h = here-keyed d r key (t .later) (t .keys) in
-      let a : AllStored (recordHere d r ∷ drop 1 ((recordsFrom d r) .items)) = rw (h .0) at (sits-stock r t .right) in
+      let a : Each AnyStored (recordHere d r ∷ drop 1 ((recordsFrom d r) .items)) = rw (h .0) at (sits-stock r t .right) in
       let b = said (a .0 .0) (recordHere d r) (a .0 .1) in
       record {
         ranged = b .ranged;

@@ -11,7 +11,8 @@ use lib.ListN.{length, getD, take, drop, length-drop}
 use lib.Seq.{take-suc, take-all, drop-cons}
 use Rattle.base.specs.Choice.{pick}
 use Rattle.base.specs.Check.{Check, ok, no, bind, fault}
-use Rattle.base.specs.Lists.{each}
+use Rattle.base.specs.Lists.{each, Each}
+use Rattle.base.proofs.EachLaws.{each-taken}
 use Rattle.base.specs.Keys.{same}
 use Rattle.base.specs.Walk.{Got}
 use Rattle.base.proofs.CheckLaws.{bind-inv}
@@ -29,7 +30,7 @@ use Rattle.updates.specs.Acts.{chart, inUpdate}
 use Rattle.updates.specs.Streamed.{verdicts}
 use Rattle.updates.proofs.Acted.{lawful}
 use Rattle.stock.specs.Stock.{stockFrom}
-use Rattle.incoming.specs.Fitting.{Single, AllSingle, Rest}
+use Rattle.incoming.specs.Fitting.{Single, Rest}
 use Rattle.keys.specs.Bits.{flagOf}
 use Rattle.keys.specs.Key.{rankOf}
 use Rattle.keys.specs.Listed.{keyOf, keysFrom, listed}
@@ -71,14 +72,9 @@ keys-drop zero items = refl
 keys-drop (suc j) [] = refl
 keys-drop (suc j) (fs ∷ items) = keys-drop j items
 
-singles-take : (j : ℕ) (items : List (List Field)) → AllSingle items → AllSingle (take j items)
-singles-take zero items s = tt
-singles-take (suc j) [] s = tt
-singles-take (suc j) (fs ∷ items) s = (s .0, singles-take j items (s .1))
-
 -- a key that is not listed is not named
-pub none-named : (items : List (List Field)) → AllSingle items → (k : List ℕ) → Ranged k → listed (numberOf k) (each keyOf items) ≡ false → named chart k items ≡ false
-unfolding named each
+pub none-named : (items : List (List Field)) → Each Single items → (k : List ℕ) → Ranged k → listed (numberOf k) (each keyOf items) ≡ false → named chart k items ≡ false
+unfolding named each Each
 none-named [] s k r e = refl
 none-named (fs ∷ items) s k r e =
     let n = single-named fs (s .0) in
@@ -116,7 +112,7 @@ module _ (d : List ℕ) (ds : ℕ) (u : List ℕ) (us : ℕ) (y : Ready d ds u u
             let c : listed key (take j (each keyOf items)) ≡ false = flags-clear (take j (each keyOf items)) (flagArea w) key f x in
             let g : listed (numberOf k) (each keyOf (take j items)) ≡ false
             = ap (λ (n : ℕ). listed n (each keyOf (take j items))) i ∙ ap (listed key) (keys-take j items) ∙ c in
-            let h = none-named (take j items) (singles-take j items (y .rest .singles)) k r g in
+            let h = none-named (take j items) (each-taken Single j items (y .rest .singles)) k r g in
             rw z (sym (history-none chart k (take j items) (find chart k (stockFrom d ds)) h))
 
     pub standing-played : (v : List ℕ) (c : Changed) → Latest d ds u us m key w v c → Latest d ds u us j key w v c
@@ -129,7 +125,8 @@ module _ (d : List ℕ) (ds : ℕ) (u : List ℕ) (us : ℕ) (y : Ready d ds u u
 
 module _ (d : List ℕ) (ds : ℕ) (u : List ℕ) (us j q key : ℕ) (a : Reached u us j q) (n : Names u q key) where
   here-named : Named (recordHere u q)
-  here-named = let s : AllSingle (recordHere u q ∷ n .later) = subst AllSingle (n .split) (a .rest .singles) in single-named (recordHere u q) (s .0)
+  unfolding Each
+  here-named = let s : Each Single (recordHere u q ∷ n .later) = subst (Each Single) (n .split) (a .rest .singles) in single-named (recordHere u q) (s .0)
 
   module _ (w v : List ℕ) (c : Changed) (l : Latest d ds u us j key w v c) where
     came-of : ChangedTo d u v (version chart (stockFrom d ds) (take j ((recordsFrom u us) .items)) (namedIn (recordHere u q))) c

@@ -10,7 +10,7 @@ use borrow.Author.Tests.{eq-eqb, ne-eqb, ltb-true, ltb-false}
 use lib.ListN.{length, take}
 use lib.Dec.{eqb, ltb}
 use Rattle.base.specs.Check.{Check, ok, no, fault}
-use Rattle.base.specs.Lists.{each}
+use Rattle.base.specs.Lists.{each, Each}
 use Rattle.base.specs.Keys.{same}
 use Rattle.base.specs.Walk.{Got}
 use Rattle.skeleton.specs.File.{Field, recordsFrom}
@@ -25,7 +25,7 @@ use Rattle.updates.specs.Acts.{chart}
 use Rattle.updates.specs.Accepted.{Writable}
 use Rattle.updates.proofs.Acted.{lawful}
 use Rattle.stock.specs.Stock.{recIn, stockFrom}
-use Rattle.incoming.specs.Fitting.{Single, AllSingle, Rest}
+use Rattle.incoming.specs.Fitting.{Single, Rest}
 use Rattle.keys.specs.Listed.{keyOf, keysFrom, listed, hasFrom}
 use Rattle.keys.specs.Look.{lookAt, Sound}
 use Rattle.keys.specs.Numbered.{numberOf, Ranged}
@@ -51,8 +51,8 @@ use Rattle.history.proofs.ActingLaws.{named-as}
 -- ---- an update record that a quick look finds
 
 -- each has a key
-singles-keyed : (items : List (List Field)) → AllSingle items → listed 0 (each keyOf items) ≡ false
-unfolding each
+singles-keyed : (items : List (List Field)) → Each Single items → listed 0 (each keyOf items) ≡ false
+unfolding each Each
 singles-keyed [] s = listed-none 0
 singles-keyed (fs ∷ items) s =
     listed-later 0 (keyOf fs) (each keyOf items) (known-sent (s .0 .kind) fs (s .0 .right) .keyed .some) ∙ singles-keyed items (s .1)
@@ -84,11 +84,12 @@ single-named fs s =
     record { ranged = subst Ranged (sym e) (n .ranged); number = n .number ∙ ap numberOf (sym e) }
 
 pub met : (u : List ℕ) (q : ℕ) → Rest u q → Sound u q → (e : Look) → e ≡ lookAt u q → (len key : ℕ) → e ≡ At len key → Met u q len key
+unfolding Each
 met u q s o e en len key x =
     let n = sound-next u q o e en len key x in
     let h = here-keyed u q key (keysFrom u (q + len)) (n .found .keys) in
     let y : (recordsFrom u q) .items ≡ recordHere u q ∷ (recordsFrom u (q + len)) .items = h .0 ∙ ap (λ (l : List (List Field)). recordHere u q ∷ l) (n .found .later) in
-    let a : AllSingle (recordHere u q ∷ (recordsFrom u (q + len)) .items) = subst AllSingle y (s .singles) in
+    let a : Each Single (recordHere u q ∷ (recordsFrom u (q + len)) .items) = subst (Each Single) y (s .singles) in
     let m = single-named (recordHere u q) (a .0) in
     record {
       split = y;

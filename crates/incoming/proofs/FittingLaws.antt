@@ -1,14 +1,11 @@
 -- What is known of an update that has passed, and of its refusal. Assumes nothing.
 use mathlib.Core.Path.{_≡_, refl, sym, _∙_, ap}
-use mathlib.Core.Bool.{Bool, true, false}
 use mathlib.Core.List.{List, [], _∷_, _++_}
 use Prim.Native.Nat.{ℕ, _+_, _≤_, _<_}
 use native.Mathlib.Omega.{arith}
-use borrow.Author.Tests.{eqb-true}
-use lib.Dec.{eqb, leb}
 use lib.ListN.{length, drop, getD}
-use Rattle.base.specs.Choice.{pick}
 use Rattle.base.specs.Check.{ok, fault, pass, passed}
+use Rattle.base.specs.Lists.{Each}
 use Rattle.base.specs.Walk.{Got, before}
 use Rattle.base.proofs.CheckLaws.{bind-inv, ok-inj}
 use Rattle.skeleton.specs.File.{Field, recordsFrom, recordsOf}
@@ -24,11 +21,12 @@ use Rattle.rules.specs.Outcome.{Outcome, done, refused, andThen, at}
 use Rattle.rules.specs.File.{Sent, sentAs, updateTest, through, ending, taken, readUpdate}
 use Rattle.rules.specs.declared.Mode.the-variants.{InUpdate}
 use Rattle.rules.proofs.OutcomeLaws.{andThen-inv, at-inv}
+use Rattle.rules.proofs.FileLaws.{ending-inv}
 use Rattle.opening.specs.Carried.{carried, unread, firstTwo}
 use Rattle.opening.proofs.OpeningLaws.{carried-over}
 use Rattle.dataset.proofs.FileLaws.{AtFile, file-then, file-done, file-two, file-taken}
 use Rattle.incoming.specs.Came.{thirdOn, placeIn, behindTwo, cameBy}
-use Rattle.incoming.specs.Fitting.{Single, AllSingle, Rest, Fitting}
+use Rattle.incoming.specs.Fitting.{Single, Rest, Fitting}
 use Rattle.incoming.specs.declared.walk.Came.the-variants.{Fit, Stopped}
 use Rattle.incoming.proofs.ComingLaws.{own, test-third, whole, two-inside}
 
@@ -59,8 +57,8 @@ single : (fs : List Field) → own fs ≡ pass → Single fs
 unfolding passed
 single fs e = let a = bind-inv (updateRecord fs) (λ _. pass) tt e in record { kind = a .0; right = a .1 }
 
-singles : (items : List (List Field)) (n : ℕ) (recs : List Rec) → 3 ≤ n → through updateTest 2 n [] items ≡ done recs → AllSingle items
-unfolding through
+singles : (items : List (List Field)) (n : ℕ) (recs : List Rec) → 3 ≤ n → through updateTest 2 n [] items ≡ done recs → Each Single items
+unfolding through Each
 singles [] n recs h e = tt
 singles (fs ∷ items) n recs h e =
     let p = andThen-inv (at 2 n (updateTest n [] fs)) _ recs e in
@@ -72,21 +70,12 @@ singles (fs ∷ items) n recs h e =
     = ap (λ (l : List Rec). through updateTest 2 (n + 1) (l ++ []) items) none ∙ s .1 in
     (single fs (r .1), singles items (n + 1) (s .0) (omega arith) t)
 
-ended-well : (least n e : ℕ) (recs all : List Rec) → ending 2 least n e recs ≡ done all → e ≡ 0
-unfolding ending
-ended-well least n e recs all z = go (eqb e 0) refl z
-  where
-    go : (t : Bool) → eqb e 0 ≡ t
-        → pick t (pick (leb n least) (refused 2 n (fault 4 0 0)) (done recs)) (refused 2 n (fault e 0 0)) ≡ done all → e ≡ 0
-    go true y w = eqb-true e 0 y
-    go false y w = absurd (let v : _≡_ {A = ℕ} 0 1 = cc in omega arith)
-
 rest-of : (u : List ℕ) (start : ℕ) (recs : List Rec) → thirdOn u 3 start ≡ done recs → Rest u start
 unfolding thirdOn taken
 rest-of u start recs e =
     let p = andThen-inv (through updateTest 2 3 [] ((recordsFrom u start) .items)) _ recs e in
     record {
-      ended = ended-well 2 (3 + length ((recordsFrom u start) .items)) ((recordsFrom u start) .ending) (p .0) recs (p .2);
+      ended = ending-inv 2 2 (3 + length ((recordsFrom u start) .items)) ((recordsFrom u start) .ending) (p .0) recs (p .2) .0;
       singles = singles ((recordsFrom u start) .items) 3 (p .0) (omega arith) (p .1);
     }
 
@@ -145,10 +134,12 @@ module _ (u : List ℕ) (p : ℕ) (s : Rest u p) (l : p < length u) (q : Head) (
   module _ (len base a b : ℕ) (x : q ≡ Good len base a b) where
     -- this one is right on its own
     pub rest-here : Single (fieldsAt (between u p (p + len)) (record { base = base; a = a; b = b }) 24)
+    unfolding Each
     rest-here = let z = rw (records-more u p l q eq len base a b x) at (s .singles) in z .0
 
     -- and so are those behind it
     pub rest-more : Rest u (p + len)
+    unfolding Each
     rest-more = record {
       ended = rw (records-more u p l q eq len base a b x) at (s .ended);
       singles = let z = rw (records-more u p l q eq len base a b x) at (s .singles) in z .1;

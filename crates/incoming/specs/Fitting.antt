@@ -1,9 +1,10 @@
 -- What is known of an update that has passed.
 use Prim.Native.Nat.{ℕ, _+_, _≤_}
 use mathlib.Core.Path.{_≡_}
-use mathlib.Core.List.{List, [], _∷_}
+use mathlib.Core.List.{List, []}
 use lib.ListN.{length, getD, drop}
 use Rattle.base.specs.Check.{ok, pass}
+use Rattle.base.specs.Lists.{Each}
 use Rattle.base.specs.Walk.{Got}
 use Rattle.skeleton.specs.File.{Field, recordsFrom, recordsOf}
 use Rattle.skeleton.specs.Place.{between, fieldsAt}
@@ -22,15 +23,10 @@ pub record Single (fs : List Field) : Type 0 where
   pub kind : Kind
   pub right : updateRecord fs ≡ ok kind
 
--- each of these records is such
-abbrev pub AllSingle : List (List Field) → Type 0
-AllSingle [] = Unit {0}
-AllSingle (fs ∷ rest) = Single fs × AllSingle rest
-
 -- the records from byte p on: the skeleton refuses none, and each is right on its own
 pub record Rest (u : List ℕ) (p : ℕ) : Type 0 where
   pub ended : (recordsFrom u p) .ending ≡ 0
-  pub singles : AllSingle ((recordsFrom u p) .items)
+  pub singles : Each Single ((recordsFrom u p) .items)
 
 -- an update that has passed: its records after the second begin at start; the second, its general record, is at `second` and of so many bytes
 pub record Fitting (u : List ℕ) (start : ℕ) : Type 0 where

@@ -10,7 +10,7 @@ use lib.ListN.{length}
 use lib.Dec.{ltb}
 use Rattle.base.specs.Choice.{pick}
 use Rattle.base.specs.Check.{Check, ok, no, bind, fault, Passed, pass}
-use Rattle.base.specs.Lists.{each}
+use Rattle.base.specs.Lists.{each, Each}
 use Rattle.base.specs.Keys.{among}
 use Rattle.base.proofs.CheckLaws.{bind-inv, ok-inj, refused}
 use Rattle.skeleton.specs.File.{Field}
@@ -30,7 +30,7 @@ use Rattle.rules.proofs.KindLaws.{tag-of-kind}
 use Rattle.rules.proofs.FileLaws.{through-later}
 use Rattle.keys.specs.Listed.{keyOf, listed}
 use Rattle.keys.specs.Numbered.{numberOf, Ranged, Numbered}
-use Rattle.keys.specs.Standing.{fourToSix, Fine, AllFine}
+use Rattle.keys.specs.Standing.{fourToSix, Fine}
 use Rattle.keys.proofs.ListLaws.{listed-none, listed-later}
 use Rattle.keys.proofs.NumberLaws.{numbered-none, numbered-front}
 use Rattle.keys.proofs.IdentLaws.{Keyed, keyed-passed}
@@ -158,17 +158,17 @@ pub record ReadAll (items : List (List Field)) (recs : List Rec) : Type 0 where
   pub numbered : Numbered recs (each keyOf items)
   pub keyed : listed 0 (each keyOf items) ≡ false
   pub counted : length recs ≡ length (each keyOf items)
-  pub fine : AllFine items
+  pub fine : Each Fine items
 
 read-none : (recs : List Rec) → done [] ≡ done recs → ReadAll [] recs
-unfolding each
+unfolding each Each
 read-none recs e =
     let none-read : ReadAll [] [] = record { numbered = numbered-none; keyed = listed-none 0; counted = refl; fine = tt } in
     rw (done-inj [] recs e) at none-read
 
 read-more : (fs : List Field) (items : List (List Field)) (r : Rec) (later recs : List Rec) → Read fs r → ReadAll items later → r ∷ later ≡ recs
     → ReadAll (fs ∷ items) recs
-unfolding each
+unfolding each Each
 read-more fs items r later recs p q e =
     let all : ReadAll (fs ∷ items) (r ∷ later) = record {
       numbered = numbered-front r later (each keyOf items) (keyOf fs) (q .numbered) (p .ranged) (p .number);

@@ -4,12 +4,9 @@ use mathlib.Core.List.{List, [], _∷_}
 use mathlib.Core.Bool.{Bool, true, false}
 use Prim.Native.Nat.{ℕ, _+_, _≤_, _<_}
 use native.Mathlib.Omega.{arith}
-use borrow.Author.Tests.{lt-leb, eqb-true}
 use lib.ListN.{length, take}
-use lib.Dec.{eqb, leb}
-use Rattle.base.specs.Choice.{pick}
 use Rattle.base.specs.Check.{ok, no, fault, Passed}
-use Rattle.base.specs.Lists.{each}
+use Rattle.base.specs.Lists.{each, Each}
 use Rattle.base.specs.Keys.{among}
 use Rattle.base.specs.Walk.{Got}
 use Rattle.base.specs.declared.Fault.{Fault}
@@ -22,8 +19,8 @@ use Rattle.skeleton.proofs.FileLaws.{records-over, records-more}
 use Rattle.rules.specs.Associations.{Mark, marks, number11}
 use Rattle.rules.specs.Record.{Rec, keyOf as keyInRules}
 use Rattle.rules.specs.Outcome.{Outcome, done, refused, andThen, at, everyRecord}
-use Rattle.rules.specs.File.{datasetTest, through, ending, taken, references}
-use Rattle.rules.proofs.OutcomeLaws.{andThen-inv, done-inj}
+use Rattle.rules.specs.File.{datasetTest, ending, taken, references}
+use Rattle.rules.proofs.FileLaws.{taken-inv}
 use Rattle.keys.specs.Key.{keyAt}
 use Rattle.keys.specs.Listed.{keysFrom, hasFrom}
 use Rattle.keys.specs.Look.{Sound}
@@ -42,22 +39,12 @@ pub record Reads (f : List ℕ) (start : ℕ) (recs : List Rec) : Type 0 where
   pub counted : length recs ≡ length (keysFrom f start)
   pub fine : FineFrom f start
 
--- a file that ends well gives what it was given
-ends-well : (n e : ℕ) (recs recs' : List Rec) (t : Bool) → eqb e 0 ≡ t
-    → pick t (pick (leb (4 + n) 3) (refused 1 (4 + n) (fault 4 0 0)) (done recs)) (refused 1 (4 + n) (fault e 0 0)) ≡ done recs' → (e ≡ 0) × (recs ≡ recs')
-ends-well n e recs recs' true x h =
-    let d : done recs ≡ done recs' = simp (lt-leb (4 + n) 3 (omega arith)) at h in
-    (eqb-true e 0 x, done-inj recs recs' d)
-ends-well n e recs recs' false x h = absurd (let z : _≡_ {A = ℕ} 0 1 = cc in omega arith)
-
 pub taken-reads : (f : List ℕ) (start : ℕ) (recs : List Rec) → taken datasetTest 1 3 4 [] (recordsFrom f start) ≡ done recs → Reads f start recs
-unfolding taken ending keysFrom hasFrom FineFrom
+unfolding keysFrom hasFrom FineFrom
 taken-reads f start recs e =
-    let g = recordsFrom f start in
-    let p = andThen-inv (through datasetTest 1 4 [] (g .items)) _ recs e in
-    let w = ends-well (length (g .items)) (g .ending) (p .0) recs (eqb (g .ending) 0) refl (p .2) in
-    let r : ReadAll (g .items) recs = rw (w .1) at (through-read (g .items) 4 [] (p .0) (omega arith) (p .1)) in
-    record { clean = w .0; keyed = r .keyed; numbered = r .numbered; counted = r .counted; fine = r .fine }
+    let a = taken-inv (recordsFrom f start) recs e in
+    let r = through-read ((recordsFrom f start) .items) 4 [] recs (omega arith) (a .1) in
+    record { clean = a .0; keyed = r .keyed; numbered = r .numbered; counted = r .counted; fine = r .fine }
 
 -- no refusal: there are such records
 pub unread-done : {A : Type 0} (o : Outcome A) → unread o ≡ done tt → (a : A) × (o ≡ done a)
@@ -84,7 +71,7 @@ passed-fine f start e = let r = outcome-reads f start e in r .1 .fine
 -- at each record its fields have their formats
 module _ (f : List ℕ) (p : ℕ) (g : FineFrom f p) (l : p < length f) (h : Head) (eh : h ≡ recordAt f p) (len base a b : ℕ) (y : h ≡ Good len base a b) where
   fine-parts : Fine (fieldsAt (between f p (p + len)) (record { base = base; a = a; b = b }) 24) × FineFrom f (p + len)
-  unfolding FineFrom
+  unfolding FineFrom Each
   fine-parts = rw (records-more f p l h eh len base a b y) at g
 
   pub fine-here : Fine (fieldsAt (between f p (p + len)) (record { base = base; a = a; b = b }) 24)

@@ -1,10 +1,10 @@
 -- A dataset from the record at hand on: what a loop over its records after the third stands on.
 use Prim.Native.Nat.{ℕ, _+_}
 use mathlib.Core.Path.{_≡_}
-use mathlib.Core.List.{List, [], _∷_}
+use mathlib.Core.List.{List}
 use lib.ListN.{take, drop}
 use Rattle.base.specs.Check.{Check, ok, bind, pass}
-use Rattle.base.specs.Lists.{each}
+use Rattle.base.specs.Lists.{each, Each}
 use Rattle.base.specs.Walk.{Got}
 use Rattle.skeleton.specs.File.{Field, recordsFrom}
 use Rattle.rules.specs.ByTag.{firstTag}
@@ -57,11 +57,6 @@ pub record Fine (fs : List Field) : Type 0 where
   pub five : number5 InDataset kind fs ≡ pass
   pub tag : firstTag fs ≡ tagOf kind
 
--- each of these records is such
-abbrev pub AllFine : List (List Field) → Type 0
-AllFine [] = Unit {0}
-AllFine (fs ∷ rest) = Fine fs × AllFine rest
-
 -- each of the records from byte at on is such
 unfoldable pub FineFrom : List ℕ → ℕ → Type 0
-FineFrom f at = AllFine ((recordsFrom f at) .items)
+FineFrom f at = Each Fine ((recordsFrom f at) .items)

@@ -15,8 +15,8 @@ use Rattle.updates.specs.Acts.{chart, inUpdate}
 use Rattle.updates.specs.Streamed.{verdicts}
 use Rattle.sound.proofs.FileBytes.{Bodies, records-bytes}
 use Rattle.sound.proofs.Changed.{Sendable}
-use Rattle.stock.specs.Stock.{recIn, AllStored, stockFrom}
-use Rattle.incoming.specs.Fitting.{Single, AllSingle, Rest}
+use Rattle.stock.specs.Stock.{recIn, AnyStored, stockFrom}
+use Rattle.incoming.specs.Fitting.{Single, Rest}
 use Rattle.keys.specs.Listed.{keyOf, keysFrom}
 use Rattle.keys.specs.Look.{Sound}
 use Rattle.keys.specs.Numbered.{Numbered}
@@ -34,19 +34,19 @@ use Rattle.lasting.specs.Whole.{Whole}
 
 -- ---- the records of each
 
-stored-numbered : (items : List (List Field)) → AllStored items → Numbered (each recIn items) (each keyOf items)
-unfolding AllStored each
+stored-numbered : (items : List (List Field)) → Each AnyStored items → Numbered (each recIn items) (each keyOf items)
+unfolding Each each
 stored-numbered [] s = numbered-none
 stored-numbered (fs ∷ items) s =
     let t = said (s .0 .0) fs (s .0 .1) in
     numbered-front (recIn fs) (each recIn items) (each keyOf items) (keyOf fs) (stored-numbered items (s .1)) (t .ranged) (t .number)
 
-pub singles-known : (items : List (List Field)) → AllSingle items → Each Known items
+pub singles-known : (items : List (List Field)) → Each Single items → Each Known items
 unfolding Each
 singles-known [] s = tt
 singles-known (fs ∷ items) s = (known-right fs (s .0 .kind) (s .0 .right), singles-known items (s .1))
 
-singles-sendable : (items : List (List Field)) → AllSingle items → Each Bodies items → Each Sendable items
+singles-sendable : (items : List (List Field)) → Each Single items → Each Bodies items → Each Sendable items
 unfolding Each
 singles-sendable [] s b = tt
 singles-sendable (fs ∷ items) s b = (record { bytes = b .0; kind = s .0 .kind; tested = s .0 .right }, singles-sendable items (s .1) (b .1))

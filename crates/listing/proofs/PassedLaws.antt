@@ -1,15 +1,13 @@
 -- The records of a dataset that is read have passed their numbers. Assumes nothing.
-use mathlib.Core.Path.{_≡_, sym, ap, ap₂, _∙_}
+use mathlib.Core.Path.{_≡_, sym, ap, _∙_}
 use mathlib.Core.Bool.{Bool, true, false}
-use mathlib.Core.List.{List, [], _∷_}
-use Prim.Native.Nat.{ℕ, _+_, _≤_}
+use mathlib.Core.List.{List, []}
+use Prim.Native.Nat.{ℕ}
 use native.Mathlib.Omega.{arith}
-use borrow.Author.Tests.{eq-eqb, lt-leb}
-use lib.ListN.{length}
 use Rattle.base.specs.Choice.{pick}
-use Rattle.base.specs.Check.{Check, ok, no, bind, fault, Passed as Through}
+use Rattle.base.specs.Check.{ok, no, bind, fault, Passed as Through}
 use Rattle.base.specs.Keys.{among}
-use Rattle.base.specs.Lists.{each}
+use Rattle.base.specs.Lists.{each, Each}
 use Rattle.base.specs.Walk.{Got}
 use Rattle.base.proofs.CheckLaws.{bind-inv, ok-inj}
 use Rattle.skeleton.specs.File.{Field, recordsFrom, recordsOf}
@@ -19,17 +17,17 @@ use Rattle.rules.specs.Trees.{number6}
 use Rattle.rules.specs.Associations.{number7}
 use Rattle.rules.specs.Record.{Rec, keyOf, recOf, datasetRecord}
 use Rattle.rules.specs.Written.{Dataset}
-use Rattle.rules.specs.Outcome.{Outcome, done}
-use Rattle.rules.specs.File.{lastRank, datasetTest, through, ending, taken, Stored, storedAs, datasetOf, references, readDataset}
+use Rattle.rules.specs.Outcome.{done}
+use Rattle.rules.specs.File.{datasetTest, ending, taken, Stored, storedAs, datasetOf, references, readDataset}
 use Rattle.rules.specs.declared.Kind.{Kind}
 use Rattle.rules.specs.declared.Mode.the-variants.{InDataset}
 use Rattle.rules.proofs.OutcomeLaws.{andThen-inv, done-inj}
-use Rattle.rules.proofs.FileLaws.{through-later}
+use Rattle.rules.proofs.FileLaws.{taken-inv, through-each}
 use Rattle.contents.proofs.SevenLaws.{four-first}
 use Rattle.opening.specs.Carried.{firstThree}
 use Rattle.opening.proofs.OpeningLaws.{fromFourth, opened}
 use Rattle.keys.proofs.ReferenceLaws.{Reads, taken-reads}
-use Rattle.listing.specs.Said.{Passed, AllPassed, PassedFrom, recordIn}
+use Rattle.listing.specs.Said.{Passed, PassedFrom, recordIn}
 use Rattle.listing.proofs.SaidLaws.{record-is}
 
 -- ---- one record
@@ -49,32 +47,14 @@ record-passed least earlier fs r e =
     let same = seven-is (recOf (a .0) fs) r (among (keyOf (recOf (a .0) fs)) earlier) (number7 fs) (c .2) in
     (record { kind = a .0; tag = tag; five = b .1; six = c .1 }, sym same ∙ sym (record-is fs (a .0) tag))
 
--- ---- record after record
-
-through-passed : (items : List (List Field)) (n : ℕ) (seen recs : List Rec) → 4 ≤ n → through datasetTest 1 n seen items ≡ done recs
-    → AllPassed items × (recs ≡ each recordIn items)
-unfolding through each
-through-passed [] n seen recs h e = (tt, sym (done-inj [] recs e))
-through-passed (fs ∷ items) n seen recs h e =
-    let l = through-later fs items n seen recs h e in
-    let x = record-passed (lastRank seen) (each keyOf seen) fs (l .made) (l .passes) in
-    let y = through-passed items (n + 1) (l .made ∷ seen) (l .others) (omega arith) (l .onward) in
-    ((x .0, y .0), sym (l .all) ∙ ap₂ (λ (a : Rec) (rs : List Rec). a ∷ rs) (x .1) (y .1))
-
 -- ---- the records after the third
 
 module _ (f : List ℕ) (start : ℕ) (recs : List Rec) (e : fromFourth f start ≡ done recs) where
   pub fourth-clean : (recordsFrom f start) .ending ≡ 0
   fourth-clean = taken-reads f start recs e .clean
 
-  parts : AllPassed ((recordsFrom f start) .items) × (recs ≡ each recordIn ((recordsFrom f start) .items))
-  unfolding taken ending
-  parts =
-      let g = recordsFrom f start in
-      let p = andThen-inv (through datasetTest 1 4 [] (g .items)) _ recs e in
-      let same : done (p .0) ≡ done recs = simp (eq-eqb (g .ending) 0 fourth-clean, lt-leb (4 + length (g .items)) 3 (omega arith)) at (p .2) in
-      let r = through-passed (g .items) 4 [] (p .0) (omega arith) (p .1) in
-      (r .0, sym (done-inj (p .0) recs same) ∙ r .1)
+  parts : Each Passed ((recordsFrom f start) .items) × (recs ≡ each recordIn ((recordsFrom f start) .items))
+  parts = through-each Passed recordIn record-passed ((recordsFrom f start) .items) 4 [] recs (omega arith) (taken-inv (recordsFrom f start) recs e .1)
 
   pub fourth-passed : PassedFrom f start
   unfolding PassedFrom

@@ -5,7 +5,7 @@ use Prim.Native.Nat.{ℕ, _+_, _-_, _*_, _^_, _≤_, _<_}
 use native.Mathlib.Nat.{add-zero}
 use native.Mathlib.Omega.{arith}
 use lib.ListN.{length, length-append}
-use Rattle.base.specs.Lists.{each}
+use Rattle.base.specs.Lists.{each, Each}
 use Rattle.base.specs.Walk.{Got}
 use Rattle.memory.specs.Wrote.{Wrote}
 use Rattle.memory.proofs.PutLaws.{put-nil, put-put}
@@ -94,7 +94,7 @@ module _ (f : List ℕ) (start at : ℕ) (d : List ℕ) (p n q : ℕ) (e : List 
       fields = fieldsAt (between f p (p + len)) (record { base = base; a = a; b = b }) 24
 
       parts : Passed fields × PassedFrom f (p + len)
-      unfolding PassedFrom
+      unfolding PassedFrom Each
       parts = rw (records-more f p l h found len base a b x) at (s .passed)
 
       pub record-word : p + len < 2 ^ 64

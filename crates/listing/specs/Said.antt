@@ -6,6 +6,7 @@ use mathlib.Core.List.{List, [], _∷_}
 use lib.ListN.{length, getD}
 use Rattle.base.specs.Choice.{pick}
 use Rattle.base.specs.Check.{pass}
+use Rattle.base.specs.Lists.{Each}
 use Rattle.base.specs.Walk.{Got}
 use Rattle.skeleton.specs.File.{Field, recordsFrom}
 use Rattle.fields.specs.Table.{headOf, tupleOf}
@@ -57,14 +58,9 @@ pub record Passed (fs : List Field) : Type 0 where
   pub five : number5 InDataset kind fs ≡ pass
   pub six : number6 InDataset kind fs ≡ pass
 
--- each of these records is such
-abbrev pub AllPassed : List (List Field) → Type 0
-AllPassed [] = Unit {0}
-AllPassed (fs ∷ rest) = Passed fs × AllPassed rest
-
 -- each of the records from byte at on is such
 unfoldable pub PassedFrom : List ℕ → ℕ → Type 0
-PassedFrom f at = AllPassed ((recordsFrom f at) .items)
+PassedFrom f at = Each Passed ((recordsFrom f at) .items)
 
 -- the kind that a tag begins, any where it begins none
 unfoldable pub kindFor : Option Kind → Kind

@@ -11,8 +11,8 @@ use Rattle.skeleton.specs.Place.{between, placeAt, fieldsAt}
 use Rattle.skeleton.specs.declared.directory.Shape.{Shape}
 use Rattle.skeleton.specs.declared.place.Place.{Place}
 use Rattle.skeleton.specs.declared.place.Place.the-variants.{At, Done}
-use Rattle.skeleton.proofs.PlaceLaws.{place-falls, place-runs, place-in, fields-more, fields-done}
-use Rattle.skeleton.proofs.BetweenLaws.{length-between, between-between}
+use Rattle.skeleton.proofs.PlaceLaws.{place-falls, place-runs, place-in, fields-done}
+use Rattle.skeleton.proofs.BetweenLaws.{length-between, fields-within}
 use Rattle.rules.specs.Record.{Rec}
 use Rattle.rules.specs.Written.{fieldAs}
 use Rattle.rules.specs.declared.Kind.{Kind}
@@ -76,7 +76,7 @@ module _ (b : List ℕ) (at len : ℕ) (h : Shape) (x p : ℕ) (w₀ : List ℕ)
       rest = fieldsAt rs h next
 
       fields-are : fieldsAt rs h q ≡ here ∷ rest
-      fields-are = fields-more rs h q e en tag start end next y ∙ ap (λ (body : List ℕ). fieldAs tag body ∷ rest) (between-between b at len start end within)
+      fields-are = fields-within b at len h q e en tag start end next y within
 
       fits-here : Fits (v .kind) here × Each (Fits (v .kind)) rest
       unfolding Each

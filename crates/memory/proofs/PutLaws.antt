@@ -2,12 +2,13 @@
 use mathlib.Core.Path.{_≡_, refl, sym, ap, _∙_}
 use mathlib.Core.List.{List, [], _∷_, _++_, append-assoc, append-nil}
 use mathlib.Core.Logic.{_⊎_, inl, inr, ⊎-elim}
-use Prim.Native.Nat.{ℕ, zero, suc, _+_, _-_, _≤_, _<_, min}
+use Prim.Native.Nat.{ℕ, suc, _+_, _-_, _≤_, _<_, min}
 use native.Mathlib.Nat.{add-zero, add-suc, suc-add}
-use native.Mathlib.Numerals.{add-one, sub-one}
+use native.Mathlib.Numerals.{add-one}
 use native.Mathlib.Omega.{arith}
 use lib.ListN.{length, take, drop, getD, set, length-take, length-drop, length-set, drop-of-length-le}
-use lib.Seq.{sets, sets-eq, drop-cons, take-suc, take-all, set-comm, getD-set-other, getD-take, getD-drop, ext-getD, length-take-le, take-at, drop-at, drop-drop}
+use lib.Seq.{sets, sets-eq, take-suc, take-all, set-comm, getD-set-other, getD-take, getD-drop, ext-getD, length-take-le, take-at, drop-at, drop-drop}
+use Rattle.base.proofs.ListLaws.{take-drop-cons}
 use Rattle.memory.specs.Put.{part, put}
 
 -- ---- put, with no side conditions
@@ -108,8 +109,7 @@ getD-part from n i s h = getD-take n (drop from s) i 0 h ∙ getD-drop from s i 
 -- the first element, and a part one shorter
 pub part-cons : (from n : ℕ) (s : List ℕ) → from < length s → 0 < n → part from n s ≡ getD s from 0 ∷ part (from + 1) (n - 1) s
 unfolding part
-part-cons from zero s h k = absurd (omega arith)
-part-cons from (suc n) s h k = rw (add-one, sub-one, drop-cons s from 0)
+part-cons from n s h k = take-drop-cons from n s h k
 
 -- a part one shorter, and the last element
 pub part-snoc : (from n : ℕ) (s : List ℕ) → from + n < length s → part from (n + 1) s ≡ part from n s ++ (getD s (from + n) 0 ∷ [])

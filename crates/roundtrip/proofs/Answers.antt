@@ -11,9 +11,8 @@ use Rattle.rules.specs.Outcome.{done, andThen}
 use Rattle.rules.specs.File.{readDataset, writable, Sent, readUpdate}
 use Rattle.rules.specs.Update.{updated}
 use Rattle.rules.specs.Answers.{success, notTooLong, readOutcome, readAnswer, read, Written, roomFor, outputOf, writeOutcome, write, enoughWork, updateOutcome}
-use Rattle.rules.proofs.OutcomeLaws.{andThen-inv, done-inj}
+use Rattle.rules.proofs.OutcomeLaws.{andThen-inv, done-inj, refuses}
 use Rattle.sequence.proofs.Tests.{by-bool}
-use Rattle.updates.proofs.Read.{refuses}
 use Rattle.updates.proofs.Kept.{result-writable}
 use Rattle.sound.specs.Sound.{Sound}
 use Rattle.sound.proofs.Read.{read-sound}

@@ -1,22 +1,22 @@
 -- A file from the record at hand on: what a loop over its records needs. Assumes nothing.
-use mathlib.Core.Path.{_≡_, refl, sym, ap, _∙_}
+use mathlib.Core.Path.{_≡_, refl, sym, ap, ap₂, _∙_}
 use mathlib.Core.List.{List, [], _∷_, _++_}
 use mathlib.Core.Bool.{Bool, true, false}
-use Prim.Native.Nat.{ℕ, suc, _+_, _≤_}
+use Prim.Native.Nat.{ℕ, suc, _+_, _≤_, _<_}
 use native.Mathlib.Omega.{arith}
 use lib.ListN.{length}
 use lib.Dec.{leb, eqb}
-use borrow.Author.Tests.{ne-eqb}
+use borrow.Author.Tests.{ne-eqb, eqb-true, leb-false}
 use Rattle.base.specs.Choice.{pick}
 use Rattle.base.specs.Check.{Check, ok, bind, fault}
-use Rattle.base.specs.Lists.{each}
+use Rattle.base.specs.Lists.{each, Each}
 use Rattle.base.specs.Walk.{Got, before}
 use Rattle.base.proofs.CheckLaws.{bind-inv, ok-inj}
 use Rattle.skeleton.specs.File.{Field}
 use Rattle.rules.specs.Record.{Rec, keyOf, datasetRecord}
 use Rattle.rules.specs.Outcome.{Outcome, done, refused, andThen, at}
 use Rattle.rules.specs.File.{lastRank, datasetTest, through, ending, taken}
-use Rattle.rules.proofs.OutcomeLaws.{andThen-assoc, andThen-inv, at-inv, done-inj}
+use Rattle.rules.proofs.OutcomeLaws.{refuses, andThen-assoc, andThen-inv, at-inv, done-inj}
 
 module _ (file least : ℕ) (new : List Rec) where
   -- records before those at hand change nothing in how a file ends
@@ -87,3 +87,36 @@ through-later fs items n seen recs h e =
       onward = ap (λ (l : List Rec). through datasetTest 1 (n + 1) (l ++ seen) items) new ∙ s .1;
       all = ap (λ (l : List Rec). l ++ s .0) new ∙ done-inj (p .0 ++ s .0) recs (s .2);
     }
+
+-- a file that ended well, with enough records
+pub ending-inv : {A : Type 0} (file least n e : ℕ) (a b : A) → ending file least n e a ≡ done b → (e ≡ 0) × (least < n) × (a ≡ b)
+unfolding ending
+ending-inv file least n e a b x = go (eqb e 0) refl (leb n least) refl x
+  where
+    go : (t : Bool) → eqb e 0 ≡ t → (s : Bool) → leb n least ≡ s → pick t (pick s (refused file n (fault 4 0 0)) (done a)) (refused file n (fault e 0 0)) ≡ done b
+        → (e ≡ 0) × (least < n) × (a ≡ b)
+    go true y false z h = (eqb-true e 0 y, leb-false n least z, done-inj a b h)
+    go true y true z h = refuses h
+    go false y s z h = refuses h
+
+-- the records of a dataset from the fourth on: the skeleton refuses none, and they went through
+pub taken-inv : (g : Got (List Field)) (recs : List Rec) → taken datasetTest 1 3 4 [] g ≡ done recs
+    → (g .ending ≡ 0) × (through datasetTest 1 4 [] (g .items) ≡ done recs)
+unfolding taken
+taken-inv g recs e =
+    let a = andThen-inv (through datasetTest 1 4 [] (g .items)) _ recs e in
+    let c = ending-inv 1 3 (4 + length (g .items)) (g .ending) (a .0) recs (a .2) in
+    (c .0, a .1 ∙ ap done (c .2))
+
+-- what each record has that passes, each of those has that went through; and they are what g makes of their fields
+module _ (P : List Field → Type 0) (g : List Field → Rec)
+    (one : (least : ℕ) (earlier : List (List ℕ)) (fs : List Field) (r : Rec) → datasetRecord least earlier fs ≡ ok r → P fs × (r ≡ g fs)) where
+  pub through-each : (items : List (List Field)) (n : ℕ) (seen recs : List Rec) → 4 ≤ n → through datasetTest 1 n seen items ≡ done recs
+      → Each P items × (recs ≡ each g items)
+  unfolding through each Each
+  through-each [] n seen recs h e = (tt, sym (done-inj [] recs e))
+  through-each (fs ∷ items) n seen recs h e =
+      let l = through-later fs items n seen recs h e in
+      let x = one (lastRank seen) (each keyOf seen) fs (l .made) (l .passes) in
+      let y = through-each items (n + 1) (l .made ∷ seen) (l .others) (omega arith) (l .onward) in
+      ((x .0, y .0), sym (l .all) ∙ ap₂ (λ (a : Rec) (rs : List Rec). a ∷ rs) (x .1) (y .1))

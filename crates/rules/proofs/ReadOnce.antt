@@ -5,7 +5,7 @@ use mathlib.Core.Option.{some, none}
 use mathlib.Core.Bool.{Bool, true, false}
 use Prim.Native.Nat.{ℕ, _+_}
 use native.Mathlib.Omega.{arith}
-use lib.Dec.{eqb, leb}
+use lib.Dec.{eqb}
 use Rattle.base.specs.Choice.{pick}
 use Rattle.base.specs.Check.{Check, ok, no, bind, fault, Passed, pass}
 use Rattle.base.specs.Lists.{each}
@@ -23,11 +23,12 @@ use Rattle.rules.specs.Associations.{number7}
 use Rattle.rules.specs.Record.{Rec, keyOf, recOf, datasetRecord}
 use Rattle.rules.specs.General.{generalRecord}
 use Rattle.rules.specs.Written.{Dataset}
-use Rattle.rules.specs.Outcome.{done, refused, at}
+use Rattle.rules.specs.Outcome.{done, at}
 use Rattle.rules.specs.File.{lastRank, datasetTest, through, ending, taken, Stored, datasetOf, references, readDataset}
 use Rattle.rules.specs.Update.{find}
 use Rattle.rules.specs.Versions.{Once, o-none, o-more}
 use Rattle.rules.proofs.OutcomeLaws.{andThen-inv, at-inv, done-inj}
+use Rattle.rules.proofs.FileLaws.{ending-inv}
 use Rattle.rules.specs.declared.Mode.the-variants.{InDataset}
 
 -- ---- a record that passes has a key that no earlier one has
@@ -156,22 +157,12 @@ through-apart n seen (fs ∷ rest) recs e =
     by-new seen (datasetTest n seen fs) (a .0) recs (b .0) (at-inv 1 n (datasetTest n seen fs) (a .0) (a .1)) (test-new n seen fs) (b .2)
     (through-apart (n + 1) (a .0 ++ seen) rest (b .0) (b .1))
 
--- the ending takes nothing from the records, and a dataset that is read has them
-ended : (file least n e : ℕ) (recs out : List Rec) → ending file least n e recs ≡ done out → recs ≡ out
-unfolding ending
-ended file least n e recs out h = go (eqb e 0) (leb n least) h
-  where
-    go : (t s : Bool) → pick t (pick s (refused file n (fault 4 0 0)) (done recs)) (refused file n (fault e 0 0)) ≡ done out → recs ≡ out
-    go true true x = absurd (let z : _≡_ {A = ℕ} 0 1 = cc in omega arith)
-    go true false x = cc
-    go false s x = absurd (let z : _≡_ {A = ℕ} 0 1 = cc in omega arith)
-
--- and so of a dataset
+-- the records of a dataset stand once
 taken-once : (g : Got (List Field)) (recs : List Rec) → taken datasetTest 1 3 1 [] g ≡ done recs → Once recs
 unfolding taken
 taken-once g recs e =
     let a = andThen-inv (through datasetTest 1 1 [] (g .items)) _ recs e in
-    subst Once (ended 1 3 _ (g .ending) (a .0) recs (a .2)) ((through-apart 1 [] (g .items) (a .0) (a .1)) .once)
+    subst Once (ending-inv 1 3 _ (g .ending) (a .0) recs (a .2) .2) ((through-apart 1 [] (g .items) (a .0) (a .1)) .once)
 
 -- of the file that it was read from
 pub dataset-once : (f : List ℕ) (d : Dataset) → readDataset f ≡ done d → Once (d .records)

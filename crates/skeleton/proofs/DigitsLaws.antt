@@ -3,22 +3,21 @@ use mathlib.Core.Path.{_≡_}
 use mathlib.Core.List.{List, [], _∷_}
 use Prim.Native.Nat.{ℕ, zero, suc, _+_, _-_, _*_, _^_, _≤_, _<_}
 use native.Mathlib.Nat.{pow-suc, mul-le-mul-left, mul-le-mul-right, one-le-pow, pow-le-pow-right}
-use native.Mathlib.Numerals.{add-one, sub-one}
+use native.Mathlib.Numerals.{sub-one}
 use native.Mathlib.Omega.{arith}
 use borrow.Author.Tests.{le-leb, lt-leb, leb-true}
 use lib.ListN.{length, getD, length-take}
-use lib.Seq.{drop-cons}
 use lib.Dec.{leb}
 use Rattle.base.specs.Choice.{both}
 use Rattle.base.proofs.ChoiceLaws.{by-test, both-hold}
+use Rattle.base.proofs.ListLaws.{take-drop-cons}
 use Rattle.skeleton.specs.Digits.{isDigit, digits, digitsFrom, window, numberAt, valueOf}
 use Rattle.skeleton.specs.declared.digits.Number.{Number}
 use Rattle.skeleton.specs.declared.digits.Number.the-variants.{Value, NotDigits}
 
 -- a window is its first byte and the window after it
 window-cons : (s : List ℕ) (i k : ℕ) → 0 < k → i + k ≤ length s → window s i k ≡ getD s i 0 ∷ window s (i + 1) (k - 1)
-window-cons s i zero h g = absurd (omega arith)
-window-cons s i (suc k) h g = let l : i < length s = omega arith in rw (add-one, sub-one, drop-cons s i 0)
+window-cons s i k h g = take-drop-cons i k s (omega arith) h
 
 -- what the number from i on is, by the byte at i: each law takes `inv`, what it has to be, one way out of a turn
 module _ (s : List ℕ) (i k acc : ℕ) (r : Number) (inv : digitsFrom s i k acc ≡ r) where

@@ -1,10 +1,10 @@
 -- Coordinates of fields that are made of bytes, and edits of them by place. Assumes nothing.
-use Prim.Native.Nat.{ℕ, zero, suc, _+_, _-_}
+use Prim.Native.Nat.{ℕ, _+_, _-_}
 use mathlib.Core.Path.{_≡_, refl, sym, ap, _∙_}
 use mathlib.Core.Bool.{true}
 use mathlib.Core.List.{List, [], _∷_}
 use native.Mathlib.Omega.{arith}
-use lib.ListN.{length, take, drop}
+use lib.ListN.{length, take}
 use lib.Dec.{eqb, leb}
 use Rattle.base.specs.Check.{ok}
 use Rattle.base.specs.Choice.{pick}
@@ -12,7 +12,7 @@ use Rattle.base.specs.Lists.{each, Each}
 use Rattle.base.specs.Walk.{Got}
 use Rattle.base.proofs.ChoiceLaws.{by-test}
 use Rattle.base.proofs.CheckLaws.{ok-inj, refused}
-use Rattle.base.proofs.EachLaws.{each-nil, each-map, each-join}
+use Rattle.base.proofs.EachLaws.{each-nil, each-map, each-join, each-taken, each-dropped}
 use Rattle.fields.specs.Table.{headOf, tupleOf}
 use Rattle.fields.specs.Values.{Val, values}
 use Rattle.fields.specs.Content.{tuples, many}
@@ -58,26 +58,12 @@ point-read b g e =
 
 -- ---- edits by place
 
--- part of a list
-each-take : {A : Type 0} (P : A → Type 0) (n : ℕ) (l : List A) → Each P l → Each P (take n l)
-unfolding Each
-each-take P zero l e = tt
-each-take P (suc n) [] e = tt
-each-take P (suc n) (x ∷ l) e = (e .0, each-take P n l (e .1))
-
--- the rest of a list
-each-drop : {A : Type 0} (P : A → Type 0) (n : ℕ) (l : List A) → Each P l → Each P (drop n l)
-unfolding Each
-each-drop P zero l e = e
-each-drop P (suc n) [] e = tt
-each-drop P (suc n) (x ∷ l) e = each-drop P n l (e .1)
-
 -- what is placed among things that have P
 pub placed-each : {A : Type 0} (P : A → Type 0) (p : Place) (new xs ys : List A) → Each P new → Each P xs → placed p new xs ≡ ok ys → Each P ys
 unfolding placed
 placed-each P p new xs ys n e h =
-    let before = each-take P (p .index - 1) xs e in
-    let from = each-drop P (p .index - 1) xs e in
+    let before = each-taken P (p .index - 1) xs e in
+    let from = each-dropped P (p .index - 1) xs e in
     by-bool (eqb (p .instruction) 1)
     (λ i. by-bool (leb (p .index) (length xs + 1))
     (λ l. rw (← ok-inj _ ys (rw (i, l) at h)) (each-join P (take (p .index - 1) xs) _ before (each-join P new _ n from)))
@@ -85,5 +71,5 @@ placed-each P p new xs ys n e h =
     (λ i. by-bool (leb (p .index + p .count - 1) (length xs))
     (λ l. rw (← ok-inj _ ys (rw (i, l) at h))
     (each-join P (take (p .index - 1) xs) _ before
-    (each-join P (pick (eqb (p .instruction) 2) [] new) _ (by-test (Each P) (eqb (p .instruction) 2) [] new (λ _. each-nil P) (λ _. n)) (each-drop P (p .count) _ from))))
+    (each-join P (pick (eqb (p .instruction) 2) [] new) _ (by-test (Each P) (eqb (p .instruction) 2) [] new (λ _. each-nil P) (λ _. n)) (each-dropped P (p .count) _ from))))
     (λ l. refused (rw (i, l) at h)))

@@ -8,10 +8,9 @@ use Rattle.base.specs.Check.{ok}
 use Rattle.base.specs.Lists.{each, Each}
 use Rattle.base.specs.Keys.{same, among, join, leave}
 use Rattle.base.proofs.CheckLaws.{bind-inv, ok-inj, refused}
-use Rattle.base.proofs.KeysLaws.{same-sound}
+use Rattle.base.proofs.KeysLaws.{same-sound, joined-each, left-each}
 use Rattle.base.proofs.ChoiceLaws.{neither}
 use Rattle.base.proofs.ListLaws.{each-append}
-use Rattle.base.proofs.EachLaws.{each-join}
 use Rattle.sequence.proofs.Tests.{by-bool}
 use Rattle.sound.specs.Sound.{Apart}
 
@@ -68,35 +67,37 @@ unfolding Apart among
 apart-end k seen [] p e f = (e, tt)
 apart-end k seen (x ∷ ks) p e f = let (a, b) = neither (same k x) (among k ks) f in (p .0, apart-end k (x ∷ seen) ks (p .1) (rw (a, e)) b)
 
-module _ {A : Type 0} (P : A → Type 0) (key : A → List ℕ) where
-  -- a thing joined
-  pub joined : (j : ℕ) (x : A) (xs ys : List A) → P x → Each P xs → Apart [] (each key xs) → join key j x xs ≡ ok ys → Each P ys × Apart [] (each key ys)
-  unfolding join Each
-  joined j x xs ys q e p h =
+module _ {A : Type 0} (key : A → List ℕ) where
+  -- the keys where a thing has joined
+  joined-apart : (j : ℕ) (x : A) (xs ys : List A) → Apart [] (each key xs) → join key j x xs ≡ ok ys → Apart [] (each key ys)
+  unfolding join
+  joined-apart j x xs ys p h =
       by-bool (among (key x) (each key xs))
       (λ t. refused (rw t at h))
-      (λ t.
-      let z : xs ++ (x ∷ []) ≡ ys = ok-inj _ ys (rw t at h) in
-      rw (← z) (each-join P xs (x ∷ []) e (q, tt), rw (each-append key xs (x ∷ [])) (ends t)))
+      (λ t. rw (← ok-inj _ ys (rw t at h), each-append key xs (x ∷ [])) (ends t))
     where
       ends : among (key x) (each key xs) ≡ false → Apart [] (each key xs ++ each key (x ∷ []))
       ends t = unfold each in apart-end (key x) [] (each key xs) p (unfold among in refl) t
 
-  -- a thing has left: the others are part of the old ones
-  leave-part : (j : ℕ) (k : List ℕ) (xs ys : List A) → Each P xs → leave key j k xs ≡ ok ys → Each P ys × Within (each key ys) (each key xs)
-  unfolding leave Each each
-  leave-part j k [] ys e h = refused h
-  leave-part j k (x ∷ xs) ys e h =
+  -- where one has left, those of the others are part of the old ones
+  left-within : (j : ℕ) (k : List ℕ) (xs ys : List A) → leave key j k xs ≡ ok ys → Within (each key ys) (each key xs)
+  unfolding leave each
+  left-within j k [] ys h = refused h
+  left-within j k (x ∷ xs) ys h =
       by-bool (same (key x) k)
-      (λ t. rw (← ok-inj xs ys (rw t at h)) (e .1, w-skip (within-all (each key xs))))
+      (λ t. rw (← ok-inj xs ys (rw t at h)) (w-skip (within-all (each key xs))))
       (λ t.
       let (zs, a, b) = bind-inv (leave key j k xs) (λ ys. ok (x ∷ ys)) ys (rw t at h) in
-      let (c, d) = leave-part j k xs zs (e .1) a in
-      rw (← ok-inj (x ∷ zs) ys b) ((e .0, c), w-keep d))
+      rw (← ok-inj (x ∷ zs) ys b) (w-keep (left-within j k xs zs a)))
 
-  -- so their keys stand once
+module _ {A : Type 0} (P : A → Type 0) (key : A → List ℕ) where
+  -- a thing joined
+  pub joined : (j : ℕ) (x : A) (xs ys : List A) → P x → Each P xs → Apart [] (each key xs) → join key j x xs ≡ ok ys → Each P ys × Apart [] (each key ys)
+  joined j x xs ys q e p h = (joined-each P key j x xs ys q e h, joined-apart key j x xs ys p h)
+
+  -- a thing has left
   pub left : (j : ℕ) (k : List ℕ) (xs ys : List A) → Each P xs → Apart [] (each key xs) → leave key j k xs ≡ ok ys → Each P ys × Apart [] (each key ys)
-  left j k xs ys e p h = let (a, b) = leave-part j k xs ys e h in (a, apart-part [] [] (λ q z. z) b p)
+  left j k xs ys e p h = (left-each P key j k xs ys e h, apart-part [] [] (λ q z. z) (left-within key j k xs ys h) p)
 
 -- ---- keys of two lengths
 

@@ -15,7 +15,7 @@ use Rattle.rules.specs.Content.{formatOf, stands, allStand}
 use Rattle.rules.specs.Trees.{treeStands, treesStand}
 use Rattle.rules.proofs.FilledLaws.{stands-fill}
 
--- and the other way
+-- a body that has its format stands
 pub fill-stands : (i : ℕ) (k : Format) (b : List ℕ) → Has k b → stands i k b ≡ pass
 unfolding stands
 fill-stands i k b e = rw (fill-count (headOf k) (tupleOf k) b e)

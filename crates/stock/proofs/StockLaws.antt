@@ -1,16 +1,16 @@
 -- Laws of the records of a dataset from a byte on. Assumes nothing.
 use Prim.Native.Nat.{ℕ, _+_, _≤_, _<_}
-use mathlib.Core.Path.{_≡_, refl, sym, ap, ap₂, _∙_}
+use mathlib.Core.Path.{_≡_, sym, ap, _∙_}
 use mathlib.Core.Bool.{Bool, true, false}
 use mathlib.Core.Option.{Option, some, none}
 use mathlib.Core.List.{List, [], _∷_}
 use native.Mathlib.Omega.{arith}
-use borrow.Author.Tests.{le-ltb, eqb-true}
-use lib.Dec.{ltb, eqb, leb}
+use borrow.Author.Tests.{le-ltb}
+use lib.Dec.{ltb}
 use lib.ListN.{length}
 use Rattle.base.specs.Choice.{pick}
 use Rattle.base.specs.Check.{ok, no, bind, fault}
-use Rattle.base.specs.Lists.{each}
+use Rattle.base.specs.Lists.{each, Each}
 use Rattle.base.specs.Keys.{among}
 use Rattle.base.specs.Walk.{Got}
 use Rattle.base.proofs.CheckLaws.{refused as not-passed, bind-inv, ok-inj}
@@ -28,15 +28,14 @@ use Rattle.rules.specs.Content.{number5}
 use Rattle.rules.specs.Trees.{number6}
 use Rattle.rules.specs.Associations.{number7}
 use Rattle.rules.specs.Record.{Rec, recOf, keyOf, datasetRecord}
-use Rattle.rules.specs.Outcome.{done, refused}
-use Rattle.rules.specs.File.{lastRank, datasetTest, through, taken, ending}
+use Rattle.rules.specs.Outcome.{done}
+use Rattle.rules.specs.File.{datasetTest, taken, ending}
 use Rattle.rules.specs.declared.Kind.{Kind}
 use Rattle.rules.specs.declared.Mode.the-variants.{InDataset}
-use Rattle.rules.proofs.OutcomeLaws.{andThen-inv, done-inj}
-use Rattle.rules.proofs.FileLaws.{through-later}
+use Rattle.rules.proofs.FileLaws.{taken-inv, through-each}
 use Rattle.updates.specs.Acts.{kindIn}
 use Rattle.stock.specs.Stored.{Stored}
-use Rattle.stock.specs.Stock.{recBy, recIn, AllStored, stockFrom, Stock}
+use Rattle.stock.specs.Stock.{recBy, recIn, AnyStored, stockFrom, Stock}
 
 -- ---- one record
 
@@ -60,7 +59,7 @@ four-alone least (f ∷ fs) k e = by-kind (kindOf (f .tag)) e
 
 -- a record that passed is stored, and is what its fields say
 pub record-stored : (least : ℕ) (earlier : List (List ℕ)) (fs : List Field) (r : Rec) → datasetRecord least earlier fs ≡ ok r
-    → ((k : Kind) × Stored k fs) × (r ≡ recIn fs)
+    → AnyStored fs × (r ≡ recIn fs)
 unfolding datasetRecord recBy
 record-stored least earlier fs r e =
     let a = bind-inv (number4 InDataset least fs) _ r e in
@@ -77,35 +76,14 @@ record-stored least earlier fs r e =
 
 -- ---- all of them
 
-through-stored : (items : List (List Field)) (n : ℕ) (seen recs : List Rec) → 4 ≤ n → through datasetTest 1 n seen items ≡ done recs
-    → AllStored items × (recs ≡ each recIn items)
-unfolding through each AllStored
-through-stored [] n seen recs h e = (tt, sym (done-inj [] recs e))
-through-stored (fs ∷ items) n seen recs h e =
-    let l = through-later fs items n seen recs h e in
-    let t = through-stored items (n + 1) (l .made ∷ seen) (l .others) (omega arith) (l .onward) in
-    let u = record-stored (lastRank seen) (each keyOf seen) fs (l .made) (l .passes) in
-    ((u .0, t .0), sym (l .all) ∙ ap₂ (λ (a : Rec) (rs : List Rec). a ∷ rs) (u .1) (t .1))
-
--- a file that ends well
-ended-well : (least n z : ℕ) (l m : List Rec) → ending 1 least n z l ≡ done m → (z ≡ 0) × (l ≡ m)
-unfolding ending
-ended-well least n z l m x = go (eqb z 0) refl (leb n least) x
-  where
-    go : (t : Bool) → eqb z 0 ≡ t → (s : Bool) → pick t (pick s (refused 1 n (fault 4 0 0)) (done l)) (refused 1 n (fault z 0 0)) ≡ done m → (z ≡ 0) × (l ≡ m)
-    go true y false x = (eqb-true z 0 y, done-inj l m x)
-    go true y true x = absurd (let w : _≡_ {A = ℕ} 0 1 = cc in omega arith)
-    go false y s x = absurd (let w : _≡_ {A = ℕ} 0 1 = cc in omega arith)
-
 -- the records of a dataset from the fourth on
 pub taken-stock : (f : List ℕ) (start : ℕ) (recs : List Rec) → taken datasetTest 1 3 4 [] (recordsFrom f start) ≡ done recs
     → Stock f start × (recs ≡ stockFrom f start)
-unfolding taken stockFrom
+unfolding stockFrom
 taken-stock f start recs e =
-    let a = andThen-inv (through datasetTest 1 4 [] ((recordsFrom f start) .items)) _ recs e in
-    let b = through-stored ((recordsFrom f start) .items) 4 [] (a .0) (omega arith) (a .1) in
-    let c = ended-well 3 (4 + length ((recordsFrom f start) .items)) ((recordsFrom f start) .ending) (a .0) recs (a .2) in
-    (record { ended = c .0; right = b .0 }, sym (c .1) ∙ b .1)
+    let a = taken-inv (recordsFrom f start) recs e in
+    let b = through-each AnyStored recIn record-stored ((recordsFrom f start) .items) 4 [] recs (omega arith) (a .1) in
+    (record { ended = a .0; right = b .0 }, b .1)
 
 -- ---- one after the other
 
@@ -133,13 +111,13 @@ module _ (f : List ℕ) (p : ℕ) (s : Stock f p) where
       more-items = ap (λ (g : Got (List Field)). g .items) (records-more f p h q e len base a b x)
 
       -- is one as in a dataset
-      pub stock-here : (k : Kind) × Stored k fields
-      unfolding AllStored
+      pub stock-here : AnyStored fields
+      unfolding Each
       stock-here = rw more-items at (s .right) .0
 
       -- and those behind it are the others
       pub stock-more : Stock f (p + len)
-      unfolding AllStored
+      unfolding Each
       stock-more = record { ended = sym (ap (λ (g : Got (List Field)). g .ending) (records-more f p h q e len base a b x)) ∙ s .ended; right = rw more-items at (s .right) .1 }
 
       pub stock-next : stockFrom f p ≡ recIn fields ∷ stockFrom f (p + len)

@@ -2,8 +2,8 @@
 use Prim.Native.Nat.{ℕ}
 use mathlib.Core.Path.{_≡_}
 use mathlib.Core.Option.{Option, some, none}
-use mathlib.Core.List.{List, [], _∷_}
-use Rattle.base.specs.Lists.{each}
+use mathlib.Core.List.{List}
+use Rattle.base.specs.Lists.{each, Each}
 use Rattle.skeleton.specs.File.{Field, recordsFrom}
 use Rattle.rules.specs.Record.{Rec, recOf}
 use Rattle.rules.specs.declared.Kind.{Kind}
@@ -20,10 +20,9 @@ recBy (some k) fs = recOf k fs
 abbrev pub recIn : List Field → Rec
 recIn fs = recBy (kindIn fs) fs
 
--- each of these records is one as in a dataset
-unfoldable pub AllStored : List (List Field) → Type 0
-AllStored [] = Unit {0}
-AllStored (fs ∷ rest) = ((k : Kind) × Stored k fs) × AllStored rest
+-- fields of a record as in a dataset, of one kind or another
+abbrev pub AnyStored : List Field → Type 0
+AnyStored fs = (k : Kind) × Stored k fs
 
 -- the records from byte p on
 unfoldable pub stockFrom : List ℕ → ℕ → List Rec
@@ -32,4 +31,4 @@ stockFrom f p = each recIn ((recordsFrom f p) .items)
 -- what a loop over them stands on
 pub record Stock (f : List ℕ) (p : ℕ) : Type 0 where
   pub ended : (recordsFrom f p) .ending ≡ 0
-  pub right : AllStored ((recordsFrom f p) .items)
+  pub right : Each AnyStored ((recordsFrom f p) .items)

@@ -27,7 +27,7 @@ use Rattle.rules.specs.File.{Sent, sentAs}
 use Rattle.rules.specs.Update.{general}
 use Rattle.rules.specs.Answers.{Written, success, notTooLong, outputOf, update}
 use Rattle.rules.specs.declared.Answer.{Answer}
-use Rattle.rules.proofs.OutcomeLaws.{andThen-inv, done-inj}
+use Rattle.rules.proofs.OutcomeLaws.{andThen-inv, done-inj, refuses}
 use Rattle.numbers.proofs.Answers.{zero-is-done}
 use Rattle.sequence.specs.Keyed.{Ran, done as ran, stop}
 use Rattle.sequence.specs.History.{judged}
@@ -35,7 +35,6 @@ use Rattle.sequence.proofs.Tests.{by-bool}
 use Rattle.updates.specs.Acts.{chart, inUpdate}
 use Rattle.updates.specs.Streamed.{verdicts, resultRecords, resultReferences, headBytes, headLength, resultBytes, resultLength, streamedTo, streamedOutcome}
 use Rattle.updates.proofs.Lengths.{length-result, length-head}
-use Rattle.updates.proofs.Read.{refuses}
 use Rattle.updates.proofs.Streams.{streams, resultOf, written-result}
 use Rattle.stock.specs.Stock.{stockFrom}
 use Rattle.result.specs.Rest.{restBytes, restLength}

@@ -19,10 +19,10 @@ use Rattle.rules.specs.Update.{general}
 use Rattle.rules.specs.Answers.{Written, refusal, success, notTooLong, enoughWork, readOutcome, readAnswer, read, outputOf, update}
 use Rattle.rules.specs.declared.Answer.{Answer}
 use Rattle.rules.proofs.LengthLaws.{short-record}
+use Rattle.rules.proofs.OutcomeLaws.{refuses}
 use Rattle.numbers.specs.Zero.{Done}
 use Rattle.numbers.proofs.Answers.{zero-is-done}
 use Rattle.updates.specs.Streamed.{streamedTo, streamedOutcome}
-use Rattle.updates.proofs.Read.{refuses}
 use Rattle.updates.proofs.Streams.{streams}
 use Rattle.writer.specs.Forms.{formsFrom}
 use Rattle.writer.specs.Measured.{measuredFrom}

@@ -3,9 +3,8 @@ use Prim.Native.Nat.{ℕ, _+_, _<_}
 use mathlib.Core.Path.{_≡_, sym, ap, _∙_}
 use mathlib.Core.List.{List, [], _∷_, _++_}
 use native.Mathlib.Omega.{arith}
-use borrow.Author.Tests.{leb-false, eqb-true}
 use lib.ListN.{length, getD, drop}
-use lib.Dec.{eqb, leb}
+use lib.Dec.{eqb}
 use Rattle.base.specs.Check.{ok, pass, passed}
 use Rattle.base.specs.declared.Fault.{Fault}
 use Rattle.base.specs.Walk.{Got}
@@ -14,25 +13,12 @@ use Rattle.skeleton.specs.File.{Field, recordsOf}
 use Rattle.rules.specs.Record.{Rec, updateRecord}
 use Rattle.rules.specs.General.{generalRecord}
 use Rattle.rules.specs.Written.{Dataset}
-use Rattle.rules.specs.Outcome.{done, refused, at}
+use Rattle.rules.specs.Outcome.{done, at}
 use Rattle.rules.specs.File.{datasetTest, updateTest, through, ending, taken, Stored, storedAs, datasetOf, references, readDataset, Sent, sentAs, updateOf, readUpdate}
 use Rattle.rules.specs.declared.Mode.the-variants.{InUpdate}
 use Rattle.rules.proofs.OutcomeLaws.{andThen-inv, at-inv, done-inj}
+use Rattle.rules.proofs.FileLaws.{ending-inv}
 use Rattle.sequence.proofs.Tests.{by-bool}
-
--- a refusal is not done
-pub refuses : {A X : Type 0} {file n : ℕ} {a : A} {x : Fault} → refused file n x ≡ done a → X
-refuses e = absurd (let z : _≡_ {A = ℕ} 0 1 = cc in omega arith)
-
--- a file that ended well, with enough records
-ending-inv : {A : Type 0} (file least n e : ℕ) (a b : A) → ending file least n e a ≡ done b → (e ≡ 0) × (least < n) × (a ≡ b)
-unfolding ending
-ending-inv file least n e a b x =
-    by-bool (eqb e 0)
-    (λ h. by-bool (leb n least)
-    (λ g. refuses (rw (h, g) at x))
-    (λ g. (eqb-true e 0 h, leb-false n least g, done-inj a b (rw (h, g) at x))))
-    (λ h. refuses (rw h at x))
 
 -- what a dataset that is read went through
 pub record IsRead (f : List ℕ) (d : Dataset) : Type 0 where

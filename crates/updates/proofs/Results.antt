@@ -15,7 +15,7 @@ use Rattle.rules.specs.Outcome.{done, refused, andThen}
 use Rattle.rules.specs.File.{lastRank, readDataset}
 use Rattle.rules.specs.Update.{find, steps}
 use Rattle.rules.specs.Versions.{Once as RulesOnce, o-none, o-more}
-use Rattle.rules.proofs.OutcomeLaws.{done-inj}
+use Rattle.rules.proofs.OutcomeLaws.{done-inj, refuses}
 use Rattle.rules.proofs.ReadOnce.{dataset-once}
 use Rattle.sequence.specs.Keyed.{Ran, done as ran, stop, run, Ordered, Once}
 use Rattle.sequence.specs.History.{version, judged, Fine, First, verdict}
@@ -30,7 +30,7 @@ use Rattle.updates.specs.Sorted.{Sorted}
 use Rattle.updates.specs.Streamed.{resultRecords}
 use Rattle.updates.proofs.Acted.{lawful}
 use Rattle.updates.proofs.Steps.{find-same, steps-run, low, high}
-use Rattle.updates.proofs.Read.{refuses, is-read}
+use Rattle.updates.proofs.Read.{is-read}
 use Rattle.updates.proofs.ReadOrdered.{through-ordered}
 
 -- ---- what is read

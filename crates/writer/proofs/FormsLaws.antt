@@ -28,10 +28,10 @@ use Rattle.rules.specs.Outcome.{done, andThen, at}
 use Rattle.rules.specs.File.{addsNone, lastRank, datasetTest, through, storedAs, readDataset}
 use Rattle.rules.specs.Answers.{notTooLong, readOutcome}
 use Rattle.rules.specs.declared.Mode.the-variants.{InDataset}
-use Rattle.rules.proofs.OutcomeLaws.{andThen-inv, at-inv, done-inj}
+use Rattle.rules.proofs.OutcomeLaws.{andThen-inv, at-inv, done-inj, refuses}
 use Rattle.rules.proofs.FileLaws.{through-later}
 use Rattle.sequence.proofs.Tests.{by-bool}
-use Rattle.updates.proofs.Read.{refuses, is-read}
+use Rattle.updates.proofs.Read.{is-read}
 use Rattle.sound.proofs.FileBytes.{Bodies, file-bytes}
 use Rattle.writing.specs.House.{inHouseForm}
 use Rattle.writing.proofs.HouseLaws.{house-carried}

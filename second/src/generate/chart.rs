@@ -1,32 +1,7 @@
 //! What a dataset says, apart from how it is put into bytes: the state that a generated update is made to fit.
 
 use crate::build::Field;
-
-#[derive(Clone, Copy, Debug, PartialEq, Eq, PartialOrd, Ord)]
-pub enum Kind {
-    Information,
-    Point,
-    MultiPoint,
-    Feature,
-}
-
-impl Kind {
-    /// In the order of a dataset.
-    pub const ALL: [Kind; 4] = [Kind::Information, Kind::Point, Kind::MultiPoint, Kind::Feature];
-
-    pub fn rcnm(self) -> u8 {
-        match self {
-            Kind::Information => 150,
-            Kind::Point => 110,
-            Kind::MultiPoint => 115,
-            Kind::Feature => 100,
-        }
-    }
-
-    pub fn has_attributes(self) -> bool {
-        matches!(self, Kind::Information | Kind::Feature)
-    }
-}
+pub use crate::model::Kind;
 
 /// An attribute entry with its run of children; index and parent follow from where it stands.
 #[derive(Clone, Debug, PartialEq, Eq)]

@@ -123,7 +123,7 @@ pub fn association(key: (u32, u16, u16), instruction: u8, attributes: &[Node]) -
 /// A spatial association as the tuple of SPAS with this instruction.
 pub fn location(location: &Location, instruction: u8) -> build::Spatial {
     let (smallest, largest) = location.scales;
-    (location.key.0.rcnm(), location.key.1, location.orientation, smallest, largest, instruction)
+    (location.key.0.name(), location.key.1, location.orientation, smallest, largest, instruction)
 }
 
 pub fn identifier(item: &Item, instruction: u8) -> Field {
@@ -142,7 +142,7 @@ pub fn item(item: &Item, form: &mut Form) -> Vec<Field> {
     if item.key.0 == Kind::Feature {
         fields.push(build::foid(item.foid.0, item.foid.1, item.foid.2));
     }
-    if !item.attributes.is_empty() || (item.key.0.has_attributes() && form.chance(15)) {
+    if !item.attributes.is_empty() || (item.key.0.coded() && form.chance(15)) {
         fields.push(build::field("ATTR", tuples(&flat(&item.attributes))));
     }
     fields.extend(item.associations.iter().map(|Association { key, attributes }| association(*key, 1, attributes)));

@@ -48,7 +48,7 @@ pub fn item(random: &mut Random, key: Key, keys: &[Key]) -> Item {
         Kind::MultiPoint => random.pick(&[0, 0, 1, 2, 3, 4, 7, 30]),
         _ => 0,
     };
-    let coded = kind.has_attributes();
+    let coded = kind.coded();
     Item {
         key,
         code: if coded { code(random) } else { 0 },

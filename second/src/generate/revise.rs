@@ -147,7 +147,7 @@ fn modified(random: &mut Random, item: &mut Item, keys: &[Key], careless: bool) 
     if kind == Kind::Feature && random.percent(50) {
         fields.push(build::foid(item.foid.0, item.foid.1, item.foid.2));
     }
-    if kind.has_attributes() && random.percent(75) {
+    if kind.coded() && random.percent(75) {
         let mut sent = Vec::new();
         edit_run(random, &mut item.attributes, 0, &mut sent);
         if careless && random.percent(60) {

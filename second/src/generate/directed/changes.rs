@@ -4,6 +4,7 @@ use super::base::*;
 use super::trees::edit;
 use super::Table;
 use crate::build::*;
+use crate::samples::{BEACON, BEACON_UPDATE};
 
 pub fn rows(table: &mut Table) {
     nothing(table);
@@ -267,37 +268,8 @@ fn written_form(table: &mut Table) {
     table.dataset_done("unread fields kept, also empty ones", file(&unread), &unread);
 }
 
-/// The tree of 10a-4.1.
-const VACHON: [Tuple; 10] = [
-    (21, 1, 0, 1, "Vachon"),
-    (22, 1, 0, 1, ""),
-    (25, 1, 2, 1, "42.0"),
-    (26, 1, 2, 1, ""),
-    (29, 1, 4, 1, "17"),
-    (29, 2, 4, 1, "43"),
-    (23, 1, 0, 1, "12"),
-    (24, 1, 0, 1, ""),
-    (27, 1, 8, 1, "123"),
-    (28, 1, 8, 1, "Canada"),
-];
-
-/// The update of 10a-4.2.
-const VACHON_SENT: [Tuple; 11] = [
-    (22, 1, 0, 3, ""),
-    (26, 1, 1, 3, ""),
-    (29, 2, 2, 1, "32"),
-    (29, 3, 2, 3, "7"),
-    (35, 1, 2, 1, ""),
-    (36, 1, 5, 1, "22"),
-    (37, 1, 5, 1, "123"),
-    (32, 1, 0, 1, "abc"),
-    (23, 1, 0, 2, ""),
-    (24, 1, 0, 3, ""),
-    (28, 1, 10, 3, "Germany"),
-];
-
 /// What P1 says that the update gives.
-const VACHON_AFTER: [Tuple; 14] = [
+const BEACON_AFTER: [Tuple; 14] = [
     (21, 1, 0, 1, "Vachon"),
     (22, 1, 0, 1, ""),
     (25, 1, 2, 1, "42.0"),
@@ -315,8 +287,8 @@ const VACHON_AFTER: [Tuple; 14] = [
 ];
 
 fn example(table: &mut Table) {
-    let before = changed(FEATURE, |f| *f = feature(2, &VACHON));
-    let update = [heading(), vec![edit(&VACHON_SENT)]].concat();
-    let result = after_with(FEATURE, feature(3, &VACHON_AFTER));
+    let before = changed(FEATURE, |f| *f = feature(2, &BEACON));
+    let update = [heading(), vec![edit(&BEACON_UPDATE)]].concat();
+    let result = after_with(FEATURE, feature(3, &BEACON_AFTER));
     table.update_done("the example of 10a-4.2 (P1)", &before, &update, &result);
 }
