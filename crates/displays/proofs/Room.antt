@@ -1,9 +1,8 @@
 -- Room decides 13 and 15 and nothing else. Assumes nothing.
 use Prim.Native.Nat.{ℕ, _-_, _≤_, _<_}
 use mathlib.Core.Path.{_≡_, refl, sym, ap, _∙_}
-use mathlib.Core.Bool.{Bool, true, false}
+use mathlib.Core.Bool.{true, false}
 use mathlib.Core.List.{List}
-use native.Mathlib.Omega.{arith}
 use borrow.Author.Tests.{lt-ltb, le-ltb}
 use lib.ListN.{length, replicate}
 use lib.Seq.{take-append-seam}
@@ -16,6 +15,7 @@ use Rattle.rules.specs.File.{readDataset, writable, readUpdate}
 use Rattle.rules.specs.Update.{updated}
 use Rattle.rules.specs.Answers.{refusal, success, Written, notTooLong, roomFor, outputOf, enoughWork, updateOutcome, update}
 use Rattle.rules.proofs.OutcomeLaws.{andThen-assoc}
+use Rattle.rules.proofs.ReadOnce.{clash}
 use Rattle.numbers.specs.Fair.{fair, FairOutcome, fair-done, fair-refused}
 use Rattle.numbers.proofs.Checks.{fair-then}
 use Rattle.numbers.proofs.Answers.{not-zero}
@@ -77,15 +77,12 @@ module _ (room work : ℕ) (c f : List ℕ) where
   pub no-other : 400000 ≤ work → fair (((update c f room work) .answer) .number) ≡ false → (r : Dataset) × (ruled c f ≡ done r)
   no-other g e = go (ruled c f) refl (ruled-fair c f)
     where
-      clash : {b : Bool} → b ≡ true → b ≡ false → ⊥
-      clash x y = let z : _≡_ {A = ℕ} 0 1 = cc in omega arith
-
       number-of : (file n : ℕ) (y : Fault) → ruled c f ≡ refused file n y → y .number ≡ ((update c f room work) .answer) .number
       number-of file n y x = unfold outputOf refusal in rw (answer-refused file n y x g)
 
       go : (m : Outcome Dataset) → ruled c f ≡ m → FairOutcome m → (r : Dataset) × (ruled c f ≡ done r)
       go (done r) x p = (r, x)
-      go (refused file n y) x (fair-refused q) = absurd (clash q (ap fair (number-of file n y x) ∙ e))
+      go (refused file n y) x (fair-refused q) = absurd (clash _ q (ap fair (number-of file n y x) ∙ e))
 
 -- ---- what a display makes of them
 

@@ -20,6 +20,7 @@ use Rattle.skeleton.specs.declared.leader.Head.{Head}
 use Rattle.skeleton.specs.declared.leader.Head.the-variants.{Good, Refused}
 use Rattle.rules.specs.Record.{keyOf as keyInRules, keyNamed, recOf}
 use Rattle.rules.specs.declared.Kind.{Kind}
+use Rattle.rules.proofs.Locality.{key-named}
 use Rattle.sequence.specs.Keyed.{find, Once}
 use Rattle.updates.specs.Acts.{chart}
 use Rattle.updates.specs.Accepted.{Writable}
@@ -33,7 +34,6 @@ use Rattle.keys.specs.Table.{Tail, Sits, Sited}
 use Rattle.keys.proofs.ListLaws.{not-first, not-later}
 use Rattle.keys.proofs.IdentLaws.{Keyed}
 use Rattle.keys.proofs.NumberLaws.{same-number}
-use Rattle.keys.proofs.PassedLaws.{key-named}
 use Rattle.items.specs.Items.{source}
 use Rattle.version.specs.Held.{Held}
 use Rattle.version.specs.Present.{HeldAs, FlagsKept}

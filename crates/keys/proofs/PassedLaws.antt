@@ -28,6 +28,7 @@ use Rattle.rules.specs.declared.Kind.{Kind}
 use Rattle.rules.specs.declared.Mode.the-variants.{InDataset}
 use Rattle.rules.proofs.KindLaws.{tag-of-kind}
 use Rattle.rules.proofs.FileLaws.{through-later}
+use Rattle.rules.proofs.Locality.{key-named}
 use Rattle.keys.specs.Listed.{keyOf, listed}
 use Rattle.keys.specs.Numbered.{numberOf, Ranged, Numbered}
 use Rattle.keys.specs.Standing.{fourToSix, Fine}
@@ -111,11 +112,6 @@ pub regroup : {A : Type 0} (a : Check Kind) (b c : Kind → Passed) (g : Kind �
 unfolding bind
 regroup (ok k) b c g = behind k (b k) (c k) g
 regroup (no y) b c g = refl
-
--- the key of a record, by its kind and its fields
-pub key-named : (k : Kind) (fs : List Field) → keyInRules (recOf k fs) ≡ keyNamed k fs
-unfolding keyInRules recOf keyNamed
-key-named k fs = refl
 
 -- numbers 4 to 6, and then 7
 pub record-parts : (least : ℕ) (earlier : List (List ℕ)) (fs : List Field) → datasetRecord least earlier fs ≡ bind (fourToSix least fs) (seventh earlier fs)

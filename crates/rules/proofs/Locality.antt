@@ -52,9 +52,9 @@ makes-then k (ok a) c p = p a
 makes-then k (no x) c p = tt
 
 -- the record that a record sends has the key that it names
-named : (k : Kind) (fs : List Field) → keyOf (recOf k fs) ≡ keyNamed k fs
+pub key-named : (k : Kind) (fs : List Field) → keyOf (recOf k fs) ≡ keyNamed k fs
 unfolding keyNamed keyOf recOf
-named k fs = refl
+key-named k fs = refl
 
 -- a record that can be written
 fitting-makes : (q : List ℕ) (r : Rec) → keyOf r ≡ q → Makes q (fitting r)
@@ -67,7 +67,7 @@ unfolding inserted
 inserted-makes k fs none =
     let q = keyNamed k fs in
     makes-pick q (eqb ((identOf k (front fs)) .rver) 1) _ _
-    (fitting-makes q (recOf k fs) (named k fs)) (makes-no q 10 1 0)
+    (fitting-makes q (recOf k fs) (key-named k fs)) (makes-no q 10 1 0)
 inserted-makes k fs (some old) = makes-no (keyNamed k fs) 7 1 0
 
 -- a delete

@@ -111,7 +111,7 @@ pub record Apart (seen recs : List Rec) : Type 0 where
   pub once : Once recs
 
 -- a test does not both hold and fail
-clash : (b : Bool) → b ≡ true → b ≡ false → ⊥
+pub clash : (b : Bool) → b ≡ true → b ≡ false → ⊥
 clash b e f = let z : _≡_ {A = ℕ} 0 1 = cc in omega arith
 
 -- one more record with a new key
