@@ -13,7 +13,6 @@ use Rattle.base.specs.declared.Verdict.the-variants.{Passed as Through, Refused
 use Rattle.base.specs.Choice.{largerOf}
 use Rattle.base.proofs.CheckLaws.{passed-is, refused-is}
 use Rattle.memory.specs.Hold.{zeros}
-use Rattle.skeleton.specs.File.{Field}
 use Rattle.skeleton.specs.Place.{between, fieldsAt}
 use Rattle.skeleton.specs.Record.{recordAt}
 use Rattle.skeleton.specs.RightFrom.{RightFrom}
@@ -33,17 +32,16 @@ use Rattle.records.specs.declared.grammar.Tags.{Tags}
 use Rattle.records.specs.declared.grammar.Tags.the-variants.{Right, Wrong}
 use Rattle.keys.specs.Key.{keyAt}
 use Rattle.keys.specs.Listed.{keysFrom}
-use Rattle.keys.specs.Look.{Known}
 use Rattle.keys.specs.Map.{kindIn}
 use Rattle.keys.specs.Once.{Once, Comes, Told}
 use Rattle.keys.specs.Standing.{fourToSix, Standing}
+use Rattle.book.specs.First.{Ahead, Said}
 use Rattle.keys.proofs.PassedLaws.{placed-five, placed-tag}
 use Rattle.keys.proofs.StandingLaws.{once-start, standing-start, standing-over, standing-refused, standing-before, standing-comes, standing-kind, standing-seven, standing-within, standing-more}
 use Rattle.dataset.specs.Numbers.{fourToSixIn}
 use Rattle.dataset.specs.Walk.{wholeFrom, Went, walkedBy}
 use Rattle.dataset.specs.declared.walk.Admitted.{Admitted}
 use Rattle.dataset.specs.declared.walk.Admitted.the-variants.{Key, Stop}
-use Rattle.dataset.specs.declared.walk.Walked.{Walked}
 use Rattle.dataset.specs.declared.walk.Walked.the-variants.{Over, Stopped}
 use Rattle.dataset.proofs.VerdictLaws.{right-is, wrong-is}
 
@@ -77,23 +75,27 @@ module _ (f : List ℕ) (start p len : ℕ) (h : Shape) (m top : ℕ) (hd : reco
     pub key-kind : kindIn top ≤ kindIn key
     key-kind = standing-kind f start p m top _ s l (recordAt f p) refl len (h .base) (h .a) (h .b) hd k ek key e
 
-    module _ (t t' : List ℕ) (b : Bool) (told : Told f start m top key t t' b) where
-      pub key-twice : b ≡ true → Went f start p len m top t' (Stop 7 1 0)
+    module _ (t t' : List ℕ) (w : ℕ) (b : Bool) (said : Said f start m top key t t' w b) where
+      told : Told f start m top key t t' b
+      told = said .told
+
+      pub key-twice : b ≡ true → Went f start p len m top t' w (Stop 7 1 0)
       unfolding Went
       key-twice z = standing-seven f start p m top _ s l (recordAt f p) refl len (h .base) (h .a) (h .b) hd k ek key e b (told .told) z
 
       module _ (q : b ≡ false) (v : Verdict) (ev : v ≡ verdictOf (number7 (fieldsAt (between f p (p + len)) h 24))) where
-        pub links-twice : (n i j : ℕ) → v ≡ Failed n i j → Went f start p len m top t' (Stop n i j)
+        pub links-twice : (n i j : ℕ) → v ≡ Failed n i j → Went f start p len m top t' w (Stop n i j)
         unfolding Went
         links-twice n i j x =
             standing-within f start p m top _ s l (recordAt f p) refl len (h .base) (h .a) (h .b) hd k ek key e b (told .told) q (fault n i j)
             (refused-is _ n i j (sym x ∙ ev))
 
-        pub record-right : v ≡ Through → Went f start p len m top t' (Key key)
+        pub record-right : v ≡ Through → Went f start p len m top t' w (Key key)
         unfolding Went
         record-right x = (
           standing-more f start p m top _ s l (recordAt f p) refl len (h .base) (h .a) (h .b) hd k ek key e b (told .told) q tt (passed-is _ (sym x ∙ ev)),
           told .once q,
+          said .ahead q,
         )
 
   module _ (least : ℕ) (el : least ≡ kindIn top) (g : Tags) (eg : g ≡ graded (fourToSixIn InDataset least (fieldsAt (between f p (p + len)) h 24))) where
@@ -104,9 +106,9 @@ module _ (f : List ℕ) (start p len : ℕ) (h : Shape) (m top : ℕ) (hd : reco
     pub four-passed : (k : Kind) → g ≡ Right k → fourToSix (kindIn top) (fieldsAt (between f p (p + len)) h 24) ≡ ok k
     four-passed k x = right-is _ k (sym x ∙ numbers)
 
-    pub four-stopped : (t : List ℕ) (n i j : ℕ) → g ≡ Wrong n i j → Went f start p len m top t (Stop n i j)
+    pub four-stopped : (t : List ℕ) (w n i j : ℕ) → g ≡ Wrong n i j → Went f start p len m top t w (Stop n i j)
     unfolding Went
-    four-stopped t n i j x =
+    four-stopped t w n i j x =
         standing-before f start p m top _ s l (recordAt f p) refl len (h .base) (h .a) (h .b) hd (fault n i j) (wrong-is _ n i j (sym x ∙ numbers))
 
 pub ruleset seventh-ways = (placed-five, placed-tag, at-bounded, at-right, at-in, at-word, base-word, base-small, key-comes, key-kind, key-twice, links-twice, record-right, arith)
@@ -157,13 +159,13 @@ module _ (f : List ℕ) (start p m top : ℕ) (s : Standing f start p m top (who
       pub walk-counts : m ≤ p → m + 1 ≤ p + len
       walk-counts c = let z = walk-falls in omega arith
 
-      module _ (t' : List ℕ) (r : Admitted) (w : Went f start p len m top t' r) where
+      module _ (t' : List ℕ) (w' : ℕ) (r : Admitted) (w : Went f start p len m top t' w' r) where
         pub walk-stopped : (n i j : ℕ) → r ≡ Stop n i j → Stopped n (m + 4) i j ≡ walkedBy (length (keysFrom f start)) (wholeFrom f start)
         unfolding walkedBy Went
         walk-stopped n i j x = let z : refused 1 (m + 4) (fault n i j) ≡ wholeFrom f start = rw x at w in rw (← z)
 
         module _ (k : ℕ) (x : r ≡ Key k) (top' : ℕ) (et : top' ≡ largerOf top k) where
-          went : Standing f start (p + len) (m + 1) (largerOf top k) (wholeFrom f start) × Once f start (m + 1) (largerOf top k) t'
+          went : Standing f start (p + len) (m + 1) (largerOf top k) (wholeFrom f start) × Once f start (m + 1) (largerOf top k) t' × Ahead f start (m + 1) w'
           unfolding Went
           went = rw x at w
 
@@ -173,7 +175,10 @@ module _ (f : List ℕ) (start p m top : ℕ) (s : Standing f start p m top (who
           pub walk-once : Once f start (m + 1) top' t'
           walk-once = rw et (went .1)
 
-pub ruleset walk-turn = (walk-over, walk-refused, walk-word, count-word, walk-good, walk-falls, walk-in, walk-counts, walk-stopped, walk-standing, walk-once, arith)
+          pub walk-ahead : Ahead f start (m + 1) w'
+          walk-ahead = went .2
+
+pub ruleset walk-turn = (walk-over, walk-refused, walk-word, count-word, walk-good, walk-falls, walk-in, walk-counts, walk-stopped, walk-standing, walk-once, walk-ahead, arith)
 
 -- before the first of them
 pub walk-start : (f : List ℕ) (start : ℕ) → Standing f start start 0 0 (wholeFrom f start)

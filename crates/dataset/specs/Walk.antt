@@ -6,6 +6,7 @@ use Rattle.base.specs.Check.{fault}
 use Rattle.base.specs.Choice.{largerOf}
 use Rattle.rules.specs.Outcome.{Outcome, done, refused}
 use Rattle.keys.specs.Once.{Once}
+use Rattle.book.specs.First.{Ahead}
 use Rattle.keys.specs.Standing.{outcomeFrom, Standing}
 use Rattle.dataset.specs.declared.walk.Admitted.{Admitted}
 use Rattle.dataset.specs.declared.walk.Admitted.the-variants.{Key, Stop}
@@ -17,9 +18,10 @@ abbrev pub wholeFrom : List ℕ → ℕ → Outcome (Unit {0})
 wholeFrom f start = outcomeFrom f start 0 []
 
 -- what is known once the record at p, of so many bytes, was tested: with its key the walk goes on behind it, else the whole comes to its refusal
-unfoldable pub Went : List ℕ → ℕ → ℕ → ℕ → ℕ → ℕ → List ℕ → Admitted → Type 0
-Went f start p len m top t (Key k) = Standing f start (p + len) (m + 1) (largerOf top k) (wholeFrom f start) × Once f start (m + 1) (largerOf top k) t
-Went f start p len m top t (Stop n i j) = refused 1 (m + 4) (fault n i j) ≡ wholeFrom f start
+unfoldable pub Went : List ℕ → ℕ → ℕ → ℕ → ℕ → ℕ → List ℕ → ℕ → Admitted → Type 0
+Went f start p len m top t w (Key k) =
+    Standing f start (p + len) (m + 1) (largerOf top k) (wholeFrom f start) × Once f start (m + 1) (largerOf top k) t × Ahead f start (m + 1) w
+Went f start p len m top t w (Stop n i j) = refused 1 (m + 4) (fault n i j) ≡ wholeFrom f start
 
 -- what code answers: how many records there are, or the refusal's number, record, field and tuple
 unfoldable pub walkedBy : ℕ → Outcome (Unit {0}) → Walked

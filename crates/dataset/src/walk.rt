@@ -1,10 +1,10 @@
 // The records of a dataset after the third: numbers 1 to 7, record by record.
 use crate::record::four_to_six;
 use base::Verdict;
+use book::once::larger;
+use book::once::repeats;
 use contents::keys::check_keys;
 use keys::look::key_at;
-use keys::once::larger;
-use keys::once::repeats;
 use memory::clearing::zero;
 use records::grammar::Tags;
 use rules::Kind;
@@ -23,6 +23,7 @@ ghost use Rattle.keys.specs.Map.{kindIn};
 ghost use Rattle.keys.specs.Listed.{keysFrom};
 ghost use Rattle.keys.specs.Once.{Once};
 ghost use Rattle.keys.specs.Standing.{fourToSix, Standing};
+ghost use Rattle.book.specs.First.{Ahead};
 ghost use Rattle.dataset.specs.Walk.{wholeFrom, Went, walkedBy};
 
 // A record that was tested: its key, or the refusal's number, field and tuple.
@@ -48,14 +49,15 @@ fn seventh(
     top: u64,
     k: Kind,
     t: &mut [u8],
+    w: &mut usize,
 ) -> Admitted
     requires { ⌜ (length (now f) ≤ 16777216) × (start ≤ length (now f)) × (p < length (now f)) × (recordAt (now f) p ≡ Good len (h .base) (h .a) (h .b)) ⌝ }
-    requires { ⌜ Standing (now f) start p m top (wholeFrom (now f) start) × Once (now f) start m top (now t) ⌝ }
+    requires { ⌜ Standing (now f) start p m top (wholeFrom (now f) start) × Once (now f) start m top (now t) × Ahead (now f) start m (now w) ⌝ }
     requires { ⌜ fourToSix (kindIn top) (fieldsAt (between (now f) p (p + len)) h 24) ≡ ok k ⌝ }
-    ensures { λ r. ⌜ Went (now (f .entry)) start p len m top (now (t .exit)) r ⌝ }
+    ensures { λ r. ⌜ Went (now (f .entry)) start p len m top (now (t .exit)) (now (w .exit)) r ⌝ }
 {
     let key = key_at(f, p + h.base);
-    if repeats(f, start, m, top, key, t) {
+    if repeats(f, start, m, top, key, t, w) {
         return Admitted::Stop(7, 1, 0);
     }
     let e = p + len;
@@ -75,15 +77,16 @@ fn admit(
     m: usize,
     top: u64,
     t: &mut [u8],
+    w: &mut usize,
 ) -> Admitted
     requires { ⌜ (length (now f) ≤ 16777216) × (start ≤ length (now f)) × (p < length (now f)) × (recordAt (now f) p ≡ Good len (h .base) (h .a) (h .b)) ⌝ }
-    requires { ⌜ Standing (now f) start p m top (wholeFrom (now f) start) × Once (now f) start m top (now t) ⌝ }
-    ensures { λ r. ⌜ Went (now (f .entry)) start p len m top (now (t .exit)) r ⌝ }
+    requires { ⌜ Standing (now f) start p m top (wholeFrom (now f) start) × Once (now f) start m top (now t) × Ahead (now f) start m (now w) ⌝ }
+    ensures { λ r. ⌜ Went (now (f .entry)) start p len m top (now (t .exit)) (now (w .exit)) r ⌝ }
 {
     let e = p + len;
     let least = (top / 4294967296) as usize;
     match four_to_six(&f[p..e], h, Mode::InDataset, least) {
-        Tags::Right(k) => seventh(f, start, p, len, h, m, top, k, t),
+        Tags::Right(k) => seventh(f, start, p, len, h, m, top, k, t, w),
         Tags::Wrong(n, i, j) => Admitted::Stop(n, i, j),
     }
 }
@@ -96,6 +99,7 @@ fn each_record(f: &[u8], start: usize, t: &mut [u8]) -> Walked
     let mut p = start;
     let mut m = 0;
     let mut top: u64 = 0;
+    let mut w: usize = 0;
     loop {
         if f.len() <= p {
             return Walked::Over(m);
@@ -110,6 +114,7 @@ fn each_record(f: &[u8], start: usize, t: &mut [u8]) -> Walked
                 m,
                 top,
                 t,
+                &mut w,
             ) {
                 Admitted::Key(k) => {
                     top = larger(top, k);

@@ -1,7 +1,6 @@
 // The keys of a dataset's records.
 pub mod bits;
 pub mod look;
-pub mod once;
 pub mod order;
 pub mod present;
 pub mod sites;

@@ -18,7 +18,7 @@ fn after_three(f: &[u8], start: usize) -> Answer
     requires { ⌜ (length (now f) ≤ 16777216) × (firstThree (now f) ≡ done start) ⌝ }
     ensures { λ r. ⌜ r ≡ theAnswer (now (f .entry)) ⌝ }
 {
-    let mut map = [0u8; 32768];
+    let mut map = [0u8; 32769];
     match later_records(f, start, &mut map) {
         Walked::Over(m) => match loose(f, start, &mut map) {
             Linked::All => Answer {

@@ -2,3 +2,4 @@ pub mod MarkLaws
 pub mod ReadableLaws
 pub mod RecordLaws
 pub mod DatasetLaws
+pub mod VouchLaws

@@ -1,3 +1,4 @@
 pub mod Readable
 pub mod Named
 pub mod Linked
+pub mod Vouched

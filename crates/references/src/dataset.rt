@@ -17,6 +17,7 @@ ghost use Rattle.keys.specs.Standing.{outcomeFrom};
 ghost use Rattle.keys.specs.Table.{Laid};
 ghost use Rattle.references.specs.Readable.{everyReadable};
 ghost use Rattle.references.specs.Linked.{Answers};
+ghost use Rattle.references.specs.Vouched.{Vouched};
 
 // Whether every record that is named exists; else the record, the field and the tuple of the first loose reference.
 pub enum Linked {
@@ -25,8 +26,8 @@ pub enum Linked {
 }
 
 // The records from start on, one by one; the first of them is the fourth of the file.
-fn every_named(f: &[u8], start: usize, t: &[u32], n: usize, map: &[u8]) -> Linked
-    requires { ⌜ (Laid (now f) start (now t) n (now map)) × (everyReadable ((recordsFrom (now f) start) .items) ≡ true) ⌝ }
+fn every_named(f: &[u8], start: usize, t: &[u32], n: usize, map: &[u8], k: &mut [u64]) -> Linked
+    requires { ⌜ (Laid (now f) start (now t) n (now map)) × Vouched (now f) start (now k) × (everyReadable ((recordsFrom (now f) start) .items) ≡ true) ⌝ }
     ensures { λ r. ⌜ Answers (now (f .entry)) start r ⌝ }
 {
     let mut p = start;
@@ -39,8 +40,10 @@ fn every_named(f: &[u8], start: usize, t: &[u32], n: usize, map: &[u8]) -> Linke
                 t,
                 n,
                 map,
+                p,
                 &f[p..p + len],
                 Shape { base, a, b },
+                k,
             ) {
                 Verdict::Passed => {
                     p += len;
@@ -67,5 +70,6 @@ pub fn loose(f: &[u8], start: usize, map: &mut [u8]) -> Linked
     let mut table = [start as u32; 4096];
     let stride = (f.len() - start) / 131072 + 1;
     let n = spread(f, start, stride, &mut table, map);
-    every_named(f, start, &table, n, map)
+    let mut book = [0u64; 2047];
+    every_named(f, start, &table, n, map, &mut book)
 }

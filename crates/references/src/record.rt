@@ -1,8 +1,9 @@
 // The records that the associations of one record name, INAS (0x494e4153) and SPAS (0x53504153): number 11.
-// The table t, its first n entries, and the map are of the file f from start on.
+// The table t, its first n entries, and the map are of the file f from start on, and so is the book k; p is the place of the record at hand, and q that of
+// the field's entry in it.
+use crate::vouching::exists;
 use base::Verdict;
 use keys::look::key_at;
-use keys::present::has;
 use skeleton::directory::Shape;
 use skeleton::directory::tag_at;
 use skeleton::place::Place;
@@ -22,6 +23,7 @@ ghost use Rattle.rules.specs.Associations.{inasKey, spasMarks, fieldMarks, mark
 ghost use Rattle.keys.specs.Table.{Laid};
 ghost use Rattle.references.specs.Readable.{readable, allReadable, recordReadable};
 ghost use Rattle.references.specs.Named.{Says};
+ghost use Rattle.references.specs.Vouched.{Vouched};
 
 // The record that the INAS b, field i, names.
 fn inas_named(
@@ -30,13 +32,16 @@ fn inas_named(
     t: &[u32],
     n: usize,
     map: &[u8],
+    p: usize,
+    q: usize,
     b: &[u8],
     i: usize,
+    k: &mut [u64],
 ) -> Verdict
-    requires { ⌜ (Laid (now f) start (now t) n (now map)) × (fill (headOf InasNew) (tupleOf InasNew) (now b) ≡ true) ⌝ }
-    ensures { λ v. ⌜ Says (now (f .entry)) start (record { key = inasKey (now (b .entry)); field = i; tuple = 0 } ∷ []) v ⌝ }
+    requires { ⌜ (Laid (now f) start (now t) n (now map)) × Vouched (now f) start (now k) × (fill (headOf InasNew) (tupleOf InasNew) (now b) ≡ true) ⌝ }
+    ensures { λ v. ⌜ (Says (now (f .entry)) start (record { key = inasKey (now (b .entry)); field = i; tuple = 0 } ∷ []) v) × Vouched (now (f .entry)) start (now (k .exit)) ⌝ }
 {
-    if has(f, start, t, n, map, key_at(b, 0)) {
+    if exists(f, start, t, n, map, p, q, 0, key_at(b, 0), k) {
         return Verdict::Passed;
     }
     Verdict::Refused(11, i, 0)
@@ -49,16 +54,19 @@ fn spas_named(
     t: &[u32],
     n: usize,
     map: &[u8],
+    p: usize,
+    q: usize,
     b: &[u8],
     i: usize,
+    k: &mut [u64],
 ) -> Verdict
-    requires { ⌜ (Laid (now f) start (now t) n (now map)) × (length (now b) ≤ 16777216) × (fill (headOf Spas) (tupleOf Spas) (now b) ≡ true) ⌝ }
-    ensures { λ v. ⌜ Says (now (f .entry)) start (spasMarks i 1 (many (tupleOf Spas) (now (b .entry)))) v ⌝ }
+    requires { ⌜ (Laid (now f) start (now t) n (now map)) × Vouched (now f) start (now k) × (length (now b) ≤ 16777216) × (fill (headOf Spas) (tupleOf Spas) (now b) ≡ true) ⌝ }
+    ensures { λ v. ⌜ (Says (now (f .entry)) start (spasMarks i 1 (many (tupleOf Spas) (now (b .entry)))) v) × Vouched (now (f .entry)) start (now (k .exit)) ⌝ }
 {
     let mut at = 0;
     let mut j = 1;
     while at < b.len() {
-        if !has(f, start, t, n, map, key_at(b, at)) {
+        if !exists(f, start, t, n, map, p, q, at, key_at(b, at), k) {
             return Verdict::Refused(11, i, j);
         }
         at += 15;
@@ -74,18 +82,21 @@ fn field_named(
     t: &[u32],
     n: usize,
     map: &[u8],
+    p: usize,
+    q: usize,
     tag: u32,
     b: &[u8],
     i: usize,
+    k: &mut [u64],
 ) -> Verdict
-    requires { ⌜ (Laid (now f) start (now t) n (now map)) × (length (now b) ≤ 16777216) × (readable (record { tag = tag; body = now b }) ≡ true) ⌝ }
-    ensures { λ v. ⌜ Says (now (f .entry)) start (fieldMarks i (record { tag = tag; body = now (b .entry) })) v ⌝ }
+    requires { ⌜ (Laid (now f) start (now t) n (now map)) × Vouched (now f) start (now k) × (length (now b) ≤ 16777216) × (readable (record { tag = tag; body = now b }) ≡ true) ⌝ }
+    ensures { λ v. ⌜ (Says (now (f .entry)) start (fieldMarks i (record { tag = tag; body = now (b .entry) })) v) × Vouched (now (f .entry)) start (now (k .exit)) ⌝ }
 {
     if tag == 0x494e4153 {
-        return inas_named(f, start, t, n, map, b, i);
+        return inas_named(f, start, t, n, map, p, q, b, i, k);
     }
     if tag == 0x53504153 {
-        return spas_named(f, start, t, n, map, b, i);
+        return spas_named(f, start, t, n, map, p, q, b, i, k);
     }
     Verdict::Passed
 }
@@ -98,13 +109,15 @@ fn entry_named(
     t: &[u32],
     n: usize,
     map: &[u8],
+    p: usize,
     r: &[u8],
     h: Shape,
     q: usize,
     i: usize,
+    k: &mut [u64],
 ) -> Verdict
-    requires { ⌜ (Laid (now f) start (now t) n (now map)) × Bounded h × (length (now r) ≤ 16777216) × (allReadable (fieldsAt (now r) h q) ≡ true) × RightFrom (now r) h q × (getD (now r) q 0 ≡ 30 → ⊥) ⌝ }
-    ensures { λ v. ⌜ Says (now (f .entry)) start (marks i (take 1 (fieldsAt (now (r .entry)) h q))) v ⌝ }
+    requires { ⌜ (Laid (now f) start (now t) n (now map)) × Vouched (now f) start (now k) × Bounded h × (length (now r) ≤ 16777216) × (allReadable (fieldsAt (now r) h q) ≡ true) × RightFrom (now r) h q × (getD (now r) q 0 ≡ 30 → ⊥) ⌝ }
+    ensures { λ v. ⌜ (Says (now (f .entry)) start (marks i (take 1 (fieldsAt (now (r .entry)) h q))) v) × Vouched (now (f .entry)) start (now (k .exit)) ⌝ }
 {
     let tag = tag_at(r, q);
     if tag != 0x494e4153 {
@@ -118,7 +131,7 @@ fn entry_named(
             start: from,
             end,
             next: _,
-        } => field_named(f, start, t, n, map, tag, &r[from..end], i),
+        } => field_named(f, start, t, n, map, p, q, tag, &r[from..end], i, k),
         Place::Done => Verdict::Passed,
     }
 }
@@ -130,11 +143,13 @@ pub fn record_named(
     t: &[u32],
     n: usize,
     map: &[u8],
+    p: usize,
     r: &[u8],
     h: Shape,
+    k: &mut [u64],
 ) -> Verdict
-    requires { ⌜ (Laid (now f) start (now t) n (now map)) × Bounded h × (length (now r) ≤ 16777216) × (recordReadable (fieldsAt (now r) h 24) ≡ true) × RightFrom (now r) h 24 ⌝ }
-    ensures { λ v. ⌜ Says (now (f .entry)) start (marks 1 (fieldsAt (now (r .entry)) h 24)) v ⌝ }
+    requires { ⌜ (Laid (now f) start (now t) n (now map)) × Vouched (now f) start (now k) × Bounded h × (length (now r) ≤ 16777216) × (recordReadable (fieldsAt (now r) h 24) ≡ true) × RightFrom (now r) h 24 ⌝ }
+    ensures { λ v. ⌜ (Says (now (f .entry)) start (marks 1 (fieldsAt (now (r .entry)) h 24)) v) × Vouched (now (f .entry)) start (now (k .exit)) ⌝ }
 {
     let mut q = 28 + h.a + h.b;
     let mut i = 2;
@@ -142,13 +157,13 @@ pub fn record_named(
         if r[q] == 0x1e {
             return Verdict::Passed;
         }
-        match entry_named(f, start, t, n, map, r, h, q, i) {
+        match entry_named(f, start, t, n, map, p, r, h, q, i, k) {
             Verdict::Passed => {
                 q += 4 + h.a + h.b;
                 i += 1;
             }
-            Verdict::Refused(k, x, y) => {
-                return Verdict::Refused(k, x, y);
+            Verdict::Refused(c, x, y) => {
+                return Verdict::Refused(c, x, y);
             }
         }
     }

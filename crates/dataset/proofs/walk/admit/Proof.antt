@@ -22,7 +22,7 @@ enum-known-k : tie.Need-enum-known-k
 enum-known-k c = search needs
 
 seventh-requires : tie.Need-seventh-requires
-seventh-requires c κs = search admit-ways
+seventh-requires c κs = (search needs, (search needs, search admit-ways))
 
 enum-known-n : tie.Need-enum-known-n
 enum-known-n c = search needs

@@ -3,6 +3,8 @@ use Prim.Native.Nat.{_-_, _≤_}
 use lib.ListN.{length}
 use Rattle.keys.specs.Once.{Once}
 use Rattle.keys.specs.Standing.{Standing}
+use Rattle.book.specs.First.{Ahead}
+use Rattle.book.proofs.FirstLaws.{ahead-start}
 use Rattle.dataset.specs.Walk.{wholeFrom}
 use Rattle.dataset.proofs.WalkLaws.{walk-start, walk-turn}
 use borrow.Author.Needs.{needs}
@@ -11,14 +13,13 @@ use Rattle.dataset.proofs.walk.each_record.Statement.{statement}
 use Rattle.dataset.proofs.walk.each_record.Tie as tie
 
 abbrev Inv-loop : tie.InvT-loop
-Inv-loop f start t₀ p₀ m₀ top₀ t p m top =
-    (p ≤ length f) × (m ≤ p) × (length t ≡ length t₀) × Standing f start p m top (wholeFrom f start) × Once f start m top t
+Inv-loop f start t₀ p₀ m₀ top₀ w₀ t p m top w = (p ≤ length f) × (m ≤ p) × (length t ≡ length t₀) × Standing f start p m top (wholeFrom f start) × Once f start m top t × Ahead f start m w
 
 abbrev μ-loop : tie.MeasureT-loop
-μ-loop f start t₀ p₀ m₀ top₀ t p m top = length f - p
+μ-loop f start t₀ p₀ m₀ top₀ w₀ t p m top w = length f - p
 
 loop-holds : tie.Need-loop-holds Inv-loop μ-loop
-loop-holds c = (omega arith, omega arith, refl, walk-start _ _, search needs)
+loop-holds c = (omega arith, omega arith, refl, walk-start _ _, search needs, ahead-start _ _)
 
 same-length : tie.Need-same-length Inv-loop μ-loop
 same-length c = search needs
@@ -51,13 +52,13 @@ loop-less : tie.Need-loop-less Inv-loop μ-loop
 loop-less c = search walk-turn
 
 loop-again : tie.Need-loop-again Inv-loop μ-loop
-loop-again c = (search walk-turn, search walk-turn, search needs, search walk-turn, search walk-turn)
+loop-again c = (search walk-turn, search walk-turn, search needs, search walk-turn, search walk-turn, search walk-turn)
 
 enum-known-n : tie.Need-enum-known-n Inv-loop μ-loop
 enum-known-n c = search needs
 
-add-t23 : tie.Need-add-t23 Inv-loop μ-loop
-add-t23 c = search walk-turn
+add-t25 : tie.Need-add-t25 Inv-loop μ-loop
+add-t25 c = search walk-turn
 
 same-length-2 : tie.Need-same-length-2 Inv-loop μ-loop
 same-length-2 c = search needs
@@ -68,8 +69,8 @@ returns-2 c = search walk-turn
 enum-known-n-2 : tie.Need-enum-known-n-2 Inv-loop μ-loop
 enum-known-n-2 c = search needs
 
-add-t24 : tie.Need-add-t24 Inv-loop μ-loop
-add-t24 c = search walk-turn
+add-t26 : tie.Need-add-t26 Inv-loop μ-loop
+add-t26 c = search walk-turn
 
 same-length-3 : tie.Need-same-length-3 Inv-loop μ-loop
 same-length-3 c = search needs
@@ -96,10 +97,10 @@ each-record-spec =
     loop-less
     loop-again
     enum-known-n
-    add-t23
+    add-t25
     same-length-2
     returns-2
     enum-known-n-2
-    add-t24
+    add-t26
     same-length-3
     returns-3)

@@ -1,4 +1,6 @@
 use Rattle.references.proofs.DatasetLaws.{loose-ways}
+use Rattle.references.proofs.VouchLaws.{blank-vouched}
+use native.Mathlib.Omega.{arith}
 use borrow.Author.Needs.{needs}
 use Rattle.references.proofs.dataset.loose.Statement.{statement}
 use Rattle.references.proofs.dataset.loose.Tie as tie
@@ -21,8 +23,11 @@ spread-requires c κs = (search needs, search loose-ways, search loose-ways)
 slice-aggregate-every-named : tie.Need-slice-aggregate-every-named
 slice-aggregate-every-named c = search needs
 
+slice-aggregate-every-named-2 : tie.Need-slice-aggregate-every-named-2
+slice-aggregate-every-named-2 c = search needs
+
 every-named-requires : tie.Need-every-named-requires
-every-named-requires c κs = (search needs, search loose-ways)
+every-named-requires c κs = (search needs, blank-vouched _ _ 2047 (omega arith), search loose-ways)
 
 same-length : tie.Need-same-length
 same-length c = search needs
@@ -40,6 +45,7 @@ loose-spec =
     slice-aggregate-spread
     spread-requires
     slice-aggregate-every-named
+    slice-aggregate-every-named-2
     every-named-requires
     same-length
     returns)

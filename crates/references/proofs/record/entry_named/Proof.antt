@@ -7,7 +7,7 @@ tag-at-requires : tie.Need-tag-at-requires
 tag-at-requires c κs = search entry-ways
 
 returns : tie.Need-returns
-returns c = search entry-ways
+returns c = (search entry-ways, search needs)
 
 place-at-requires : tie.Need-place-at-requires
 place-at-requires c κs = search needs
@@ -25,16 +25,19 @@ part-field-named-end : tie.Need-part-field-named-end
 part-field-named-end c = search entry-ways
 
 field-named-requires : tie.Need-field-named-requires
-field-named-requires c κs = (search needs, search entry-ways, search entry-ways)
+field-named-requires c κs = (search needs, search needs, search entry-ways, search entry-ways)
 
 enum-told : tie.Need-enum-told
 enum-told c = search needs
 
+same-length : tie.Need-same-length
+same-length c = search needs
+
 returns-2 : tie.Need-returns-2
-returns-2 c = search entry-ways
+returns-2 c = (search entry-ways, search needs)
 
 returns-3 : tie.Need-returns-3
-returns-3 c = search entry-ways
+returns-3 c = (search entry-ways, search needs)
 
 pub entry-named-spec : {M : Type 1} → statement M
 entry-named-spec =
@@ -49,5 +52,6 @@ entry-named-spec =
     part-field-named-end
     field-named-requires
     enum-told
+    same-length
     returns-2
     returns-3)

@@ -4,20 +4,34 @@ use Rattle.references.proofs.record.field_named.Statement.{statement}
 use Rattle.references.proofs.record.field_named.Tie as tie
 
 inas-named-requires : tie.Need-inas-named-requires
-inas-named-requires c κs = (search needs, search field-ways)
+inas-named-requires c κs = (search needs, search needs, search field-ways)
+
+same-length : tie.Need-same-length
+same-length c = search needs
 
 returns : tie.Need-returns
-returns c = search field-ways
+returns c = (search field-ways, search needs)
 
 spas-named-requires : tie.Need-spas-named-requires
-spas-named-requires c κs = (search needs, search needs, search field-ways)
+spas-named-requires c κs = (search needs, search needs, search needs, search field-ways)
+
+same-length-2 : tie.Need-same-length-2
+same-length-2 c = search needs
 
 returns-2 : tie.Need-returns-2
-returns-2 c = search field-ways
+returns-2 c = (search field-ways, search needs)
 
 returns-3 : tie.Need-returns-3
-returns-3 c = search field-ways
+returns-3 c = (search field-ways, search needs)
 
 pub field-named-spec : {M : Type 1} → statement M
 field-named-spec =
-    tie.close (tie.spec inas-named-requires returns spas-named-requires returns-2 returns-3)
+    tie.close
+    (tie.spec
+    inas-named-requires
+    same-length
+    returns
+    spas-named-requires
+    same-length-2
+    returns-2
+    returns-3)

@@ -1,23 +1,24 @@
-use Rattle.references.proofs.RecordLaws.{fields-turn, fields-passed}
 use Rattle.references.specs.Named.{Alike}
+use Rattle.references.specs.Vouched.{Vouched}
 use Rattle.references.specs.Readable.{allReadable}
 use Rattle.rules.specs.Associations.{marks}
 use Rattle.skeleton.specs.Place.{fieldsAt}
 use Rattle.skeleton.specs.RightFrom.{RightFrom}
 use lib.ListN.{length}
 use mathlib.Core.Bool.{true}
-use mathlib.Core.Path.{_≡_}
+use mathlib.Core.Path.{_≡_, refl}
 use Prim.Native.Nat.{_-_, _≤_}
+use Rattle.references.proofs.RecordLaws.{fields-turn, fields-passed}
 use borrow.Author.Needs.{needs}
 use native.Mathlib.Omega.{arith}
 use Rattle.references.proofs.record.record_named.Statement.{statement}
 use Rattle.references.proofs.record.record_named.Tie as tie
 
 abbrev Inv-loop : tie.InvT-loop
-Inv-loop f start t n map r h q₀ i₀ q i = (i ≤ q) × (allReadable (fieldsAt r h q) ≡ true) × RightFrom r h q × Alike f start (marks i (fieldsAt r h q)) (marks 1 (fieldsAt r h 24))
+Inv-loop f start t n map p r h k₀ q₀ i₀ k q i = (length k ≡ length k₀) × Vouched f start k × (i ≤ q) × (allReadable (fieldsAt r h q) ≡ true) × RightFrom r h q × Alike f start (marks i (fieldsAt r h q)) (marks 1 (fieldsAt r h 24))
 
 abbrev μ-loop : tie.MeasureT-loop
-μ-loop f start t n map r h q₀ i₀ q i = length r - q
+μ-loop f start t n map p r h k₀ q₀ i₀ k q i = length r - q
 
 add-q : tie.Need-add-q Inv-loop μ-loop
 add-q c = search needs
@@ -26,13 +27,16 @@ add-q-2 : tie.Need-add-q-2 Inv-loop μ-loop
 add-q-2 c = search needs
 
 loop-holds : tie.Need-loop-holds Inv-loop μ-loop
-loop-holds c = (omega arith, search fields-turn, search fields-turn, search fields-turn)
+loop-holds c = (refl, search needs, omega arith, search fields-turn, search fields-turn, search fields-turn)
 
 shared-slice-read-if1 : tie.Need-shared-slice-read-if1 Inv-loop μ-loop
 shared-slice-read-if1 c = search fields-turn
 
+same-length : tie.Need-same-length Inv-loop μ-loop
+same-length c = search needs
+
 returns : tie.Need-returns Inv-loop μ-loop
-returns c = search fields-turn
+returns c = (search fields-turn, search needs)
 
 entry-named-requires : tie.Need-entry-named-requires Inv-loop μ-loop
 entry-named-requires c κs = search needs
@@ -57,14 +61,18 @@ loop-less c = search fields-turn
 
 loop-again : tie.Need-loop-again Inv-loop μ-loop
 loop-again c =
-    let inv = c .before .before .before .before .before .before .before .loop .inv in
-    (search fields-turn, search fields-turn, search fields-turn, fields-passed _ _ _ _ _ _ _ (inv .3) (inv .2) (c .before .before .before .before .before .if1 .left) _ (c .before .before .before .before .entry-named .ensures) (c .before .before .enum-told .given .1))
+    let inv = c .before .before .before .before .before .before .before .before .before .before .loop .inv in
+    let passed = fields-passed _ _ _ _ _ _ _ (inv .5) (inv .4) (c .before .before .before .before .before .before .before .before .if1 .left) _ (c .before .before .before .before .before .before .entry-named .ensures .0) (c .before .before .enum-told .given .1) in
+    (search needs, search needs, search fields-turn, search fields-turn, search fields-turn, passed)
 
-enum-known-k : tie.Need-enum-known-k Inv-loop μ-loop
-enum-known-k c = search needs
+enum-known-c : tie.Need-enum-known-c Inv-loop μ-loop
+enum-known-c c = search needs
+
+same-length-2 : tie.Need-same-length-2 Inv-loop μ-loop
+same-length-2 c = search needs
 
 returns-2 : tie.Need-returns-2 Inv-loop μ-loop
-returns-2 c = search fields-turn
+returns-2 c = (search fields-turn, search needs)
 
 pub record-named-spec : {M : Type 1} → statement M
 record-named-spec =
@@ -76,6 +84,7 @@ record-named-spec =
     add-q-2
     loop-holds
     shared-slice-read-if1
+    same-length
     returns
     entry-named-requires
     enum-told
@@ -85,5 +94,6 @@ record-named-spec =
     add-i
     loop-less
     loop-again
-    enum-known-k
+    enum-known-c
+    same-length-2
     returns-2)

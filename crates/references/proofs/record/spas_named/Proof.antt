@@ -1,35 +1,39 @@
-use Rattle.references.proofs.RecordLaws.{tuples-turn}
 use Rattle.references.specs.Named.{Alike}
+use Rattle.references.specs.Vouched.{Vouched}
 use Rattle.rules.specs.Associations.{spasMarks}
 use Rattle.fields.specs.Table.{tupleOf}
 use Rattle.fields.specs.Content.{many}
 use Rattle.fields.specs.Places.{endingAt}
 use Rattle.fields.specs.declared.Format.the-variants.{Spas}
 use lib.ListN.{length, drop}
-use mathlib.Core.Path.{_≡_}
+use mathlib.Core.Path.{_≡_, refl}
 use Prim.Native.Nat.{_+_, _-_, _≤_}
+use Rattle.references.proofs.RecordLaws.{tuples-more, tuples-turn}
 use borrow.Author.Needs.{needs}
 use native.Mathlib.Omega.{arith}
 use Rattle.references.proofs.record.spas_named.Statement.{statement}
 use Rattle.references.proofs.record.spas_named.Tie as tie
 
 abbrev Inv-loop : tie.InvT-loop
-Inv-loop f start t n map b i at₀ j₀ at j = (at ≤ length b) × (j ≤ at + 1) × (endingAt (tupleOf Spas) b at ≡ 0) × Alike f start (spasMarks i j (many (tupleOf Spas) (drop at b))) (spasMarks i 1 (many (tupleOf Spas) b))
+Inv-loop f start t n map p q b i k₀ at₀ j₀ k at j = (length k ≡ length k₀) × Vouched f start k × (at ≤ length b) × (j ≤ at + 1) × (endingAt (tupleOf Spas) b at ≡ 0) × Alike f start (spasMarks i j (many (tupleOf Spas) (drop at b))) (spasMarks i 1 (many (tupleOf Spas) b))
 
 abbrev μ-loop : tie.MeasureT-loop
-μ-loop f start t n map b i at₀ j₀ at j = length b - at
+μ-loop f start t n map p q b i k₀ at₀ j₀ k at j = length b - at
 
 loop-holds : tie.Need-loop-holds Inv-loop μ-loop
-loop-holds c = (omega arith, omega arith, search tuples-turn, search tuples-turn)
+loop-holds c = (refl, search needs, omega arith, omega arith, search tuples-turn, search tuples-turn)
 
 key-at-requires : tie.Need-key-at-requires Inv-loop μ-loop
 key-at-requires c κs = search needs
 
-has-requires : tie.Need-has-requires Inv-loop μ-loop
-has-requires c κs = search needs
+exists-requires : tie.Need-exists-requires Inv-loop μ-loop
+exists-requires c κs = search needs
+
+same-length : tie.Need-same-length Inv-loop μ-loop
+same-length c = search needs
 
 returns : tie.Need-returns Inv-loop μ-loop
-returns c = search tuples-turn
+returns c = (search tuples-turn, search needs)
 
 add-at : tie.Need-add-at Inv-loop μ-loop
 add-at c = search tuples-turn
@@ -41,10 +45,16 @@ loop-less : tie.Need-loop-less Inv-loop μ-loop
 loop-less c = search tuples-turn
 
 loop-again : tie.Need-loop-again Inv-loop μ-loop
-loop-again c = (search tuples-turn, search tuples-turn, search tuples-turn, search tuples-turn)
+loop-again c =
+    let inv = c .before .before .before .before .before .before .before .loop .inv in
+    let more = tuples-more _ _ _ _ _ _ _ (inv .5) (c .before .before .before .before .before .before .loop-test .taken) (inv .4) _ _ _ (c .before .before .before .before .before .before .before .before .before .before .before .before .before .pre .0) _ (c .before .before .before .before .before .key-at .ensures .0) (c .before .before .before .before .before .key-at .ensures .1) _ (c .before .before .before .exists .ensures .0) (c .if1 .left) in
+    (search needs, search needs, search tuples-turn, search tuples-turn, search tuples-turn, more)
+
+same-length-2 : tie.Need-same-length-2 Inv-loop μ-loop
+same-length-2 c = search needs
 
 returns-2 : tie.Need-returns-2 Inv-loop μ-loop
-returns-2 c = search tuples-turn
+returns-2 c = (search tuples-turn, search needs)
 
 pub spas-named-spec : {M : Type 1} → statement M
 spas-named-spec =
@@ -54,10 +64,12 @@ spas-named-spec =
     μ-loop
     loop-holds
     key-at-requires
-    has-requires
+    exists-requires
+    same-length
     returns
     add-at
     add-j
     loop-less
     loop-again
+    same-length-2
     returns-2)

@@ -1,7 +1,7 @@
 use Rattle.keys.proofs.OnceLaws.{renew-ways}
 use borrow.Author.Needs.{needs}
-use Rattle.keys.proofs.once.renew.Statement.{statement}
-use Rattle.keys.proofs.once.renew.Tie as tie
+use Rattle.book.proofs.once.renew.Statement.{statement}
+use Rattle.book.proofs.once.renew.Tie as tie
 
 returns : tie.Need-returns
 returns c = search renew-ways

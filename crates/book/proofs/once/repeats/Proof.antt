@@ -1,7 +1,10 @@
+use mathlib.Core.Bool.{true≢false}
+use Rattle.book.proofs.FirstLaws.{ahead-more}
 use Rattle.keys.proofs.OnceLaws.{repeats-ways}
+use native.Mathlib.Omega.{arith}
 use borrow.Author.Needs.{needs}
-use Rattle.keys.proofs.once.repeats.Statement.{statement}
-use Rattle.keys.proofs.once.repeats.Tie as tie
+use Rattle.book.proofs.once.repeats.Statement.{statement}
+use Rattle.book.proofs.once.repeats.Tie as tie
 
 stood-requires : tie.Need-stood-requires
 stood-requires c κs = search needs
@@ -10,7 +13,7 @@ same-length : tie.Need-same-length
 same-length c = search needs
 
 returns : tie.Need-returns
-returns c = search repeats-ways
+returns c = record { told = search repeats-ways; ahead = λ z. absurd (true≢false z) }
 
 renew-requires : tie.Need-renew-requires
 renew-requires c κs = search needs
@@ -22,7 +25,7 @@ same-length-2 : tie.Need-same-length-2
 same-length-2 c = search needs
 
 returns-2 : tie.Need-returns-2
-returns-2 c = search repeats-ways
+returns-2 c = record { told = search repeats-ways; ahead = λ _. search (ahead-more, arith) }
 
 pub repeats-spec : {M : Type 1} → statement M
 repeats-spec =

@@ -1,0 +1,68 @@
+use mathlib.Core.Path.{_≡_, refl}
+use lib.ListN.{length}
+use Prim.Native.Nat.{_-_, _≤_}
+use Rattle.references.proofs.VouchLaws.{place-turn}
+use borrow.Author.Needs.{needs}
+use Rattle.references.proofs.collecting.add_record.Statement.{statement}
+use Rattle.references.proofs.collecting.add_record.Tie as tie
+
+abbrev Inv-loop : tie.InvT-loop
+Inv-loop k₀ n r h q from e₀ at₀ m₀ k e at m = (length k ≡ length k₀) × (m ≤ length k)
+
+abbrev μ-loop : tie.MeasureT-loop
+μ-loop k₀ n r h q from e₀ at₀ m₀ k e at m = length r - e
+
+loop-holds : tie.Need-loop-holds Inv-loop μ-loop
+loop-holds c = (refl, search needs)
+
+place-at-requires : tie.Need-place-at-requires Inv-loop μ-loop
+place-at-requires c κs = search needs
+
+enum-known-tag : tie.Need-enum-known-tag Inv-loop μ-loop
+enum-known-tag c = search needs
+
+sub-add-field : tie.Need-sub-add-field Inv-loop μ-loop
+sub-add-field c = search place-turn
+
+part-add-field-start : tie.Need-part-add-field-start Inv-loop μ-loop
+part-add-field-start c = search place-turn
+
+part-add-field-end : tie.Need-part-add-field-end Inv-loop μ-loop
+part-add-field-end c = search place-turn
+
+add-field-requires : tie.Need-add-field-requires Inv-loop μ-loop
+add-field-requires c κs = search needs
+
+loop-less : tie.Need-loop-less Inv-loop μ-loop
+loop-less c = search place-turn
+
+loop-again : tie.Need-loop-again Inv-loop μ-loop
+loop-again c = search needs
+
+enum-told : tie.Need-enum-told Inv-loop μ-loop
+enum-told c = search needs
+
+same-length : tie.Need-same-length Inv-loop μ-loop
+same-length c = search needs
+
+returns : tie.Need-returns Inv-loop μ-loop
+returns c = search needs
+
+pub add-record-spec : {M : Type 1} → statement M
+add-record-spec =
+    tie.close
+    (tie.spec
+    Inv-loop
+    μ-loop
+    loop-holds
+    place-at-requires
+    enum-known-tag
+    sub-add-field
+    part-add-field-start
+    part-add-field-end
+    add-field-requires
+    loop-less
+    loop-again
+    enum-told
+    same-length
+    returns)
