@@ -2,6 +2,7 @@ pub mod FateLaws
 pub mod LinkedLaws
 pub mod KnownLaws
 pub mod ActsLaws
+pub mod NextLaws
 pub mod StandingLaws
 pub mod NamingLaws
 pub mod HeldLaws

@@ -7,6 +7,7 @@ use skeleton::file::stated_at;
 use skeleton::leader::Head;
 use skeleton::place::Place;
 use skeleton::place::place_at;
+use sorting::index::next;
 ghost use mathlib.Core.Path.{_≡_};
 ghost use mathlib.Core.Bool.{not};
 ghost use lib.Dec.{eqb};
@@ -14,6 +15,7 @@ ghost use Rattle.base.specs.Choice.{pick, both, either};
 ghost use Rattle.skeleton.specs.Place.{fieldsAt};
 ghost use Rattle.skeleton.specs.Shape.{Bounded};
 ghost use Rattle.keys.specs.Look.{Sound};
+ghost use Rattle.sorting.specs.Places.{Leads, Indexed};
 ghost use Rattle.composing.specs.Acts.{ruinWith, fateFrom, deletedFrom};
 
 // RUIN of the update record r, which names the key.
@@ -99,4 +101,51 @@ pub fn deleted_from(u: &[u8], us: usize, key: u64) -> bool
         }
     }
     gone
+}
+
+// The same of those from `from` on, found by an index of those from us on.
+pub fn deleted_by(u: &[u8], us: usize, index: &[u8], from: usize, key: u64) -> bool
+    requires { ⌜ Sound (now u) us × Leads (now u) us from × Indexed (now u) us (now index) ⌝ }
+    ensures { λ b. ⌜ b ≡ deletedFrom (now (u .entry)) from key ⌝ }
+{
+    let mut p = next(u, us, index, from, key);
+    let mut gone = false;
+    while p < u.len() {
+        match stated_at(u, p) {
+            Head::Good { len, base, a, b } => {
+                let found = key_at(u, p + base);
+                gone = deletes(&u[p..p + len], Shape { base, a, b }, found, key, gone);
+                if gone {
+                    return true;
+                }
+                p = next(u, us, index, p + len, key);
+            }
+            Head::Refused(_) => {
+                return gone;
+            }
+        }
+    }
+    gone
+}
+
+// Whether a record stands under the key after the update records from us on, found by an index of them; before: whether one stood.
+pub fn fate_by(u: &[u8], us: usize, index: &[u8], key: u64, before: bool) -> bool
+    requires { ⌜ Sound (now u) us × Indexed (now u) us (now index) ⌝ }
+    ensures { λ b. ⌜ b ≡ fateFrom (now (u .entry)) us key before ⌝ }
+{
+    let mut p = next(u, us, index, us, key);
+    let mut stands = before;
+    while p < u.len() {
+        match stated_at(u, p) {
+            Head::Good { len, base, a, b } => {
+                let found = key_at(u, p + base);
+                stands = leaves(&u[p..p + len], Shape { base, a, b }, found, key, stands);
+                p = next(u, us, index, p + len, key);
+            }
+            Head::Refused(_) => {
+                return stands;
+            }
+        }
+    }
+    stands
 }

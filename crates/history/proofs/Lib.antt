@@ -5,4 +5,5 @@ pub mod PlayingLaws
 pub mod FlagLaws
 pub mod StayLaws
 pub mod JudgingLaws
+pub mod NextLaws
 pub mod ReadyLaws

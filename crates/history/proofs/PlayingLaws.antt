@@ -154,7 +154,7 @@ module _ (d u : List ℕ) (us m key : ℕ) (w' : List ℕ) (p' : Present) (q lef
   take-none zero = refl
   take-none (suc n) = refl
 
-  turn-over : length u ≤ q → Played d u us m w' p' key w (Now p)
+  pub turn-over : length u ≤ q → Played d u us m w' p' key w (Now p)
   turn-over h = turn-done (ap (λ (g : Got (List Field)). take left (g .items)) (records-over u q h) ∙ take-none left)
 
   module _ (s : Short d u) (e : Look) (en : e ≡ lookAt u q) where

@@ -4,12 +4,15 @@ use crate::finding::locate;
 use crate::single::act;
 use keys::look::Look;
 use keys::look::look_at;
+use sorting::index::next;
 use version::Changed;
 use version::Present;
 ghost use Prim.Native.Nat.{_≤_};
 ghost use lib.ListN.{length};
 ghost use Rattle.incoming.specs.Fitting.{Rest};
+ghost use Rattle.keys.specs.Look.{Sound};
 ghost use Rattle.keys.specs.Table.{Laid};
+ghost use Rattle.sorting.specs.Places.{Leads, Indexed};
 ghost use Rattle.history.specs.Ready.{Short, Ready};
 ghost use Rattle.history.specs.Played.{Playing, Played, Latest};
 
@@ -48,6 +51,41 @@ pub fn play(
         } else {
             q += len;
             left -= 1;
+        }
+    }
+    Changed::Now(v)
+}
+
+// All of those from `from` on, found by an index of those from us on.
+pub fn play_all(
+    d: &[u8],
+    u: &[u8],
+    us: usize,
+    index: &[u8],
+    from: usize,
+    key: u64,
+    p: Present,
+    work: &mut [u8],
+) -> Changed
+    requires { ⌜ Short (now d) (now u) × Rest (now u) from × (from ≤ length (now u)) × (400000 ≤ length (now work)) ⌝ }
+    requires { ⌜ Sound (now u) us × Leads (now u) us from × Indexed (now u) us (now index) ⌝ }
+    requires { ⌜ Playing (now d) (now u) (now work) p key ⌝ }
+    ensures { λ r. ⌜ Played (now (d .entry)) (now (u .entry)) from (length (now (u .entry))) (now (work .entry)) p key (now (work .exit)) r ⌝ }
+{
+    let mut q = next(u, us, index, from, key);
+    let mut v = p;
+    while q < u.len() {
+        let Look::At { len, key: _ } = look_at(u, q) else {
+            return Changed::Now(v);
+        };
+        match act(d, u, q, v, work) {
+            Changed::Refused(n, i, j) => {
+                return Changed::Refused(n, i, j);
+            }
+            Changed::Now(made) => {
+                v = made;
+                q = next(u, us, index, q + len, key);
+            }
         }
     }
     Changed::Now(v)

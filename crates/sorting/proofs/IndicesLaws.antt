@@ -1,0 +1,149 @@
+-- Laws of two indices at the end of an output, and of a key that is found by one. Assumes nothing.
+use mathlib.Core.Path.{_≡_, refl, sym, ap, _∙_, subst}
+use mathlib.Core.Bool.{Bool, true, false}
+use mathlib.Core.List.{List, [], _∷_, _++_, append-nil, append-assoc}
+use Prim.Native.Nat.{ℕ, _+_, _-_, _≤_, _<_}
+use native.Mathlib.Omega.{arith}
+use lib.ListN.{length, take, drop, length-take, length-drop, length-append}
+use lib.Seq.{take-all, take-at, drop-at, drop-drop, drop-append-le}
+use Rattle.base.specs.Lists.{each}
+use Rattle.base.specs.Walk.{Got}
+use Rattle.base.proofs.ListLaws.{each-drop}
+use Rattle.skeleton.specs.File.{Field, recordsFrom}
+use Rattle.skeleton.specs.Place.{between}
+use Rattle.skeleton.proofs.FileLaws.{records-over}
+use Rattle.keys.specs.Listed.{keyOf, keysFrom, listed, hasFrom}
+use Rattle.keys.specs.Look.{Sound}
+use Rattle.keys.specs.Table.{Tail, Sits, Sited}
+use Rattle.keys.proofs.LookLaws.{Found}
+use Rattle.sorting.specs.Places.{Leads, Names, Skips, Next, Indexed}
+use Rattle.sorting.specs.Indices.{Indices, Spared, Beyond}
+use Rattle.sorting.specs.declared.limits.Limits.{Limits}
+use Rattle.sorting.proofs.PlaceLaws.{follows}
+
+-- ---- no index
+
+pub indexed-empty : (f : List ℕ) (start : ℕ) (s : List ℕ) → length s ≡ 0 → Indexed f start s
+unfolding Indexed
+indexed-empty f start s e = λ h. absurd (omega arith)
+
+none-between : (f : List ℕ) (start : ℕ) (s : List ℕ) (a : ℕ) → Indexed f start (between s a a)
+none-between f start s a = indexed-empty f start (between s a a) (simp length-take (omega arith))
+
+none-behind : (f : List ℕ) (start : ℕ) (s : List ℕ) (a : ℕ) → length s ≤ a → Indexed f start (drop a s)
+none-behind f start s a h = indexed-empty f start (drop a s) (simp length-drop (omega arith))
+
+-- ---- `new_index`
+
+pub to-end : (l : List ℕ) (a : ℕ) → take (length l - a) (drop a l) ≡ drop a l
+to-end l a = take-all (length l - a) (drop a l) (omega (arith, length-drop a l))
+
+-- ---- bytes that are as they were
+
+-- further on they are so too
+pub beyond-from : (to : ℕ) (before out : List ℕ) → Beyond to before out → (k : ℕ) → to ≤ k → drop k out ≡ drop k before
+beyond-from to before out b k h =
+    let e : to + (k - to) ≡ k = omega arith in
+    let further : (l : List ℕ) → drop k l ≡ drop (k - to) (drop to l) = λ l. sym (drop-drop (k - to) to l ∙ ap (λ (n : ℕ). drop n l) e) in
+    further out ∙ ap (drop (k - to)) (b .same) ∙ sym (further before)
+
+pub beyond-same : (to : ℕ) (l : List ℕ) → Beyond to l l
+beyond-same to l = record { long = refl; same = refl }
+
+pub beyond-then : (i j : ℕ) (a b c : List ℕ) → i ≤ j → Beyond i a b → Beyond j b c → Beyond j a c
+beyond-then i j a b c h x y = record { long = y .long ∙ x .long; same = y .same ∙ beyond-from i a b x j h }
+
+-- ---- `lay_both`
+
+module _ (d : List ℕ) (ds : ℕ) (u : List ℕ) (us : ℕ) where
+  pub both-one : (out : List ℕ) (new : ℕ) → new ≤ length out → Indexed u us (drop new out) → Indices d ds u us (record { old = new; new = new }) out
+  both-one out new h i = record { runs = omega arith; inside = h; old = none-between d ds out new; new = i }
+
+  pub both-two : (before out : List ℕ) (old new : ℕ) → new ≤ length out → Indexed u us (drop new before) → old ≤ new → Indexed d ds (between out old new) → drop new out ≡ drop new before
+      → Indices d ds u us (record { old = old; new = new }) out
+  both-two before out old new h i r j e = record { runs = r; inside = h; old = j; new = subst (Indexed u us) (sym e) i }
+
+  -- ---- `spare`
+
+  module _ (lim : Limits) (to : ℕ) (out : List ℕ) (s : Spared d ds u us lim to out) where
+    pub spare-all : to ≤ lim .old → Indices d ds u us lim out
+    spare-all h = record { runs = s .runs; inside = s .inside; old = s .old h; new = s .new (let r = s .runs in omega arith) }
+
+    pub spare-new : to ≤ lim .new → Indices d ds u us (record { old = lim .new; new = lim .new }) out
+    spare-new h = both-one out (lim .new) (s .inside) (s .new h)
+
+    pub spare-none : (all : ℕ) → length out ≡ all → Indices d ds u us (record { old = all; new = all }) out
+    spare-none all e = both-one out all (omega arith) (none-behind u us out all (omega arith))
+
+  -- ---- what is kept where bytes are written
+
+  module _ (lim : Limits) where
+    pub spared-start : (to : ℕ) (out : List ℕ) → Indices d ds u us lim out → Spared d ds u us lim to out
+    spared-start to out i = record { runs = i .runs; inside = i .inside; old = λ h. i .old; new = λ h. i .new }
+
+    pub spared-on : (to next : ℕ) (before out : List ℕ) → to ≤ next → Beyond next before out → Spared d ds u us lim to before → Spared d ds u us lim next out
+    spared-on to next before out h b s = record {
+      runs = s .runs;
+      inside = (let l = b .long in let i = s .inside in omega arith);
+      old = λ g.
+          subst (Indexed d ds) (ap (take (lim .new - lim .old)) (sym (beyond-from next before out b (lim .old) g))) (s .old (omega arith));
+      new = λ g. subst (Indexed u us) (sym (beyond-from next before out b (lim .new) g)) (s .new (omega arith));
+    }
+
+-- ---- `lay_in`
+
+-- l with m in place of the bytes from `from` up to `to`
+module _ (l m : List ℕ) (from to : ℕ) (h : from ≤ to) (g : to ≤ length l) (e : length m ≡ to - from) where
+  abbrev relaid : List ℕ
+  relaid = take from l ++ (m ++ drop (to - from) (drop from l))
+
+  front : length (take from l) ≡ from
+  front = simp length-take (omega arith)
+
+  pub relaid-behind : drop to relaid ≡ drop to l
+  relaid-behind =
+      let i : from + (to - from) ≡ to = omega arith in
+      ap (drop to) (sym (append-assoc (take from l) m (drop (to - from) (drop from l))))
+      ∙ drop-at (take from l ++ m) (drop (to - from) (drop from l)) to (length-append (take from l) m ∙ omega (arith, front))
+      ∙ drop-drop (to - from) from l ∙ ap (λ (n : ℕ). drop n l) i
+
+  pub relaid-part : (k : ℕ) → k ≤ length m → between relaid (from + k) to ≡ drop k m
+  relaid-part k i =
+      let rest = drop (to - from) (drop from l) in
+      ap (take (to - (from + k)))
+      (sym (drop-drop k from relaid) ∙ ap (drop k) (drop-at (take from l) (m ++ rest) from front) ∙ drop-append-le k m rest i)
+      ∙ take-at (drop k m) rest (to - (from + k)) (length-drop k m ∙ omega arith)
+
+  pub relaid-indexed : (f : List ℕ) (start k : ℕ) → k ≤ length m → Indexed f start (drop k m)
+      → (from + k ≤ to) × Indexed f start (between relaid (from + k) to) × (drop to relaid ≡ drop to l)
+  relaid-indexed f start k i x = (omega arith, subst (Indexed f start) (sym (relaid-part k i)) x, relaid-behind)
+
+-- ---- a key that is found
+
+module _ (f : List ℕ) (start key r : ℕ) (s : Sound f start) (n : Next f key start r) where
+  same-items : drop (length (n .skips .skipped)) ((recordsFrom f start) .items) ≡ (recordsFrom f r) .items
+  same-items = ap (drop (length (n .skips .skipped))) (n .skips .split) ∙ drop-at (n .skips .skipped) ((recordsFrom f r) .items) (length (n .skips .skipped)) refl
+
+  gone : length f ≤ r → hasFrom f start key ≡ false
+  unfolding hasFrom keysFrom each
+  gone h =
+      let e : (recordsFrom f r) .items ≡ [] = ap (λ (g : Got (List Field)). g .items) (records-over f r h) in
+      ap (λ (l : List (List Field)). listed key (each keyOf l)) (n .skips .split ∙ ap (λ (l : List (List Field)). n .skips .skipped ++ l) e ∙ append-nil (n .skips .skipped)) ∙ n .skips .none
+
+  pub next-sited : Sited f start key r
+  unfolding keysFrom
+  next-sited = record {
+    there = λ h.
+        let m = n .names h in
+        record {
+          tail = record {
+            sound = n .sound;
+            skipped = length (n .skips .skipped);
+            rest = each-drop keyOf (length (n .skips .skipped)) ((recordsFrom f start) .items) ∙ ap (each keyOf) same-items;
+            same = same-items;
+          };
+          later = keysFrom f (r + m .len);
+          keys = follows f r (m .len) key (n .sound) (m .look) .found .keys;
+        };
+    gone = gone;
+  }

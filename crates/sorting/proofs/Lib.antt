@@ -1,0 +1,4 @@
+pub mod NumberLaws
+pub mod PlaceLaws
+pub mod IndexLaws
+pub mod IndicesLaws

@@ -1,0 +1,65 @@
+-- The places of a file's records, what lies between two of them, and an index of them by key.
+use Prim.Native.Nat.{ℕ, _+_, _*_, _≤_, _<_}
+use mathlib.Core.Path.{_≡_}
+use mathlib.Core.Bool.{false}
+use mathlib.Core.List.{List, _++_}
+use lib.ListN.{length}
+use Rattle.base.specs.Lists.{each}
+use Rattle.base.specs.Walk.{Got}
+use Rattle.skeleton.specs.File.{Field, recordsFrom}
+use Rattle.keys.specs.Listed.{keyOf, listed}
+use Rattle.keys.specs.Look.{lookAt, Sound}
+use Rattle.keys.specs.declared.look.Look.the-variants.{At}
+use Rattle.sorting.specs.Numbers.{Has, Ascends}
+
+-- the records from p on lead to the one at r, or they end there
+pub data Leads (u : List ℕ) : ℕ → ℕ → Type 0 where
+  here : {p : ℕ} → Leads u p p
+  over : {p len key r : ℕ} → lookAt u p ≡ At len key → Leads u (p + len) r → Leads u p r
+
+-- one of the records from us on begins at p and names the key
+pub record Names (u : List ℕ) (us key p : ℕ) : Type 0 where
+  pub leads : Leads u us p
+  pub len : ℕ
+  pub look : lookAt u p ≡ At len key
+
+-- none of the records from p up to r names the key
+pub record Skips (u : List ℕ) (key p r : ℕ) : Type 0 where
+  pub skipped : List (List Field)
+  pub split : (recordsFrom u p) .items ≡ skipped ++ (recordsFrom u r) .items
+  pub none : listed key (each keyOf skipped) ≡ false
+
+-- the first of the records from p on that names the key begins at r; or there is none, and r is the end
+pub record Next (u : List ℕ) (key p r : ℕ) : Type 0 where
+  pub leads : Leads u p r
+  pub sound : Sound u r
+  pub skips : Skips u key p r
+  pub names : r < length u → Names u p key r
+
+-- ---- the index
+
+-- the number of a record in the index: by its key, and then by its place
+abbrev pub weightOf : ℕ → ℕ → ℕ
+weightOf key p = key * 16777216 + p
+
+-- x is the number of one of the records from us on
+pub record Entry (u : List ℕ) (us x : ℕ) : Type 0 where
+  pub key : ℕ
+  pub place : ℕ
+  pub names : Names u us key place
+  pub is : x ≡ weightOf key place
+
+-- the n numbers in s are those of the records from us on
+pub record Filled (u : List ℕ) (us n : ℕ) (s : List ℕ) : Type 0 where
+  pub long : length s ≡ 8 * n
+  pub each-one : (x : ℕ) → Has n s x → Entry u us x
+  pub all : (key p : ℕ) → Names u us key p → Has n s (weightOf key p)
+
+-- and they ascend
+pub record Sorted (u : List ℕ) (us n : ℕ) (s : List ℕ) : Type 0 where
+  pub filled : Filled u us n s
+  pub up : Ascends n s
+
+-- s is empty, or an index of the records from us on
+unfoldable pub Indexed : List ℕ → ℕ → List ℕ → Type 0
+Indexed u us s = 0 < length s → (n : ℕ) × Sorted u us n s
