@@ -1,308 +1,447 @@
 -- Laws of the verdicts on update records. Assumes nothing.
 use mathlib.Core.Path.{_≡_, refl, sym, ap, _∙_, subst}
-use mathlib.Core.Bool.{Bool, true, false}
-use mathlib.Core.Option.{Option}
-use mathlib.Core.List.{List, [], _∷_, _++_}
-use Prim.Native.Nat.{ℕ, zero, suc, _+_, _-_, _*_, _^_, _≤_, _<_}
+use mathlib.Core.Bool.{Bool, true, false, not, true≢false}
+use mathlib.Core.Option.{Option, some, none}
+use mathlib.Core.List.{List, [], _∷_, _++_, append-assoc}
+use Prim.Native.Nat.{ℕ, _+_, _-_, _^_, _≤_, _<_}
 use native.Mathlib.Omega.{arith}
-use native.Mathlib.Numerals.{add-one}
-use borrow.Author.Tests.{ne-eqb}
-use lib.ListN.{length, getD, take, drop, length-drop}
-use lib.Seq.{take-suc, take-all, drop-cons}
-use Rattle.base.specs.Choice.{pick}
+use borrow.Author.Tests.{not-true, not-false, eqb-true, ltb-true, ltb-false, lt-ltb, le-ltb, leb-true, leb-false}
+use lib.Dec.{eqb, ltb, leb}
+use lib.ListN.{length, drop, length-append}
+use Rattle.base.specs.Choice.{pick, either}
 use Rattle.base.specs.Check.{Check, ok, no, bind, fault}
 use Rattle.base.specs.Lists.{each, Each}
-use Rattle.base.proofs.EachLaws.{each-taken}
 use Rattle.base.specs.Keys.{same}
 use Rattle.base.specs.Walk.{Got}
+use Rattle.base.specs.declared.Fault.{Fault}
 use Rattle.base.proofs.CheckLaws.{bind-inv}
-use Rattle.base.proofs.KeysLaws.{same-refl}
+use Rattle.base.proofs.EachLaws.{each-parts}
+use Rattle.base.proofs.KeysLaws.{same-sound, same-refl}
+use Rattle.base.proofs.ListLaws.{each-append}
 use Rattle.skeleton.specs.File.{Field, recordsFrom}
-use Rattle.skeleton.proofs.FileLaws.{records-over}
-use Rattle.rules.specs.Record.{Rec}
-use Rattle.sequence.specs.Keyed.{Parts, Under, Ran, find}
-use Rattle.sequence.specs.History.{history, version, due, judged}
-use Rattle.sequence.specs.Order.{named}
-use Rattle.sequence.proofs.Arms.{history-none, judged-no, judged-next, due-of}
-use Rattle.sequence.proofs.Local.{history-append, history-own, history-under}
-use Rattle.sequence.proofs.Lists.{find-under}
+use Rattle.rules.specs.Record.{Rec, keyOf as keyInRules}
+use Rattle.sequence.specs.Keyed.{Parts, Ran, stop, done, Under, Has, Once, find}
+use Rattle.sequence.specs.History.{history, version, due, judged, First, Fine as AllFine, verdict}
+use Rattle.sequence.proofs.Arms.{due-of}
+use Rattle.sequence.proofs.Local.{history-append, run-judged}
+use Rattle.sequence.proofs.Lists.{each-find}
+use Rattle.sequence.proofs.Refusal.{run-refused, run-accepted}
 use Rattle.updates.specs.Acts.{chart, inUpdate}
+use Rattle.updates.specs.Accepted.{Writable}
 use Rattle.updates.specs.Streamed.{verdicts}
 use Rattle.updates.proofs.Acted.{lawful}
-use Rattle.stock.specs.Stock.{stockFrom}
+use Rattle.stock.specs.Stock.{recIn, stockFrom}
 use Rattle.incoming.specs.Fitting.{Single, Rest}
 use Rattle.keys.specs.Bits.{flagOf}
-use Rattle.keys.specs.Key.{rankOf}
 use Rattle.keys.specs.Listed.{keyOf, keysFrom, listed}
 use Rattle.keys.specs.Look.{lookAt, Sound}
 use Rattle.keys.specs.Numbered.{numberOf, Ranged}
 use Rattle.keys.specs.declared.look.Look.{Look}
 use Rattle.keys.specs.declared.look.Look.the-variants.{At, Nothing}
-use Rattle.keys.proofs.ListLaws.{not-first, not-later, split-take}
-use Rattle.keys.proofs.NumberLaws.{number-inj, same-number}
+use Rattle.keys.proofs.ListLaws.{listed-none, listed-more}
+use Rattle.keys.proofs.NumberLaws.{number-inj}
 use Rattle.keys.proofs.SoundLaws.{sound-nothing}
-use Rattle.keys.proofs.TableLaws.{drop-one}
+use Rattle.sorting.specs.Places.{Leads, here, over, Next}
+use Rattle.sorting.proofs.PlaceLaws.{leads-sound, leads-up, leads-then, leads-on, leads-end}
 use Rattle.version.specs.Areas.{flagArea}
-use Rattle.version.specs.Present.{HeldAs, ChangedTo}
+use Rattle.version.specs.Present.{HeldAs, FlagsKept}
 use Rattle.version.specs.declared.Present.{Present}
 use Rattle.version.specs.declared.Present.the-variants.{Absent}
 use Rattle.version.specs.declared.Changed.{Changed}
 use Rattle.version.specs.declared.Changed.the-variants.{Refused, Now}
-use Rattle.history.specs.Here.{recordHere, namedIn}
+use Rattle.history.specs.Here.{recordHere, namedIn, recordsUpTo}
 use Rattle.history.specs.Flags.{keyFlag, Flags, Marked}
+use Rattle.history.specs.Located.{Stands, Located}
 use Rattle.history.specs.Ready.{Short, Ready}
-use Rattle.history.specs.Played.{Acting, Acted, Latest}
-use Rattle.history.specs.Judged.{Reached, Names, Due, judgedBy, AllJudged}
+use Rattle.history.specs.Played.{Playing, EndsAt, Coursed}
+use Rattle.history.specs.Judged.{keysUpTo, Naming, Through, RefusedAt, Followed, earlierBy, earlierOf, Judging, judgedBy, AllJudged}
+use Rattle.history.specs.declared.playing.Course.{Course}
+use Rattle.history.specs.declared.judging.Stop.{Stop}
 use Rattle.history.specs.declared.judging.Judged.the-variants.{Fine, Stopped}
-use Rattle.history.proofs.FlagLaws.{flags-clear, flags-more, flags-kept, area-long}
-use Rattle.history.proofs.PlayingLaws.{Named, single-named, Met, met, rest-sound}
-use Rattle.history.proofs.StayLaws.{held-stays}
+use Rattle.history.proofs.FlagLaws.{flags-none, flags-clear, flags-more, flags-kept, area-long}
+use Rattle.history.proofs.UpToLaws.{sound-first, leads-past, listed-middle, upto-start, upto-end, upto-split, upto-more, upto-one, upto-later, none-before, one-before}
+use Rattle.history.proofs.PlayingLaws.{Met, met, Named, single-named, rest-sound}
+use Rattle.history.proofs.CourseLaws.{history-then, history-past}
 
--- ---- the keys of some of the records
+-- ---- a key whose history goes through
 
-keys-take : (j : ℕ) (items : List (List Field)) → each keyOf (take j items) ≡ take j (each keyOf items)
-unfolding each
-keys-take zero items = refl
-keys-take (suc j) [] = refl
-keys-take (suc j) (fs ∷ items) = ap (λ (l : List ℕ). keyOf fs ∷ l) (keys-take j items)
+module _ (recs : List Rec) where
+  -- it does so with fewer update records
+  through-front : (k : List ℕ) (xs ys : List (List Field)) (o : Option Rec) → version chart recs (xs ++ ys) k ≡ ok o → (p : Option Rec) × (version chart recs xs k ≡ ok p)
+  unfolding version
+  through-front k xs ys o e =
+      let i = bind-inv (history chart k xs (find chart k recs)) (λ p. history chart k ys p) o (sym (history-append chart lawful k xs ys (find chart k recs)) ∙ e) in
+      (i .0, i .1)
 
-keys-drop : (j : ℕ) (items : List (List Field)) → each keyOf (drop j items) ≡ drop j (each keyOf items)
-unfolding each
-keys-drop zero items = refl
-keys-drop (suc j) [] = refl
-keys-drop (suc j) (fs ∷ items) = keys-drop j items
+  -- of one that names it, the change is accepted
+  own-change : (y : List Field) (zs : List (List Field)) (o p : Option Rec) → history chart (namedIn y) (y ∷ zs) o ≡ ok p → (q : Option Rec) × (chart .change y o ≡ ok q)
+  unfolding history
+  own-change y zs o p e =
+      let c : bind (chart .change y o) (λ q. history chart (namedIn y) zs q) ≡ ok p = rw (same-refl (namedIn y)) at e in
+      let j = bind-inv (chart .change y o) (λ q. history chart (namedIn y) zs q) p c in
+      (j .0, j .1)
 
--- a key that is not listed is not named
-pub none-named : (items : List (List Field)) → Each Single items → (k : List ℕ) → Ranged k → listed (numberOf k) (each keyOf items) ≡ false → named chart k items ≡ false
-unfolding named each Each
-none-named [] s k r e = refl
-none-named (fs ∷ items) s k r e =
-    let n = single-named fs (s .0) in
-    let x : same (namedIn fs) k ≡ false
-    = same-number (namedIn fs) k (n .ranged) r
-    ∙ ne-eqb (numberOf k) (numberOf (namedIn fs)) (λ z. not-first (numberOf k) (keyOf fs) (each keyOf items) e (n .number ∙ sym z)) in
-    rw x (none-named items (s .1) k r (not-later (numberOf k) (keyOf fs) (each keyOf items) e))
+  -- each that names it is accepted
+  through-one : (xs : List (List Field)) (y : List Field) (zs : List (List Field)) (o : Option Rec) → version chart recs (xs ++ (y ∷ zs)) (namedIn y) ≡ ok o
+      → (p : Option Rec) × (due chart recs xs y ≡ ok p)
+  unfolding version
+  through-one xs y zs o e =
+      let k = namedIn y in
+      let i = bind-inv (history chart k xs (find chart k recs)) (λ p. history chart k (y ∷ zs) p) o (sym (history-append chart lawful k xs (y ∷ zs) (find chart k recs)) ∙ e) in
+      let j = own-change y zs (i .0) o (i .2) in
+      (j .0, due-of chart 0 recs xs y zs (i .0) (i .1) ∙ j .1)
 
--- nor is one whose flag is not raised
-pub unflagged : (u : List ℕ) (us : ℕ) → Rest u us → (t : List ℕ) → Flags (keysFrom u us) t → (k : List ℕ) → Ranged k → flagOf t (keyFlag (numberOf k)) ≡ false
-    → named chart k ((recordsFrom u us) .items) ≡ false
-unfolding keysFrom
-unflagged u us s t f k r e = none-named ((recordsFrom u us) .items) (s .singles) k r (flags-clear (each keyOf ((recordsFrom u us) .items)) t (numberOf k) f e)
+  module _ (once : Once chart recs) (items : List (List Field)) where
+    -- the verdicts, by the first refusal
+    first-judged : (j : ℕ) (x : Fault) → First chart 3 recs items j x → judged chart 3 recs [] items ≡ stop j x
+    unfolding verdict
+    first-judged j x f = sym (run-judged chart lawful 3 recs items once) ∙ ap verdict (run-refused chart lawful 3 recs items once j x .1 f)
 
--- ---- `standing`
+    -- or by none
+    fine-judged : AllFine chart recs items → judged chart 3 recs [] items ≡ done tt
+    unfolding verdict
+    fine-judged f = sym (run-judged chart lawful 3 recs items once) ∙ ap verdict (run-accepted chart lawful 3 recs items once .1 f .1)
 
-module _ (d : List ℕ) (ds : ℕ) (u : List ℕ) (us : ℕ) (y : Ready d ds u us) (j key : ℕ) (w : List ℕ) where
-  -- the update record before names the key as well, and what it left is held
-  pub standing-held : (last : ℕ) (p : Present) → Latest d ds u us j last w w (Now p) → key ≡ last → Latest d ds u us j key w w (Now p)
-  standing-held last p l e = subst (λ (n : ℕ). Latest d ds u us j n w w (Now p)) (sym e) l
+-- ---- `is_first`
 
-  module _ (f : Flags (take j (keysFrom u us)) (flagArea w)) (m : ℕ) (e : m ≡ pick (flagOf (flagArea w) (keyFlag key)) j 0) where
-    -- the records that are left out do not name the key
-    same-version : (k : List ℕ) → Ranged k → numberOf k ≡ key
-        → version chart (stockFrom d ds) (take m ((recordsFrom u us) .items)) k ≡ version chart (stockFrom d ds) (take j ((recordsFrom u us) .items)) k
-    unfolding version history keysFrom
-    same-version k r i = go (flagOf (flagArea w) (keyFlag key)) refl e
-      where
-        go : (b : Bool) → flagOf (flagArea w) (keyFlag key) ≡ b → m ≡ pick b j 0
-            → history chart k (take m ((recordsFrom u us) .items)) (find chart k (stockFrom d ds))
-            ≡ history chart k (take j ((recordsFrom u us) .items)) (find chart k (stockFrom d ds))
-        go true x z = rw z refl
-        go false x z =
-            let items = (recordsFrom u us) .items in
-            let c : listed key (take j (each keyOf items)) ≡ false = flags-clear (take j (each keyOf items)) (flagArea w) key f x in
-            let g : listed (numberOf k) (each keyOf (take j items)) ≡ false
-            = ap (λ (n : ℕ). listed n (each keyOf (take j items))) i ∙ ap (listed key) (keys-take j items) ∙ c in
-            let h = none-named (take j items) (each-taken Single j items (y .rest .singles)) k r g in
-            rw z (sym (history-none chart k (take j items) (find chart k (stockFrom d ds)) h))
+module _ (u : List ℕ) (us q key : ℕ) where
+  -- its flag is not raised
+  pub first-flag : (t : List ℕ) → Flags (keysUpTo u us q) t → flagOf t (keyFlag key) ≡ false → true ≡ not (listed key (keysUpTo u us q))
+  first-flag t f e = ap not (sym (flags-clear (keysUpTo u us q) t key f e))
 
-    pub standing-played : (v : List ℕ) (c : Changed) → Latest d ds u us m key w v c → Latest d ds u us j key w v c
-    standing-played v c l = record {
-      came = λ k r n. subst (λ (i : Check (Option Rec)). ChangedTo d u v i c) (same-version k r n) (l .came k r n);
-      kept = l .kept;
-    }
+  -- the first that names it is found
+  pub first-found : Sound u us → Leads u us q → (r : ℕ) → Next u key us r → leb q r ≡ not (listed key (keysUpTo u us q))
+  first-found s l r n = go (leb q r) refl
+    where
+      go : (b : Bool) → leb q r ≡ b → b ≡ not (listed key (keysUpTo u us q))
+      go true e = ap not (sym (none-before u us s q l key r n (leb-true q r e)))
+      go false e = ap not (sym (one-before u us s q l key r n (leb-false q r e)))
 
--- ---- `due`
+-- what it says
+pub is-listed : (b c : Bool) → b ≡ not c → not b ≡ true → c ≡ true
+is-listed b true e h = refl
+is-listed b false e h = absurd (true≢false (sym e ∙ not-true b h))
 
-module _ (d : List ℕ) (ds : ℕ) (u : List ℕ) (us j q key : ℕ) (a : Reached u us j q) (n : Names u q key) where
-  here-named : Named (recordHere u q)
+pub is-new : (b c : Bool) → b ≡ not c → not b ≡ false → c ≡ false
+is-new b false e h = refl
+is-new b true e h = absurd (true≢false (sym (not-false b h) ∙ e))
+
+-- ---- `earlier`
+
+module _ (c : Course) (s : Stop) where
+  pub earlier-new : (number field tuple : ℕ) → c .left ≡ Refused number field tuple → c .at < s .at → record { at = c .at; number = number; field = field; tuple = tuple } ≡ earlierOf c s
+  unfolding earlierBy
+  earlier-new number field tuple e h = rw (e, lt-ltb (c .at) (s .at) h) refl
+
+  pub earlier-old : (number field tuple : ℕ) → c .left ≡ Refused number field tuple → s .at ≤ c .at → s ≡ earlierOf c s
+  unfolding earlierBy
+  earlier-old number field tuple e h = rw (e, le-ltb (c .at) (s .at) h) refl
+
+  pub earlier-none : (p : Present) → c .left ≡ Now p → s ≡ earlierOf c s
+  unfolding earlierBy
+  earlier-none p e = rw e refl
+
+pub ruleset earlier-ways = (earlier-new, earlier-old, earlier-none, arith)
+
+-- ---- up to a place of the update
+
+module _ (d : List ℕ) (ds : ℕ) (u : List ℕ) (us : ℕ) (y : Ready d ds u us) where
+  pub ready-sound : Sound u us
+  ready-sound = rest-sound u us (y .rest) (y .inside) (y .short .new)
+
+  singles-upto : (q : ℕ) → Leads u us q → Each Single (recordsUpTo u us q)
+  singles-upto q l =
+      each-parts Single (recordsUpTo u us q) ((recordsFrom u q) .items) (subst (Each Single) (upto-split u us ready-sound q l) (y .rest .singles)) .0
+
+  rest-at : (q : ℕ) → Leads u us q → Rest u q
+  rest-at q l = record {
+    ended = leads-sound l ready-sound .clean;
+    singles = each-parts Single (recordsUpTo u us q) ((recordsFrom u q) .items) (subst (Each Single) (upto-split u us ready-sound q l) (y .rest .singles)) .1;
+  }
+
+  through-less : (b c key : ℕ) → Leads u us b → Leads u us c → b ≤ c → Through d ds u us c key → Through d ds u us b key
+  unfolding Through
+  through-less b c key l m h t k r n =
+      let g = upto-later u us ready-sound b l c m h in
+      let e = t k r n in
+      through-front (stockFrom d ds) k (recordsUpTo u us b) (g .0) (e .0) (ap (λ (xs : List (List Field)). version chart (stockFrom d ds) xs k) (sym (g .1)) ∙ e .1)
+
+  single-first : (z : List Field) (zs : List (List Field)) → Each Single (z ∷ zs) → Named z
   unfolding Each
-  here-named = let s : Each Single (recordHere u q ∷ n .later) = subst (Each Single) (n .split) (a .rest .singles) in single-named (recordHere u q) (s .0)
+  single-first z zs s = single-named z (s .0)
 
-  module _ (w v : List ℕ) (c : Changed) (l : Latest d ds u us j key w v c) where
-    came-of : ChangedTo d u v (version chart (stockFrom d ds) (take j ((recordsFrom u us) .items)) (namedIn (recordHere u q))) c
-    came-of = l .came (namedIn (recordHere u q)) (here-named .ranged) (sym (here-named .number) ∙ n .number)
+  -- where the histories of all keys that are named before q go through up to there, no update record before q is refused
+  all-through : (q : ℕ) → Leads u us q → ((key : ℕ) → listed key (keysUpTo u us q) ≡ true → Through d ds u us q key) → AllFine chart (stockFrom d ds) (recordsUpTo u us q)
+  unfolding AllFine Through
+  all-through q l t xs z zs e =
+      let s = each-parts Single xs (z ∷ zs) (subst (Each Single) e (singles-upto q l)) .1 in
+      let n = single-first z zs s in
+      let i = ap (λ (m : List (List Field)). listed (keyOf z) (each keyOf m)) e ∙ listed-middle (keyOf z) xs z zs refl in
+      let v = t (keyOf z) i (namedIn z) (n .ranged) (sym (n .number)) in
+      through-one (stockFrom d ds) xs z zs (v .0) (ap (λ (m : List (List Field)). version chart (stockFrom d ds) m (namedIn z)) (sym e) ∙ v .1)
 
-    -- an earlier one is refused
-    pub due-no : (k i x : ℕ) → c ≡ Refused k i x → Due d ds u us j q w v (Refused k i x)
-    unfolding ChangedTo due bind
-    due-no k i x z =
-        let b : version chart (stockFrom d ds) (take j ((recordsFrom u us) .items)) (namedIn (recordHere u q)) ≡ no (fault k i x)
-        = subst (λ (t : Changed). ChangedTo d u v (version chart (stockFrom d ds) (take j ((recordsFrom u us) .items)) (namedIn (recordHere u q))) t) z came-of in
-        record { came = rw b refl; kept = l .kept }
+  -- ---- `course`
 
-    module _ (p : Present) (z : c ≡ Now p) where
-      standing : (o : Option Rec) × (version chart (stockFrom d ds) (take j ((recordsFrom u us) .items)) (namedIn (recordHere u q)) ≡ ok o) × HeldAs d u v p o
-      unfolding ChangedTo
-      standing = subst (λ (t : Changed). ChangedTo d u v (version chart (stockFrom d ds) (take j ((recordsFrom u us) .items)) (namedIn (recordHere u q))) t) z came-of
+  module _ (q key : ℕ) (l : Leads u us q) (named : Naming u q key) (new : listed key (keysUpTo u us q) ≡ false) where
+    pub course-rest : Rest u q
+    course-rest = rest-at q l
 
-      under : Under chart (namedIn (recordHere u q)) (standing .0)
+    pub course-inside : q ≤ length u
+    course-inside = leads-sound l ready-sound .inside
+
+    pub course-sound : Sound u us
+    course-sound = ready-sound
+
+    module _ (w v : List ℕ) (p : Present) (v2 : List ℕ) (c : Course) (f : FlagsKept w v) (a : Coursed d u q v p key v2 c)
+        (h : (k : List ℕ) → Ranged k → numberOf k ≡ key → HeldAs d u v p (find chart k (stockFrom d ds)) × Under chart k (find chart k (stockFrom d ds))) where
+      -- what the update records before `at` make of the key
+      version-is : (k : List ℕ) → Ranged k → numberOf k ≡ key
+          → (o : Option Rec) × (version chart (stockFrom d ds) (recordsUpTo u us (c .at)) k ≡ ok o) × EndsAt d u v2 (c .at) k o (c .left)
       unfolding version
-      under =
-          history-under chart lawful (namedIn (recordHere u q)) (take j ((recordsFrom u us) .items)) (find chart (namedIn (recordHere u q)) (stockFrom d ds)) (standing .0)
-          (find-under chart (namedIn (recordHere u q)) (stockFrom d ds)) (standing .1)
+      version-is k r n =
+          let b = h k r n in
+          let t = a .came k r n (find chart k (stockFrom d ds)) (b .0) (b .1) in
+          let none : listed (numberOf k) (keysUpTo u us q) ≡ false = ap (λ (i : ℕ). listed i (keysUpTo u us q)) n ∙ new in (
+            t .0,
+            ap (λ (xs : List (List Field)). history chart k xs (find chart k (stockFrom d ds))) (upto-more u us ready-sound q l (c .at) (a .passed) (a .split))
+                ∙ history-then k (recordsUpTo u us q) (a .passed) (find chart k (stockFrom d ds)) (find chart k (stockFrom d ds))
+                (history-past k r (recordsUpTo u us q) (find chart k (stockFrom d ds)) (singles-upto q l) none)
+                ∙ t .1,
+            t .2,
+          )
 
-      pub due-act : Acting d u v p (recordHere u q)
-      due-act = record { what = standing .0; held = standing .2; under = under }
-
-      pub due-done : (t : List ℕ) (r : Changed) → Acted d u v p (recordHere u q) t r → Due d ds u us j q w t r
-      due-done t r g = record {
-        came = subst (λ (i : Check (Option Rec)). ChangedTo d u t i r)
-            (sym (due-of chart 0 (stockFrom d ds) (take j ((recordsFrom u us) .items)) (recordHere u q) [] (standing .0) (standing .1)))
-            (g .came (standing .0) (standing .2) under);
-        kept = g .kept ∙ l .kept;
+      pub followed : Followed d ds u us q key w v2 c
+      unfolding Through RefusedAt EndsAt
+      followed = record {
+        leads = a .leads;
+        through = λ k r n. (let t = version-is k r n in (t .0, t .1));
+        ends = λ g. (let t = version-is (namedIn (recordHere u q)) (named .ranged) (named .number) in go (c .left) refl g (t .0) (t .1) (t .2));
+        kept = a .kept ∙ f;
       }
+        where
+          go : (x : Changed) → c .left ≡ x → c .at < length u → (o : Option Rec) → version chart (stockFrom d ds) (recordsUpTo u us (c .at)) (namedIn (recordHere u q)) ≡ ok o
+              → EndsAt d u v2 (c .at) (namedIn (recordHere u q)) o x
+              → (number field tuple : ℕ) × (c .left ≡ Refused number field tuple) × RefusedAt d ds u us (c .at) number field tuple
+          go (Refused i j m) e g o z t =
+              let n = same-sound (namedIn (recordHere u (c .at))) (namedIn (recordHere u q)) (t .1) in
+              (i, j, m, e, due-of chart 0 (stockFrom d ds) (recordsUpTo u us (c .at)) (recordHere u (c .at)) [] o (ap (version chart (stockFrom d ds) (recordsUpTo u us (c .at))) n ∙ z) ∙ t .2)
+          go (Now p2) e g o z t = absurd (let i = t .0 in omega arith)
+
+    -- the record that was located
+    module _ (r : ℕ) (at : Located d ds key r) where
+      module _ (h : r < length d) (v : List ℕ) (p : Present)
+          (g : (c : List ℕ) → Writable (recIn (recordHere d r)) → HeldAs d c v p (some (recIn (recordHere d r)))) where
+        stands : Stands d ds key (recIn (recordHere d r))
+        stands = at .there h
+
+        writes : Writable (recIn (recordHere d r))
+        writes =
+            subst (Has chart Writable) (stands .found) (each-find chart Writable (keyInRules (recIn (recordHere d r))) (stockFrom d ds) (y .writable))
+
+        key-of : (k : List ℕ) → Ranged k → numberOf k ≡ key → keyInRules (recIn (recordHere d r)) ≡ k
+        key-of k a n = number-inj (keyInRules (recIn (recordHere d r))) k (stands .ranged) a (n ∙ sym (stands .number))
+
+        pub there-playing : Playing d u v p key
+        there-playing = record { what = some (recIn (recordHere d r)); held = g u writes; under = λ k a n. key-of k a n }
+
+        pub there-followed : (w : List ℕ) → FlagsKept w v → (v2 : List ℕ) (c : Course) → Coursed d u q v p key v2 c → Followed d ds u us q key w v2 c
+        there-followed w f v2 c a =
+            followed w v p v2 c f a
+            (λ k x n.
+            let e : find chart k (stockFrom d ds) ≡ some (recIn (recordHere d r))
+            = subst (λ (i : List ℕ). find chart i (stockFrom d ds) ≡ some (recIn (recordHere d r))) (key-of k x n) (stands .found) in
+            (subst (HeldAs d u v p) (sym e) (g u writes), subst (Under chart k) (sym e) (key-of k x n)))
+
+      -- none was
+      pub gone-playing : (w : List ℕ) → Playing d u w Absent key
+      unfolding HeldAs
+      gone-playing w = record { what = none; held = refl; under = λ k a n. tt }
+
+      pub gone-followed : length d ≤ r → (w v : List ℕ) (c : Course) → Coursed d u q w Absent key v c → Followed d ds u us q key w v c
+      unfolding HeldAs
+      gone-followed h w v c a =
+          followed w w Absent v c refl a (λ k x n. (let e = at .gone h k x n in (e, subst (Under chart k) (sym e) tt)))
+
+  -- ---- `first_stop`
+
+  module _ (q key : ℕ) (l : Leads u us q) (s : Stop) (j : Judging d ds u us q s) where
+    -- it is named before
+    pub stop-same : listed key (keysUpTo u us q) ≡ true → (w : List ℕ) → Judging d ds u us q s × Through d ds u us (s .at) key × FlagsKept w w
+    stop-same h w = (j, j .through key h, refl)
+
+    -- one of two refusals
+    module _ (w v : List ℕ) (c : Course) (a : Followed d ds u us q key w v c) where
+      at-course : Leads u us (c .at)
+      at-course = leads-then l (a .leads)
+
+      before-end : s .at ≤ length u
+      before-end = leads-sound (j .leads) ready-sound .inside
+
+      -- that of the course is the first
+      new-stop : (number field tuple : ℕ) → c .left ≡ Refused number field tuple → c .at < s .at
+          → Judging d ds u us q (record { at = c .at; number = number; field = field; tuple = tuple }) × Through d ds u us (c .at) key × FlagsKept w v
+      unfolding RefusedAt
+      new-stop number field tuple e h = (
+        record {
+          leads = at-course;
+          ahead = leads-up (a .leads) (leads-sound l ready-sound);
+          through = λ k i. through-less (c .at) (s .at) k at-course (j .leads) (omega arith) (j .through k i);
+          ends = λ g. (let x = a .ends g in same-fault (x .0) (x .1) (x .2) (x .3) (x .4));
+        },
+        a .through,
+        a .kept,
+      )
+        where
+          same-fault : (m i t : ℕ) → c .left ≡ Refused m i t → due chart (stockFrom d ds) (recordsUpTo u us (c .at)) (recordHere u (c .at)) ≡ no (fault m i t)
+              → due chart (stockFrom d ds) (recordsUpTo u us (c .at)) (recordHere u (c .at)) ≡ no (fault number field tuple)
+          same-fault m i t z f = f ∙ ap no (let a : m ≡ number = cc in let b : i ≡ field = cc in let g : t ≡ tuple = cc in cc)
+
+      -- or that which was found before
+      old-stop : s .at ≤ c .at → Judging d ds u us q s × Through d ds u us (s .at) key × FlagsKept w v
+      old-stop h = (j, through-less (s .at) (c .at) key (j .leads) at-course h (a .through), a .kept)
+
+      pub stop-earlier : (r : Stop) → r ≡ earlierOf c s → Judging d ds u us q r × Through d ds u us (r .at) key × FlagsKept w v
+      unfolding earlierBy
+      stop-earlier r e =
+          subst (λ (x : Stop). Judging d ds u us q x × Through d ds u us (x .at) key × FlagsKept w v) (sym e) (go (c .left) refl)
+        where
+          go : (x : Changed) → c .left ≡ x → Judging d ds u us q (earlierBy x (c .at) s) × Through d ds u us ((earlierBy x (c .at) s) .at) key × FlagsKept w v
+          go (Now p) z = old-stop (past (ltb (c .at) (length u)) refl)
+            where
+              past : (b : Bool) → ltb (c .at) (length u) ≡ b → s .at ≤ c .at
+              past true g = absurd (let x = a .ends (ltb-true (c .at) (length u) g) in let n : _≡_ {A = ℕ} 0 1 = cc in omega arith)
+              past false g = let i = ltb-false (c .at) (length u) g in let m = before-end in omega arith
+          go (Refused number field tuple) z = which (ltb (c .at) (s .at)) refl
+            where
+              which : (b : Bool) → ltb (c .at) (s .at) ≡ b
+                  → Judging d ds u us q (pick b (record { at = c .at; number = number; field = field; tuple = tuple }) s)
+                  × Through d ds u us ((pick b (record { at = c .at; number = number; field = field; tuple = tuple }) s) .at) key × FlagsKept w v
+              which true g = new-stop number field tuple z (ltb-true (c .at) (s .at) g)
+              which false g = old-stop (ltb-false (c .at) (s .at) g)
 
 -- ---- `judge`
 
--- j update records from us on were found right, and the next is at q; w and p are what they left under the key with the number `last`
-pub record Judging (d : List ℕ) (ds : ℕ) (u : List ℕ) (us q j last : ℕ) (p : Present) (w : List ℕ) : Type 0 where
-  pub reached : Reached u us j q
-  pub flags : Flags (take j (keysFrom u us)) (flagArea w)
-  pub answer : judged chart (j + 3) (stockFrom d ds) (take j ((recordsFrom u us) .items)) ((recordsFrom u q) .items)
-      ≡ judged chart 3 (stockFrom d ds) [] ((recordsFrom u us) .items)
-  pub held : Latest d ds u us j last w w (Now p)
+-- j update records from us on were judged, and the next begins at q
+pub record Verdicts (d : List ℕ) (ds : ℕ) (u : List ℕ) (us q j : ℕ) (s : Stop) (w : List ℕ) : Type 0 where
+  pub leads : Leads u us q
+  pub judging : Judging d ds u us q s
+  pub flags : Flags (keysUpTo u us q) (flagArea w)
+  pub counted : j ≡ length (recordsUpTo u us q)
+  pub small : j ≤ q
 
--- no key has the number 0
-key-some : (k : List ℕ) → Ranged k → numberOf k ≡ 0 → ⊥
-unfolding numberOf
-key-some k r e =
-    let z : rankOf (r .rcnm) * 4294967296 + r .rcid ≡ 0 = rw (r .parts) at e in
-    let s = r .kind in
-    omega arith
+module _ (d : List ℕ) (ds : ℕ) (u : List ℕ) (us : ℕ) (y : Ready d ds u us) where
+  pub verdicts-start : (w : List ℕ) → Flags [] (flagArea w) → Verdicts d ds u us us 0 (record { at = length u; number = 0; field = 0; tuple = 0 }) w
+  unfolding each
+  verdicts-start w f = record {
+    leads = here;
+    judging = record {
+      leads = leads-end u us (ready-sound d ds u us y);
+      ahead = y .inside;
+      through = λ key h. absurd (true≢false (sym h ∙ ap (λ (xs : List (List Field)). listed key (each keyOf xs)) (upto-start u us) ∙ listed-none key));
+      ends = λ h. absurd (omega arith);
+    };
+    flags = subst (λ (xs : List (List Field)). Flags (each keyOf xs) (flagArea w)) (sym (upto-start u us)) f;
+    counted = ap length (sym (upto-start u us));
+    small = omega arith;
+  }
 
-pub judging-start : (d : List ℕ) (ds : ℕ) (u : List ℕ) (us : ℕ) (w : List ℕ) → Ready d ds u us → Flags [] (flagArea w) → Judging d ds u us us 0 0 Absent w
-judging-start d ds u us w y f = record {
-  reached = record { rest = y .rest; inside = y .inside; counted = omega arith; same = refl };
-  flags = f;
-  answer = refl;
-  held = record { came = λ k r n. absurd (key-some k r n); kept = refl };
-}
+  module _ (q j : ℕ) (s : Stop) (w : List ℕ) (t : Verdicts d ds u us q j s w) where
+    sound-here : Sound u q
+    sound-here = leads-sound (t .leads) (ready-sound d ds u us y)
 
-module _ (d : List ℕ) (ds : ℕ) (u : List ℕ) (us q j last : ℕ) (before : Present) (w : List ℕ) (y : Ready d ds u us) (t : Judging d ds u us q j last before w) where
-  pub judging-sound : Sound u q
-  judging-sound = rest-sound u q (t .reached .rest) (t .reached .inside) (y .short .new)
+    pub verdicts-look : (length u ≤ 16777216) × (q ≤ length u)
+    verdicts-look = (y .short .new, sound-here .inside)
 
-  pub judging-word : j + 3 < 2 ^ 64
-  judging-word = let a = t .reached .counted in let b = t .reached .inside in let c = y .short .new in omega arith
+    pub verdicts-word : j + 3 < 2 ^ 64
+    verdicts-word = let a = t .small in let b = sound-here .inside in let c = y .short .new in omega arith
 
-  -- where the update ends
-  pub judging-over : length u ≤ q → AllJudged d ds u us w Fine
-  unfolding verdicts judgedBy inUpdate judged keysFrom each
-  judging-over h =
-      let none-left : (recordsFrom u q) .items ≡ [] = ap (λ (g : Got (List Field)). g .items) (records-over u q h) in
-      let e = sym (t .answer) ∙ ap (judged chart (j + 3) (stockFrom d ds) (take j ((recordsFrom u us) .items))) none-left in
-      let k : drop j (keysFrom u us) ≡ [] = sym (keys-drop j ((recordsFrom u us) .items)) ∙ ap (each keyOf) (t .reached .same ∙ none-left) in
-      let i : take j (keysFrom u us) ≡ keysFrom u us = take-all j (keysFrom u us) (omega (arith, ap length k, length-drop j (keysFrom u us))) in
-      record {
-        came = sym (ap (λ (r : Ran (Unit {0})). judgedBy (inUpdate r)) e);
-        flags = λ _. subst (λ (l : List ℕ). Flags l (flagArea w)) i (t .flags);
-      }
+    -- all are accepted
+    pub verdicts-over : length u ≤ q → AllJudged d ds u us w Fine
+    unfolding verdicts judgedBy inUpdate keysFrom
+    verdicts-over h =
+        let e : recordsUpTo u us q ≡ (recordsFrom u us) .items = upto-end u us q h in
+        let at-end : s .at ≡ q = (let a = t .judging .ahead in let b = leads-sound (t .judging .leads) (ready-sound d ds u us y) .inside in let c = sound-here .inside in omega arith) in
+        let f = all-through d ds u us y q (t .leads) (λ key i. subst (λ (b : ℕ). Through d ds u us b key) at-end (t .judging .through key i)) in
+        let g = fine-judged (stockFrom d ds) (y .once) ((recordsFrom u us) .items) (subst (AllFine chart (stockFrom d ds)) e f) in
+        record {
+          came = sym (ap (λ (r : Ran (Unit {0})). judgedBy (inUpdate r)) g);
+          flags = λ _. subst (λ (xs : List (List Field)). Flags (each keyOf xs) (flagArea w)) e (t .flags);
+        }
 
-  module _ (e : Look) (en : e ≡ lookAt u q) where
-    pub judging-nothing : q < length u → e ≡ Nothing → AllJudged d ds u us w Fine
-    judging-nothing h x = absurd (sound-nothing u q judging-sound e en h x)
+    module _ (e : Look) (en : e ≡ lookAt u q) (h : q < length u) where
+      pub verdicts-nothing : e ≡ Nothing → AllJudged d ds u us w Fine
+      verdicts-nothing x = absurd (sound-nothing u q sound-here e en h x)
 
-    module _ (len key : ℕ) (x : e ≡ At len key) where
-      here : Met u q len key
-      here = met u q (t .reached .rest) judging-sound e en len key x
+      module _ (len key : ℕ) (x : e ≡ At len key) where
+        meets : Met u q len key
+        meets = met u q (rest-at d ds u us y q (t .leads)) sound-here e en len key x
 
-      pub judging-names : Names u q key
-      judging-names = record {
-        there = let i = here .inside in let l = here .long in omega arith;
-        later = (recordsFrom u (q + len)) .items;
-        split = here .split;
-        number = here .numbered;
-      }
+        pub verdicts-naming : Naming u q key
+        verdicts-naming = record { there = h; ranged = meets .ranged; number = meets .number }
 
-      pub judging-fits : q + len < 2 ^ 64
-      judging-fits = let i = here .inside in let l = y .short .new in omega arith
+        pub verdicts-fits : q + len < 2 ^ 64
+        verdicts-fits = let i = meets .inside in let l = y .short .new in omega arith
 
-      pub judging-falls : length u - (q + len) < length u - q
-      judging-falls = let i = here .inside in let l = here .long in omega arith
+        pub verdicts-falls : length u - (q + len) < length u - q
+        verdicts-falls = let i = meets .inside in let l = meets .long in omega arith
 
-      split-is : judged chart (j + 3) (stockFrom d ds) (take j ((recordsFrom u us) .items)) (recordHere u q ∷ (recordsFrom u (q + len)) .items)
-          ≡ judged chart 3 (stockFrom d ds) [] ((recordsFrom u us) .items)
-      split-is = ap (judged chart (j + 3) (stockFrom d ds) (take j ((recordsFrom u us) .items))) (sym (here .split)) ∙ t .answer
+        module _ (r : Stop) (v : List ℕ) (b : Judging d ds u us q r × Through d ds u us (r .at) key × FlagsKept w v) where
+          -- the one at q is refused
+          pub verdicts-stop : r .at ≡ q → AllJudged d ds u us v (Stopped (r .number) (j + 3) (r .field) (r .tuple))
+          unfolding verdicts judgedBy inUpdate RefusedAt
+          verdicts-stop z =
+              let x = fault (r .number) (r .field) (r .tuple) in
+              let f = all-through d ds u us y q (t .leads) (λ k i. subst (λ (c : ℕ). Through d ds u us c k) z (b .0 .through k i)) in
+              let refusal : due chart (stockFrom d ds) (recordsUpTo u us q) (recordHere u q) ≡ no x
+              = subst (λ (c : ℕ). due chart (stockFrom d ds) (recordsUpTo u us c) (recordHere u c) ≡ no x) z (b .0 .ends (omega arith)) in
+              let g = first-judged (stockFrom d ds) (y .once) ((recordsFrom u us) .items) (j + 3) x
+              (record {
+                pre = recordsUpTo u us q;
+                at = recordHere u q;
+                post = drop 1 ((recordsFrom u q) .items);
+                split = upto-split u us (ready-sound d ds u us y) q (t .leads)
+                    ∙ ap (λ (xs : List (List Field)). recordsUpTo u us q ++ xs) (sound-first u q sound-here h);
+                number = (let c = t .counted in omega arith);
+                refusal = refusal;
+                before = f;
+              }) in
+              record {
+                came = sym (ap (λ (c : Ran (Unit {0})). judgedBy (inUpdate c)) g);
+                flags = λ n. absurd (let o : _≡_ {A = ℕ} 0 1 = cc in omega arith);
+              }
 
-      module _ (v : List ℕ) (c : Changed) (b : Due d ds u us j q w v c) where
-        -- it is refused
-        pub judging-no : (k i l : ℕ) → c ≡ Refused k i l → AllJudged d ds u us v (Stopped k (j + 3) i l)
-        unfolding verdicts judgedBy inUpdate ChangedTo
-        judging-no k i l z =
-            let f : due chart (stockFrom d ds) (take j ((recordsFrom u us) .items)) (recordHere u q) ≡ no (fault k i l)
-            = subst (λ (g : Changed). ChangedTo d u v (due chart (stockFrom d ds) (take j ((recordsFrom u us) .items)) (recordHere u q)) g) z (b .came) in
-            let g = sym split-is
-            ∙ judged-no chart (j + 3) (stockFrom d ds) (take j ((recordsFrom u us) .items)) (recordHere u q) ((recordsFrom u (q + len)) .items) (fault k i l) f in
-            record {
-              came = sym (ap (λ (r : Ran (Unit {0})). judgedBy (inUpdate r)) g);
-              flags = λ n. absurd (let o : _≡_ {A = ℕ} 0 1 = cc in omega arith);
+          -- it is not, and its flag is raised
+          module _ (z : r .at ≡ q → ⊥) (long : 400000 ≤ length v) (v2 : List ℕ) (m : Marked v key v2) where
+            one : recordsUpTo u us (q + len) ≡ recordsUpTo u us q ++ (recordHere u q ∷ [])
+            one = upto-one u us (ready-sound d ds u us y) q (t .leads) len key (sym en ∙ x)
+
+            keys-one : keysUpTo u us (q + len) ≡ keysUpTo u us q ++ (key ∷ [])
+            unfolding each
+            keys-one = ap (each keyOf) one ∙ each-append keyOf (recordsUpTo u us q) (recordHere u q ∷ []) ∙ ap (λ (k : ℕ). keysUpTo u us q ++ (k ∷ [])) (meets .numbered)
+
+            on : q < r .at
+            on = let a = b .0 .ahead in omega arith
+
+            pub verdicts-next : Verdicts d ds u us (q + len) (j + 1) r v2
+            verdicts-next = record {
+              leads = leads-then (t .leads) (over (sym en ∙ x) here);
+              judging = record {
+                leads = b .0 .leads;
+                ahead =
+                    leads-up
+                    (leads-past sound-here (sym en ∙ x) (leads-on (ready-sound d ds u us y) (t .leads) (b .0 .leads) (omega (arith, on))) on)
+                    (rest-sound u (q + len) (meets .rest) (meets .inside) (y .short .new));
+                through = λ k i. which k (listed k (keysUpTo u us q)) refl (sym (listed-more k key (keysUpTo u us q)) ∙ ap (listed k) (sym keys-one) ∙ i);
+                ends = b .0 .ends;
+              };
+              flags =
+                  subst (λ (l : List ℕ). Flags l (flagArea v2)) (sym keys-one)
+                  (flags-more (keysUpTo u us q) (flagArea v) (flagArea v2) key (area-long v long)
+                  (subst (Flags (keysUpTo u us q)) (sym (flags-kept w v (b .2))) (t .flags)) (m .flags));
+              counted = (let c = t .counted in omega (arith, ap length one, length-append (recordsUpTo u us q) (recordHere u q ∷ [])));
+              small = (let c = t .small in let l = meets .long in omega arith);
             }
-
-        -- it is accepted, and its flag is raised
-        module _ (p : Present) (z : c ≡ Now p) (long : 400000 ≤ length v) (v2 : List ℕ) (mark : Marked v key v2) where
-          room : j < length ((recordsFrom u us) .items)
-          room = omega (arith, ap length (t .reached .same ∙ here .split), length-drop j ((recordsFrom u us) .items))
-
-          first-is : getD ((recordsFrom u us) .items) j [] ≡ recordHere u q
-          first-is = let f = sym (drop-cons ((recordsFrom u us) .items) j [] room) ∙ t .reached .same ∙ here .split in cc
-
-          one-more : take (j + 1) ((recordsFrom u us) .items) ≡ take j ((recordsFrom u us) .items) ++ (recordHere u q ∷ [])
-          one-more =
-              rw add-one (take-suc ((recordsFrom u us) .items) j [] room ∙ ap (λ (fs : List Field). take j ((recordsFrom u us) .items) ++ (fs ∷ [])) first-is)
-
-          answer-on : judged chart (j + 1 + 3) (stockFrom d ds) (take (j + 1) ((recordsFrom u us) .items)) ((recordsFrom u (q + len)) .items)
-              ≡ judged chart 3 (stockFrom d ds) [] ((recordsFrom u us) .items)
-          unfolding ChangedTo
-          answer-on =
-              let f = subst (λ (r : Changed). ChangedTo d u v (due chart (stockFrom d ds) (take j ((recordsFrom u us) .items)) (recordHere u q)) r) z (b .came) in
-              let i : j + 1 + 3 ≡ j + 3 + 1 = omega arith in
-              rw (i, one-more)
-              (sym (judged-next chart (j + 3) (stockFrom d ds) (take j ((recordsFrom u us) .items)) (recordHere u q) ((recordsFrom u (q + len)) .items) (f .0) (f .1)) ∙ split-is)
-
-          flags-on : Flags (take (j + 1) (keysFrom u us)) (flagArea v2)
-          unfolding keysFrom
-          flags-on =
-              let k : drop j (keysFrom u us) ≡ key ∷ keysFrom u (q + len)
-              = sym (keys-drop j ((recordsFrom u us) .items)) ∙ ap (each keyOf) (t .reached .same) ∙ here .keys in
-              let f : Flags (take j (keysFrom u us)) (flagArea v) = subst (λ (x : List ℕ). Flags (take j (keysFrom u us)) x) (sym (flags-kept w v (b .kept))) (t .flags) in
-              subst (λ (x : List ℕ). Flags x (flagArea v2)) (sym (split-take (keysFrom u us) j key (keysFrom u (q + len)) k))
-              (flags-more (take j (keysFrom u us)) (flagArea v) (flagArea v2) key (area-long v long) f (mark .flags))
-
-          -- what it left under its key is what stands there after it
-          version-on : (k : List ℕ) → Ranged k → numberOf k ≡ key → ChangedTo d u v2 (version chart (stockFrom d ds) (take (j + 1) ((recordsFrom u us) .items)) k) (Now p)
-          unfolding ChangedTo version due bind
-          version-on k r n =
-              let past = take j ((recordsFrom u us) .items) in
-              let f = subst (λ (c : Changed). ChangedTo d u v (due chart (stockFrom d ds) past (recordHere u q)) c) z (b .came) in
-              let own : k ≡ namedIn (recordHere u q) = number-inj k (namedIn (recordHere u q)) r (here .ranged) (here .number ∙ sym n) in
-              let i = bind-inv (version chart (stockFrom d ds) past (namedIn (recordHere u q))) (λ o. chart .change (recordHere u q) o) (f .0) (f .1) in
-              let m : history chart k past (find chart k (stockFrom d ds)) ≡ ok (i .0) = rw own (i .1) in
-              let e : same (namedIn (recordHere u q)) k ≡ true = rw own (same-refl (namedIn (recordHere u q))) in
-              let g : history chart k (past ++ (recordHere u q ∷ [])) (find chart k (stockFrom d ds)) ≡ ok (f .0)
-              = history-append chart lawful k past (recordHere u q ∷ []) (find chart k (stockFrom d ds))
-              ∙ ap (λ (c : Check (Option Rec)). bind c (λ o. history chart k (recordHere u q ∷ []) o)) m
-              ∙ history-own chart lawful k (recordHere u q) (i .0) e ∙ i .2 in
-              (f .0, rw one-more g, held-stays d u v key v2 mark p (f .0) (f .2))
-
-          pub judging-next : Judging d ds u us (q + len) (j + 1) key p v2
-          judging-next = record {
-            reached = record {
-              rest = here .rest;
-              inside = here .inside;
-              counted = let i = t .reached .counted in let l = here .long in omega arith;
-              same = drop-one j ((recordsFrom u us) .items) (t .reached .same) ∙ ap (drop 1) (here .split);
-            };
-            flags = flags-on;
-            answer = answer-on;
-            held = record { came = version-on; kept = refl };
-          }
+              where
+                which : (k : ℕ) (c : Bool) → listed k (keysUpTo u us q) ≡ c → either (listed k (keysUpTo u us q)) (eqb key k) ≡ true → Through d ds u us (r .at) k
+                which k true g i = b .0 .through k g
+                which k false g i = subst (Through d ds u us (r .at)) (eqb-true key k (sym (ap (λ (c : Bool). either c (eqb key k)) g) ∙ i)) (b .1)

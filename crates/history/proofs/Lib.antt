@@ -1,9 +1,9 @@
 pub mod HereLaws
 pub mod FindingLaws
 pub mod ActingLaws
+pub mod UpToLaws
 pub mod PlayingLaws
+pub mod CourseLaws
 pub mod FlagLaws
-pub mod StayLaws
-pub mod JudgingLaws
-pub mod NextLaws
 pub mod ReadyLaws
+pub mod JudgingLaws

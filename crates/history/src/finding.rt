@@ -1,11 +1,13 @@
 // A record of the dataset, found by its key and brought into the workspace.
 use keys::look::key_at;
 use keys::look::kind_of;
-use keys::sites::site;
 use loading::record::load_record;
 use skeleton::directory::Shape;
 use skeleton::file::record_at;
 use skeleton::leader::Head;
+use sorting::found::site_by;
+use sorting::limits::Limits;
+use sorting::limits::old_index;
 use version::Present;
 ghost use mathlib.Core.List.{List};
 ghost use mathlib.Core.Option.{some};
@@ -16,16 +18,28 @@ ghost use Rattle.updates.specs.Acts.{chart};
 ghost use Rattle.updates.specs.Accepted.{Writable};
 ghost use Rattle.stock.specs.Stock.{recIn, stockFrom, Stock};
 ghost use Rattle.keys.specs.Table.{Laid};
+ghost use Rattle.skeleton.specs.Place.{between};
+ghost use Rattle.sorting.specs.Places.{Indexed};
 ghost use Rattle.version.specs.Present.{HeldAs, FlagsKept};
 ghost use Rattle.history.specs.Here.{recordHere};
 ghost use Rattle.history.specs.Located.{Located};
 
 // Where the dataset's record with the key begins; the dataset's length where there is none.
-pub fn locate(d: &[u8], ds: usize, t: &[u32], n: usize, map: &[u8], key: u64) -> usize
+pub fn locate(
+    d: &[u8],
+    ds: usize,
+    t: &[u32],
+    n: usize,
+    map: &[u8],
+    out: &[u8],
+    lim: Limits,
+    key: u64,
+) -> usize
     requires { ⌜ Laid (now d) ds (now t) n (now map) × Stock (now d) ds × Once chart (stockFrom (now d) ds) ⌝ }
+    requires { ⌜ (lim .old ≤ lim .new) × (lim .new ≤ length (now out)) × Indexed (now d) ds (between (now out) (lim .old) (lim .new)) ⌝ }
     ensures { λ r. ⌜ Located (now (d .entry)) ds key r ⌝ }
 {
-    site(d, ds, t, n, map, key)
+    site_by(d, ds, t, n, map, old_index(out, lim), key)
 }
 
 // The dataset's record at `at`.

@@ -7,7 +7,6 @@ ghost use mathlib.Core.Path.{_≡_};
 ghost use mathlib.Core.List.{[], _++_};
 ghost use Prim.Native.Nat.{_-_, _≤_};
 ghost use lib.ListN.{length, take, drop};
-ghost use Rattle.base.specs.Choice.{pick};
 ghost use Rattle.keys.specs.Bits.{flagOf, raised};
 ghost use Rattle.version.specs.Areas.{flagArea};
 ghost use Rattle.history.specs.Flags.{keyFlag, Flags, Marked};
@@ -42,17 +41,6 @@ pub fn flagged(work: &[u8], key: u64) -> bool
     ensures { λ b. ⌜ b ≡ flagOf (flagArea (now (work .entry))) (keyFlag key) ⌝ }
 {
     flag(flags_of(work), (key % 111997) as usize)
-}
-
-// How many of the j update records before have to be looked at for the key: none of them names it where its flag is not raised.
-pub fn turns(work: &[u8], key: u64, j: usize) -> usize
-    requires { ⌜ 400000 ≤ length (now work) ⌝ }
-    ensures { λ m. ⌜ m ≡ pick (flagOf (flagArea (now (work .entry))) (keyFlag key)) j 0 ⌝ }
-{
-    if flagged(work, key) {
-        return j;
-    }
-    0
 }
 
 // Raises the flag of a key.

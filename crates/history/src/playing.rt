@@ -1,6 +1,4 @@
 // The update records that name a key, one after the other, on what stands under it.
-use crate::finding::load_at;
-use crate::finding::locate;
 use crate::single::act;
 use keys::look::Look;
 use keys::look::look_at;
@@ -11,52 +9,61 @@ ghost use Prim.Native.Nat.{_≤_};
 ghost use lib.ListN.{length};
 ghost use Rattle.incoming.specs.Fitting.{Rest};
 ghost use Rattle.keys.specs.Look.{Sound};
-ghost use Rattle.keys.specs.Table.{Laid};
 ghost use Rattle.sorting.specs.Places.{Leads, Indexed};
-ghost use Rattle.history.specs.Ready.{Short, Ready};
-ghost use Rattle.history.specs.Played.{Playing, Played, Latest};
+ghost use Rattle.history.specs.Ready.{Short};
+ghost use Rattle.history.specs.Played.{Playing, Played, Coursed};
 
-// Those among the first m update records from us on.
-pub fn play(
+// Where they end, at the first that is refused or at the update's end, and what the last of them left.
+pub struct Course {
+    pub at: usize,
+    pub left: Changed,
+}
+
+// Those from `from` on, found by an index of those from us on.
+pub fn follow(
     d: &[u8],
     u: &[u8],
     us: usize,
-    m: usize,
+    index: &[u8],
+    from: usize,
     key: u64,
     p: Present,
     work: &mut [u8],
-) -> Changed
-    requires { ⌜ Short (now d) (now u) × Rest (now u) us × (us ≤ length (now u)) × (400000 ≤ length (now work)) ⌝ }
+) -> Course
+    requires { ⌜ Short (now d) (now u) × Rest (now u) from × (from ≤ length (now u)) × (400000 ≤ length (now work)) ⌝ }
+    requires { ⌜ Sound (now u) us × Leads (now u) us from × Indexed (now u) us (now index) ⌝ }
     requires { ⌜ Playing (now d) (now u) (now work) p key ⌝ }
-    ensures { λ r. ⌜ Played (now (d .entry)) (now (u .entry)) us m (now (work .entry)) p key (now (work .exit)) r ⌝ }
+    ensures { λ c. ⌜ Coursed (now (d .entry)) (now (u .entry)) from (now (work .entry)) p key (now (work .exit)) c ⌝ }
 {
-    let mut q = us;
-    let mut left = m;
+    let mut q = next(u, us, index, from, key);
     let mut v = p;
-    while 0 < left {
-        let Look::At { len, key: k } = look_at(u, q) else {
-            return Changed::Now(v);
+    while q < u.len() {
+        let Look::At { len, key: _ } = look_at(u, q) else {
+            return Course {
+                at: u.len(),
+                left: Changed::Now(v),
+            };
         };
-        if k == key {
-            match act(d, u, q, v, work) {
-                Changed::Refused(n, i, j) => {
-                    return Changed::Refused(n, i, j);
-                }
-                Changed::Now(next) => {
-                    v = next;
-                    q += len;
-                    left -= 1;
-                }
+        match act(d, u, q, v, work) {
+            Changed::Refused(n, i, j) => {
+                return Course {
+                    at: q,
+                    left: Changed::Refused(n, i, j),
+                };
             }
-        } else {
-            q += len;
-            left -= 1;
+            Changed::Now(made) => {
+                v = made;
+                q = next(u, us, index, q + len, key);
+            }
         }
     }
-    Changed::Now(v)
+    Course {
+        at: q,
+        left: Changed::Now(v),
+    }
 }
 
-// All of those from `from` on, found by an index of those from us on.
+// What they leave.
 pub fn play_all(
     d: &[u8],
     u: &[u8],
@@ -72,45 +79,6 @@ pub fn play_all(
     requires { ⌜ Playing (now d) (now u) (now work) p key ⌝ }
     ensures { λ r. ⌜ Played (now (d .entry)) (now (u .entry)) from (length (now (u .entry))) (now (work .entry)) p key (now (work .exit)) r ⌝ }
 {
-    let mut q = next(u, us, index, from, key);
-    let mut v = p;
-    while q < u.len() {
-        let Look::At { len, key: _ } = look_at(u, q) else {
-            return Changed::Now(v);
-        };
-        match act(d, u, q, v, work) {
-            Changed::Refused(n, i, j) => {
-                return Changed::Refused(n, i, j);
-            }
-            Changed::Now(made) => {
-                v = made;
-                q = next(u, us, index, q + len, key);
-            }
-        }
-    }
-    Changed::Now(v)
-}
-
-// What stands under the key after the first m update records from us on.
-pub fn latest(
-    d: &[u8],
-    ds: usize,
-    t: &[u32],
-    n: usize,
-    map: &[u8],
-    u: &[u8],
-    us: usize,
-    m: usize,
-    key: u64,
-    work: &mut [u8],
-) -> Changed
-    requires { ⌜ Ready (now d) ds (now u) us × Laid (now d) ds (now t) n (now map) × (400000 ≤ length (now work)) ⌝ }
-    ensures { λ r. ⌜ Latest (now (d .entry)) ds (now (u .entry)) us m key (now (work .entry)) (now (work .exit)) r ⌝ }
-{
-    let at = locate(d, ds, t, n, map, key);
-    if at < d.len() {
-        let p = load_at(d, at, work);
-        return play(d, u, us, m, key, p, work);
-    }
-    play(d, u, us, m, key, Present::Absent, work)
+    let c = follow(d, u, us, index, from, key, p, work);
+    c.left
 }

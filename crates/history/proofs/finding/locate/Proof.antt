@@ -1,14 +1,19 @@
+use Rattle.sorting.specs.Places.{Indexed}
+use mathlib.Core.Path.{sym, subst}
 -- `locate` meets its contract. Assumes nothing.
 use Rattle.history.proofs.FindingLaws.{locate-ways}
 use borrow.Author.Needs.{needs}
 use Rattle.history.proofs.finding.locate.Statement.{statement}
 use Rattle.history.proofs.finding.locate.Tie as tie
 
-site-requires : tie.Need-site-requires
-site-requires c κs = search needs
+old-index-requires : tie.Need-old-index-requires
+old-index-requires c κs = search needs
+
+site-by-requires : tie.Need-site-by-requires
+site-by-requires c κs = let s = c .before .before .before .before .before in (s .pre .0 .0, subst (Indexed _ _) (sym (c .old-index .ensures)) (s .pre .1 .2))
 
 returns : tie.Need-returns
 returns c = search locate-ways
 
 pub locate-spec : {M : Type 1} → statement M
-locate-spec = tie.close (tie.spec site-requires returns)
+locate-spec = tie.close (tie.spec old-index-requires site-by-requires returns)
