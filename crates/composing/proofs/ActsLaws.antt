@@ -162,6 +162,6 @@ module _ (f : List ℕ) (p key : ℕ) (h : length f ≤ p) (w : Bool) where
       sym (either-false gone) ∙ y
 
 pub ruleset acts-turn =
-    (turn-not, turn-bounded, turn-in, turn-runs, turn-word, turn-falls, turn-key, turn-place, turn-sound, fate-on, fate-over, deleted-on, deleted-over, sound-in, sound-small, arith)
+    (turn-not, turn-bounded, turn-in, turn-runs, turn-word, turn-key, turn-place, sound-in, sound-small, arith)
 
 pub ruleset names-ways = (leaves-named, leaves-other, deletes-before, deletes-named, deletes-other)

@@ -18,9 +18,10 @@ use Rattle.version.specs.Held.{Held}
 use Rattle.version.specs.declared.Version.{Version}
 use Rattle.writing.specs.House.{inHouseForm}
 use Rattle.composing.specs.Settled.{Settled, TellsAll, TellsOf}
+use Rattle.composing.specs.Tied.{StaysAll}
 use Rattle.composing.specs.Told.{TellsHeld}
 use Rattle.composing.specs.Emitted.{Emitted}
-use Rattle.composing.specs.Made.{MadeOf, Carries}
+use Rattle.composing.specs.Made.{MadeOf, Carries, CarriesTied}
 use Rattle.composing.specs.declared.making.Made.the-variants.{Loose, Next}
 use Rattle.composing.proofs.LinkedLaws.{linked-pass, linked-no, fields-linked}
 
@@ -47,11 +48,11 @@ module _ (d : List ℕ) (ds : ℕ) (u : List ℕ) (us : ℕ) (flags : List ℕ) 
     unfolding TellsOf TellsAll
     of-fields k recs s = t recs s ∙ sym (fields-linked (final recs) k fs)
 
-    pub carries-loose : not x ≡ true → Carries d ds u us flags fs to before out Loose
+    carries-loose : not x ≡ true → Carries d ds u us flags fs to before out Loose
     unfolding Carries
     carries-loose y k s e = made-loose (recOf k fs) s x (of-fields k) y
 
-    pub carries-next : not x ≡ false → (n : ℕ) → Emitted (inHouseForm true fs) to before n out → Carries d ds u us flags fs to before out (Next n)
+    carries-next : not x ≡ false → (n : ℕ) → Emitted (inHouseForm true fs) to before n out → Carries d ds u us flags fs to before out (Next n)
     unfolding Carries
     carries-next y n w k s e = made-next (recOf k fs) s x (of-fields k) y n (subst (λ (gs : List Field). Emitted gs to before n out) (sym e) w)
 
@@ -68,4 +69,15 @@ module _ (d : List ℕ) (ds : ℕ) (u : List ℕ) (us : ℕ) (flags : List ℕ) 
     pub held-made-next : not x ≡ false → (n : ℕ) → Emitted (writtenFields r) to before n out → MadeOf d ds u us flags r to before out (Next n)
     held-made-next y n e = made-next r s x of-held y n e
 
-pub ruleset carries-ways = (carries-loose, carries-next)
+-- ---- of the dataset, which has what it names
+
+module _ (u : List ℕ) (us : ℕ) (flags : List ℕ) (to : ℕ) (before out : List ℕ) (fs : List Field) (x : Bool) (t : StaysAll u us flags (gather fieldKeys fs) x) where
+  pub tied-loose : not x ≡ true → CarriesTied u us flags fs to before out Loose
+  unfolding CarriesTied StaysAll
+  tied-loose y d ds i = carries-loose d ds u us flags to before out fs x (t d ds i) y
+
+  pub tied-next : not x ≡ false → (n : ℕ) → Emitted (inHouseForm true fs) to before n out → CarriesTied u us flags fs to before out (Next n)
+  unfolding CarriesTied StaysAll
+  tied-next y n w d ds i = carries-next d ds u us flags to before out fs x (t d ds i) y n w
+
+pub ruleset carries-ways = (tied-loose, tied-next)

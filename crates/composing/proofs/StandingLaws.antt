@@ -1,13 +1,13 @@
 -- Laws of what stands under a key in the end. Assumes nothing.
-use Prim.Native.Nat.{ℕ, _/_, _%_, _<_}
-use mathlib.Core.Path.{_≡_, sym, ap, _∙_}
-use mathlib.Core.Bool.{Bool, false, true≢false}
+use Prim.Native.Nat.{ℕ, _%_}
+use mathlib.Core.Path.{_≡_, sym, ap, subst, _∙_}
+use mathlib.Core.Bool.{Bool, true, false, true≢false}
 use mathlib.Core.List.{List}
-use native.Mathlib.Omega.{arith}
-use lib.ListN.{length}
+use lib.ListN.{drop}
 use Rattle.base.specs.Check.{ok}
 use Rattle.base.specs.Walk.{Got}
 use Rattle.skeleton.specs.File.{Field, recordsFrom}
+use Rattle.skeleton.specs.Place.{between}
 use Rattle.rules.specs.Record.{Rec}
 use Rattle.sequence.specs.Keyed.{find}
 use Rattle.sequence.specs.Stream.{stands, standing}
@@ -20,9 +20,12 @@ use Rattle.keys.specs.Listed.{keysFrom, listed, hasFrom}
 use Rattle.keys.specs.Look.{Sound}
 use Rattle.keys.specs.Numbered.{numberOf, Ranged, Numbered}
 use Rattle.keys.specs.Table.{Laid}
+use Rattle.sorting.specs.Places.{Indexed}
+use Rattle.sorting.specs.declared.limits.Limits.{Limits}
 use Rattle.composing.specs.Acts.{fateOf, fateFrom}
 use Rattle.composing.specs.Fate.{fate}
 use Rattle.composing.specs.Settled.{Asks, Settled, Tells}
+use Rattle.composing.specs.Tied.{Noted, Stays}
 use Rattle.composing.proofs.FateLaws.{standing-fate}
 use Rattle.composing.proofs.KnownLaws.{fate-known, fate-unlisted}
 
@@ -58,16 +61,29 @@ module _ (d : List ℕ) (ds : ℕ) (u : List ℕ) (us : ℕ) (flags : List ℕ) 
     unfolding Tells
     stands-clear recs s k r e = sym (told recs s k r e ∙ fate-unlisted key items x (unfold keysFrom in unlisted recs s))
 
+-- a key that the dataset has
+module _ (u : List ℕ) (us : ℕ) (flags : List ℕ) (key : ℕ) where
+  pub stays-raised : (b : Bool) → b ≡ fateFrom u us key true → Stays u us flags key b
+  unfolding Stays
+  stays-raised b eb d ds h = stands-raised d ds u us flags key true (sym h) b eb
+
+  pub stays-clear : (f : Bool) → f ≡ flagOf flags (key % 111997) → f ≡ false → Stays u us flags key true
+  unfolding Stays
+  stays-clear f ef z d ds h = stands-clear d ds u us flags key true (sym h) f ef z
+
 -- ---- what is asked is where it can be found
 
-module _ (d : List ℕ) (ds : ℕ) (t : List ℕ) (n : ℕ) (map u : List ℕ) (us : ℕ) (flags : List ℕ) (a : Asks d ds t n map u us flags) where
-  pub asks-laid : Laid d ds t n map
-  asks-laid = a .laid
+module _ (u : List ℕ) (us : ℕ) (flags : List ℕ) (lim : Limits) (out : List ℕ) (a : Noted u us flags lim out) where
+  pub noted-new : (s : List ℕ) → s ≡ drop (lim .new) out → Sound u us × Indexed u us s
+  noted-new s e = (a .sound, subst (Indexed u us) (sym e) (a .new))
 
-  pub asks-sound : Sound u us
-  asks-sound = a .sound
+module _ (d : List ℕ) (ds : ℕ) (t : List ℕ) (n : ℕ) (map u : List ℕ) (us : ℕ) (flags : List ℕ) (lim : Limits) (out : List ℕ) (a : Asks d ds t n map u us flags lim out) where
+  pub asks-noted : Noted u us flags lim out
+  asks-noted = record { sound = a .sound; room = a .room; inside = a .indices .inside; new = a .indices .new }
 
-  pub asks-flag : (key : ℕ) → key % 111997 / 8 < length flags
-  asks-flag key = let r = a .room in omega arith
+  pub asks-old : (s : List ℕ) → s ≡ between out (lim .old) (lim .new) → Laid d ds t n map × Indexed d ds s
+  asks-old s e = (a .laid, subst (Indexed d ds) (sym e) (a .indices .old))
 
-pub ruleset stands-ways = (stands-raised, stands-clear, asks-laid, asks-sound, asks-flag)
+pub ruleset stands-ways = (stands-raised, stands-clear)
+
+pub ruleset stays-ways = (stays-raised, stays-clear)

@@ -2,6 +2,7 @@ pub mod Fate
 pub mod Linked
 pub mod Acts
 pub mod Settled
+pub mod Tied
 pub mod Keys
 pub mod Told
 pub mod Composing

@@ -4,10 +4,11 @@ use mathlib.Core.Path.{_≡_}
 use mathlib.Core.Bool.{true}
 use mathlib.Core.List.{List}
 use Rattle.base.specs.Check.{no, pass}
+use Rattle.base.specs.Lists.{gather}
 use Rattle.base.specs.Walk.{Got}
 use Rattle.base.specs.declared.Fault.{Fault}
 use Rattle.skeleton.specs.File.{Field, recordsFrom}
-use Rattle.rules.specs.Associations.{marks}
+use Rattle.rules.specs.Associations.{marks, fieldKeys}
 use Rattle.rules.specs.Record.{Rec, recOf}
 use Rattle.rules.specs.Written.{writtenFields}
 use Rattle.rules.specs.declared.Kind.{Kind}
@@ -17,6 +18,7 @@ use Rattle.updates.specs.Streamed.{refersTo}
 use Rattle.sound.specs.Sound.{SoundRec}
 use Rattle.writing.specs.House.{inHouseForm}
 use Rattle.composing.specs.Settled.{Settled}
+use Rattle.composing.specs.Tied.{TiedIn}
 use Rattle.composing.specs.Emitted.{Emitted}
 use Rattle.composing.specs.declared.making.Made.{Made}
 use Rattle.composing.specs.declared.making.Made.the-variants.{Loose, Next}
@@ -32,3 +34,7 @@ module _ (d : List ℕ) (ds : ℕ) (u : List ℕ) (us : ℕ) (flags : List ℕ) 
   -- so it is with the record that these fields are, where they are written in the house form
   unfoldable pub Carries : List Field → ℕ → List ℕ → List ℕ → Made → Type 0
   Carries fs to before out m = (k : Kind) → SoundRec (recOf k fs) → writtenFields (recOf k fs) ≡ inHouseForm true fs → MadeOf (recOf k fs) to before out m
+
+-- so it is where the dataset has what they name
+unfoldable pub CarriesTied : List ℕ → ℕ → List ℕ → List Field → ℕ → List ℕ → List ℕ → Made → Type 0
+CarriesTied u us flags fs to before out m = (d : List ℕ) (ds : ℕ) → TiedIn d ds (gather fieldKeys fs) → Carries d ds u us flags fs to before out m

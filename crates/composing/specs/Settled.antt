@@ -17,14 +17,17 @@ use Rattle.keys.specs.Listed.{keysFrom, listed}
 use Rattle.keys.specs.Look.{Sound}
 use Rattle.keys.specs.Numbered.{numberOf, Ranged, Numbered}
 use Rattle.keys.specs.Table.{Laid}
+use Rattle.sorting.specs.Indices.{Indices}
+use Rattle.sorting.specs.declared.limits.Limits.{Limits}
 use Rattle.composing.specs.Acts.{Known}
 use Rattle.composing.specs.Linked.{allStand, linked}
 
--- what is asked is where it can be found: the dataset d from ds on, with its table and map, the update u from us on, the flags of the keys that it names
-pub record Asks (d : List ℕ) (ds : ℕ) (t : List ℕ) (n : ℕ) (map u : List ℕ) (us : ℕ) (flags : List ℕ) : Type 0 where
+-- what is asked is where it can be found: the dataset d from ds on, with its table and map, the update u from us on, the flags of the keys that it names, and the indices at the end of out
+pub record Asks (d : List ℕ) (ds : ℕ) (t : List ℕ) (n : ℕ) (map u : List ℕ) (us : ℕ) (flags : List ℕ) (lim : Limits) (out : List ℕ) : Type 0 where
   pub laid : Laid d ds t n map
   pub sound : Sound u us
   pub room : 14000 ≤ length flags
+  pub indices : Indices d ds u us lim out
 
 -- recs are the dataset's records, and the update's act on them; the flag of a key that none of those names may be raised all the same
 pub record Settled (recs : List Rec) (d : List ℕ) (ds : ℕ) (u : List ℕ) (us : ℕ) (flags : List ℕ) : Type 0 where

@@ -59,52 +59,8 @@ fn deletes(r: &[u8], h: Shape, found: u64, key: u64, before: bool) -> bool
     false
 }
 
-// Whether a record stands under the key after the update records from us on; before: whether one stood.
-pub fn fate(u: &[u8], us: usize, key: u64, before: bool) -> bool
-    requires { ⌜ Sound (now u) us ⌝ }
-    ensures { λ b. ⌜ b ≡ fateFrom (now (u .entry)) us key before ⌝ }
-{
-    let mut p = us;
-    let mut stands = before;
-    while p < u.len() {
-        match stated_at(u, p) {
-            Head::Good { len, base, a, b } => {
-                let found = key_at(u, p + base);
-                stands = leaves(&u[p..p + len], Shape { base, a, b }, found, key, stands);
-                p += len;
-            }
-            Head::Refused(_) => {
-                return stands;
-            }
-        }
-    }
-    stands
-}
-
-// Whether one of the update records from us on deletes the key.
-pub fn deleted_from(u: &[u8], us: usize, key: u64) -> bool
-    requires { ⌜ Sound (now u) us ⌝ }
-    ensures { λ b. ⌜ b ≡ deletedFrom (now (u .entry)) us key ⌝ }
-{
-    let mut p = us;
-    let mut gone = false;
-    while p < u.len() {
-        match stated_at(u, p) {
-            Head::Good { len, base, a, b } => {
-                let found = key_at(u, p + base);
-                gone = deletes(&u[p..p + len], Shape { base, a, b }, found, key, gone);
-                p += len;
-            }
-            Head::Refused(_) => {
-                return gone;
-            }
-        }
-    }
-    gone
-}
-
-// The same of those from `from` on, found by an index of those from us on.
-pub fn deleted_by(u: &[u8], us: usize, index: &[u8], from: usize, key: u64) -> bool
+// Whether one of the update records from `from` on deletes the key, found by an index of those from us on.
+pub fn deleted_from(u: &[u8], us: usize, index: &[u8], from: usize, key: u64) -> bool
     requires { ⌜ Sound (now u) us × Leads (now u) us from × Indexed (now u) us (now index) ⌝ }
     ensures { λ b. ⌜ b ≡ deletedFrom (now (u .entry)) from key ⌝ }
 {
@@ -129,7 +85,7 @@ pub fn deleted_by(u: &[u8], us: usize, index: &[u8], from: usize, key: u64) -> b
 }
 
 // Whether a record stands under the key after the update records from us on, found by an index of them; before: whether one stood.
-pub fn fate_by(u: &[u8], us: usize, index: &[u8], key: u64, before: bool) -> bool
+pub fn fate(u: &[u8], us: usize, index: &[u8], key: u64, before: bool) -> bool
     requires { ⌜ Sound (now u) us × Indexed (now u) us (now index) ⌝ }
     ensures { λ b. ⌜ b ≡ fateFrom (now (u .entry)) us key before ⌝ }
 {

@@ -2,6 +2,7 @@
 use crate::standing::stands;
 use cells::cell::u24_at;
 use keys::look::key_at;
+use sorting::limits::Limits;
 use version::Version;
 ghost use Prim.Native.Nat.{_+_, _-_, _*_, _≤_};
 ghost use lib.ListN.{length};
@@ -33,16 +34,18 @@ fn cells_stand(
     u: &[u8],
     us: usize,
     flags: &[u8],
+    out: &[u8],
+    lim: Limits,
     c: &[u8],
     m: usize,
 ) -> bool
-    requires { ⌜ Asks (now d) ds (now t) n (now map) (now u) us (now flags) × (7 * m ≤ length (now c)) × (length (now c) ≤ 16777216) ⌝ }
+    requires { ⌜ Asks (now d) ds (now t) n (now map) (now u) us (now flags) lim (now out) × (7 * m ≤ length (now c)) × (length (now c) ≤ 16777216) ⌝ }
     ensures { λ r. ⌜ TellsCells (now (d .entry)) ds (now (u .entry)) us (now (flags .entry)) (bodiesOf (now (d .entry)) (now (u .entry)) (now (c .entry)) m) r ⌝ }
 {
     let mut i = 0;
     while i < m {
         let key = cell_key(d, u, c, i);
-        if !stands(d, ds, t, n, map, u, us, flags, key) {
+        if !stands(d, ds, t, n, map, u, us, flags, out, lim, key) {
             return false;
         }
         i += 1;
@@ -60,15 +63,17 @@ fn area_stands(
     u: &[u8],
     us: usize,
     flags: &[u8],
+    out: &[u8],
+    lim: Limits,
     work: &[u8],
     from: usize,
     to: usize,
     m: usize,
 ) -> bool
-    requires { ⌜ Asks (now d) ds (now t) n (now map) (now u) us (now flags) × (400000 ≤ length (now work)) × (from ≤ to) × (to ≤ 386000) × (7 * m ≤ to - from) ⌝ }
+    requires { ⌜ Asks (now d) ds (now t) n (now map) (now u) us (now flags) lim (now out) × (400000 ≤ length (now work)) × (from ≤ to) × (to ≤ 386000) × (7 * m ≤ to - from) ⌝ }
     ensures { λ r. ⌜ TellsCells (now (d .entry)) ds (now (u .entry)) us (now (flags .entry)) (bodiesOf (now (d .entry)) (now (u .entry)) (between (now (work .entry)) from to) m) r ⌝ }
 {
-    cells_stand(d, ds, t, n, map, u, us, flags, &work[from..to], m)
+    cells_stand(d, ds, t, n, map, u, us, flags, out, lim, &work[from..to], m)
 }
 
 // Those that the record in the workspace names.
@@ -81,14 +86,46 @@ pub fn version_stands(
     u: &[u8],
     us: usize,
     flags: &[u8],
+    out: &[u8],
+    lim: Limits,
     work: &[u8],
     v: Version,
 ) -> bool
-    requires { ⌜ Asks (now d) ds (now t) n (now map) (now u) us (now flags) × (400000 ≤ length (now work)) × (7 * v .inas ≤ 92000) × (7 * v .spas ≤ 94000) ⌝ }
+    requires { ⌜ Asks (now d) ds (now t) n (now map) (now u) us (now flags) lim (now out) × (400000 ≤ length (now work)) × (7 * v .inas ≤ 92000) × (7 * v .spas ≤ 94000) ⌝ }
     ensures { λ b. ⌜ TellsHeld (now (d .entry)) ds (now (u .entry)) us (now (flags .entry)) (now (work .entry)) v b ⌝ }
 {
-    if !area_stands(d, ds, t, n, map, u, us, flags, work, 200000, 292000, v.inas) {
+    if !area_stands(
+        d,
+        ds,
+        t,
+        n,
+        map,
+        u,
+        us,
+        flags,
+        out,
+        lim,
+        work,
+        200000,
+        292000,
+        v.inas,
+    ) {
         return false;
     }
-    area_stands(d, ds, t, n, map, u, us, flags, work, 292000, 386000, v.spas)
+    area_stands(
+        d,
+        ds,
+        t,
+        n,
+        map,
+        u,
+        us,
+        flags,
+        out,
+        lim,
+        work,
+        292000,
+        386000,
+        v.spas,
+    )
 }

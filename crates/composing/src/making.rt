@@ -2,6 +2,7 @@
 use crate::carrying::carry;
 use crate::naming::fields_stand;
 use skeleton::directory::Shape;
+use sorting::limits::Limits;
 ghost use mathlib.Core.Path.{_≡_};
 ghost use mathlib.Core.Bool.{true};
 ghost use Prim.Native.Nat.{_≤_};
@@ -11,8 +12,8 @@ ghost use Rattle.skeleton.specs.Shape.{Bounded};
 ghost use Rattle.rules.specs.Written.{writtenLength};
 ghost use Rattle.references.specs.Readable.{allReadable};
 ghost use Rattle.writing.specs.House.{inHouseForm};
-ghost use Rattle.composing.specs.Settled.{Asks};
-ghost use Rattle.composing.specs.Made.{Carries};
+ghost use Rattle.composing.specs.Tied.{Noted};
+ghost use Rattle.composing.specs.Made.{CarriesTied};
 
 // It names a record that does not stand; or where the next one begins.
 pub enum Made {
@@ -22,11 +23,6 @@ pub enum Made {
 
 // The record r of the dataset, which no update record names.
 pub fn make_untouched(
-    d: &[u8],
-    ds: usize,
-    t: &[u32],
-    n: usize,
-    map: &[u8],
     u: &[u8],
     us: usize,
     flags: &[u8],
@@ -34,12 +30,13 @@ pub fn make_untouched(
     h: Shape,
     out: &mut [u8],
     to: usize,
+    lim: Limits,
 ) -> Made
-    requires { ⌜ Asks (now d) ds (now t) n (now map) (now u) us (now flags) × Bounded h × (length (now r) ≤ 16777216) × (allReadable (fieldsAt (now r) h 24) ≡ true) ⌝ }
+    requires { ⌜ Noted (now u) us (now flags) lim (now out) × Bounded h × (length (now r) ≤ 16777216) × (allReadable (fieldsAt (now r) h 24) ≡ true) ⌝ }
     requires { ⌜ (to ≤ 4611686018427387904) × (writtenLength (inHouseForm true (fieldsAt (now r) h 24)) ≤ 99999) ⌝ }
-    ensures { λ e. ⌜ Carries (now (d .entry)) ds (now (u .entry)) us (now (flags .entry)) (fieldsAt (now (r .entry)) h 24) to (now (out .entry)) (now (out .exit)) e ⌝ }
+    ensures { λ e. ⌜ CarriesTied (now (u .entry)) us (now (flags .entry)) (fieldsAt (now (r .entry)) h 24) to (now (out .entry)) (now (out .exit)) e ⌝ }
 {
-    if !fields_stand(d, ds, t, n, map, u, us, flags, r, h) {
+    if !fields_stand(u, us, flags, out, lim, r, h) {
         return Made::Loose;
     }
     Made::Next(carry(r, h, out, to))

@@ -1,9 +1,10 @@
-// Whether the records that the associations of one record name, INAS (0x494e4153) and SPAS (0x53504153), stand in the end.
-use crate::standing::stands;
+// Whether the records that the associations of one record name, INAS (0x494e4153) and SPAS (0x53504153), stand in the end, where the dataset has them all.
+use crate::standing::stays;
 use keys::look::key_at;
 use skeleton::directory::Shape;
 use skeleton::place::Place;
 use skeleton::place::place_at;
+use sorting::limits::Limits;
 ghost use mathlib.Core.Path.{_≡_};
 ghost use mathlib.Core.Bool.{true};
 ghost use mathlib.Core.List.{[], _∷_};
@@ -17,46 +18,26 @@ ghost use Rattle.skeleton.specs.Place.{fieldsAt};
 ghost use Rattle.skeleton.specs.Shape.{Bounded};
 ghost use Rattle.rules.specs.Associations.{inasKey, spasKeys, fieldKeys};
 ghost use Rattle.references.specs.Readable.{readable, allReadable};
-ghost use Rattle.composing.specs.Settled.{Asks, TellsAll};
+ghost use Rattle.composing.specs.Tied.{Noted, StaysAll};
 
 // The record that the INAS b names.
-fn inas_stands(
-    d: &[u8],
-    ds: usize,
-    t: &[u32],
-    n: usize,
-    map: &[u8],
-    u: &[u8],
-    us: usize,
-    flags: &[u8],
-    b: &[u8],
-) -> bool
-    requires { ⌜ Asks (now d) ds (now t) n (now map) (now u) us (now flags) × (fill (headOf InasNew) (tupleOf InasNew) (now b) ≡ true) ⌝ }
-    ensures { λ r. ⌜ TellsAll (now (d .entry)) ds (now (u .entry)) us (now (flags .entry)) (inasKey (now (b .entry)) ∷ []) r ⌝ }
+fn inas_stands(u: &[u8], us: usize, flags: &[u8], out: &[u8], lim: Limits, b: &[u8]) -> bool
+    requires { ⌜ Noted (now u) us (now flags) lim (now out) × (fill (headOf InasNew) (tupleOf InasNew) (now b) ≡ true) ⌝ }
+    ensures { λ r. ⌜ StaysAll (now (u .entry)) us (now (flags .entry)) (inasKey (now (b .entry)) ∷ []) r ⌝ }
 {
     let key = key_at(b, 0);
-    stands(d, ds, t, n, map, u, us, flags, key)
+    stays(u, us, flags, out, lim, key)
 }
 
 // The records that the tuples of the SPAS b name.
-fn spas_stand(
-    d: &[u8],
-    ds: usize,
-    t: &[u32],
-    n: usize,
-    map: &[u8],
-    u: &[u8],
-    us: usize,
-    flags: &[u8],
-    b: &[u8],
-) -> bool
-    requires { ⌜ Asks (now d) ds (now t) n (now map) (now u) us (now flags) × (length (now b) ≤ 16777216) × (fill (headOf Spas) (tupleOf Spas) (now b) ≡ true) ⌝ }
-    ensures { λ r. ⌜ TellsAll (now (d .entry)) ds (now (u .entry)) us (now (flags .entry)) (spasKeys (now (b .entry))) r ⌝ }
+fn spas_stand(u: &[u8], us: usize, flags: &[u8], out: &[u8], lim: Limits, b: &[u8]) -> bool
+    requires { ⌜ Noted (now u) us (now flags) lim (now out) × (length (now b) ≤ 16777216) × (fill (headOf Spas) (tupleOf Spas) (now b) ≡ true) ⌝ }
+    ensures { λ r. ⌜ StaysAll (now (u .entry)) us (now (flags .entry)) (spasKeys (now (b .entry))) r ⌝ }
 {
     let mut at = 0;
     while at < b.len() {
         let key = key_at(b, at);
-        if !stands(d, ds, t, n, map, u, us, flags, key) {
+        if !stays(u, us, flags, out, lim, key) {
             return false;
         }
         at += 15;
@@ -66,44 +47,38 @@ fn spas_stand(
 
 // The records that a field with this tag names.
 fn field_stands(
-    d: &[u8],
-    ds: usize,
-    t: &[u32],
-    n: usize,
-    map: &[u8],
     u: &[u8],
     us: usize,
     flags: &[u8],
+    out: &[u8],
+    lim: Limits,
     tag: u32,
     b: &[u8],
 ) -> bool
-    requires { ⌜ Asks (now d) ds (now t) n (now map) (now u) us (now flags) × (length (now b) ≤ 16777216) × (readable (record { tag = tag; body = now b }) ≡ true) ⌝ }
-    ensures { λ r. ⌜ TellsAll (now (d .entry)) ds (now (u .entry)) us (now (flags .entry)) (fieldKeys (record { tag = tag; body = now (b .entry) })) r ⌝ }
+    requires { ⌜ Noted (now u) us (now flags) lim (now out) × (length (now b) ≤ 16777216) × (readable (record { tag = tag; body = now b }) ≡ true) ⌝ }
+    ensures { λ r. ⌜ StaysAll (now (u .entry)) us (now (flags .entry)) (fieldKeys (record { tag = tag; body = now (b .entry) })) r ⌝ }
 {
     if tag == 0x494e4153 {
-        return inas_stands(d, ds, t, n, map, u, us, flags, b);
+        return inas_stands(u, us, flags, out, lim, b);
     }
     if tag == 0x53504153 {
-        return spas_stand(d, ds, t, n, map, u, us, flags, b);
+        return spas_stand(u, us, flags, out, lim, b);
     }
     true
 }
 
 // The records that the record r names.
 pub fn fields_stand(
-    d: &[u8],
-    ds: usize,
-    t: &[u32],
-    n: usize,
-    map: &[u8],
     u: &[u8],
     us: usize,
     flags: &[u8],
+    out: &[u8],
+    lim: Limits,
     r: &[u8],
     h: Shape,
 ) -> bool
-    requires { ⌜ Asks (now d) ds (now t) n (now map) (now u) us (now flags) × Bounded h × (length (now r) ≤ 16777216) × (allReadable (fieldsAt (now r) h 24) ≡ true) ⌝ }
-    ensures { λ b. ⌜ TellsAll (now (d .entry)) ds (now (u .entry)) us (now (flags .entry)) (gather fieldKeys (fieldsAt (now (r .entry)) h 24)) b ⌝ }
+    requires { ⌜ Noted (now u) us (now flags) lim (now out) × Bounded h × (length (now r) ≤ 16777216) × (allReadable (fieldsAt (now r) h 24) ≡ true) ⌝ }
+    ensures { λ b. ⌜ StaysAll (now (u .entry)) us (now (flags .entry)) (gather fieldKeys (fieldsAt (now (r .entry)) h 24)) b ⌝ }
 {
     let mut q = 24;
     loop {
@@ -114,7 +89,7 @@ pub fn fields_stand(
                 end,
                 next,
             } => {
-                if !field_stands(d, ds, t, n, map, u, us, flags, tag, &r[start..end]) {
+                if !field_stands(u, us, flags, out, lim, tag, &r[start..end]) {
                     return false;
                 }
                 q = next;

@@ -1,21 +1,23 @@
-use Rattle.composing.proofs.ActsLaws.{acts-turn}
+use Rattle.composing.proofs.ActsLaws.{acts-turn, fate-over}
+use Rattle.composing.proofs.NextLaws.{Going, going-start, going-leads, going-falls, going-more}
+use Rattle.sorting.specs.Places.{here}
 use lib.ListN.{length}
 use Prim.Native.Nat.{_-_}
-use mathlib.Core.Path.{_≡_, refl}
-use Rattle.keys.specs.Look.{Sound}
-use Rattle.composing.specs.Acts.{fateFrom}
 use borrow.Author.Needs.{needs}
 use Rattle.composing.proofs.acts.fate.Statement.{statement}
 use Rattle.composing.proofs.acts.fate.Tie as tie
 
 abbrev Inv-loop : tie.InvT-loop
-Inv-loop u us key before p₀ stands₀ p stands = Sound u p × (fateFrom u p key stands ≡ fateFrom u us key before)
+Inv-loop u us index key before p₀ stands₀ p stands = Going u us key before p stands
 
 abbrev μ-loop : tie.MeasureT-loop
-μ-loop u us key before p₀ stands₀ p stands = length u - p
+μ-loop u us index key before p₀ stands₀ p stands = length u - p
+
+next-requires : tie.Need-next-requires Inv-loop μ-loop
+next-requires c κs = (c .before .before .pre .0, here, c .before .before .pre .1)
 
 loop-holds : tie.Need-loop-holds Inv-loop μ-loop
-loop-holds c = (search needs, refl)
+loop-holds c = going-start _ _ _ _ _ (c .next .ensures)
 
 stated-at-requires : tie.Need-stated-at-requires Inv-loop μ-loop
 stated-at-requires c κs = search acts-turn
@@ -44,14 +46,17 @@ part-leaves-end c = search acts-turn
 leaves-requires : tie.Need-leaves-requires Inv-loop μ-loop
 leaves-requires c κs = search acts-turn
 
-add-p : tie.Need-add-p Inv-loop μ-loop
-add-p c = search acts-turn
+add-next : tie.Need-add-next Inv-loop μ-loop
+add-next c = search acts-turn
+
+next-requires-2 : tie.Need-next-requires-2 Inv-loop μ-loop
+next-requires-2 c κs = (c .before .before .before .before .before .before .before .before .before .before .before .before .pre .0, going-leads _ _ _ _ _ _ (c .before .before .before .before .before .before .before .before .loop .inv) (c .before .before .before .before .before .before .before .loop-test .taken) _ (c .before .before .before .before .before .before .stated-at .ensures) _ _ _ _ (c .before .before .before .before .len .given .1), c .before .before .before .before .before .before .before .before .before .before .before .before .pre .1)
 
 loop-less : tie.Need-loop-less Inv-loop μ-loop
-loop-less c = search acts-turn
+loop-less c = going-falls _ _ _ _ _ _ (c .before .before .before .before .before .before .before .before .before .loop .inv) (c .before .before .before .before .before .before .before .before .loop-test .taken) _ (c .before .before .before .before .before .before .before .stated-at .ensures) _ _ _ _ (c .before .before .before .before .before .len .given .1) _ (c .next2 .ensures)
 
 loop-again : tie.Need-loop-again Inv-loop μ-loop
-loop-again c = (search acts-turn, search acts-turn)
+loop-again c = going-more _ _ _ _ _ _ (c .before .before .before .before .before .before .before .before .before .loop .inv) (c .before .before .before .before .before .before .before .before .loop-test .taken) _ (c .before .before .before .before .before .before .before .stated-at .ensures) _ _ _ _ (c .before .before .before .before .before .len .given .1) _ (c .before .before .before .key-at .ensures .0) _ (c .before .leaves .ensures) _ (c .next2 .ensures)
 
 enum-told : tie.Need-enum-told Inv-loop μ-loop
 enum-told c = search needs
@@ -60,7 +65,7 @@ returns : tie.Need-returns Inv-loop μ-loop
 returns c = search acts-turn
 
 returns-2 : tie.Need-returns-2 Inv-loop μ-loop
-returns-2 c = search acts-turn
+returns-2 c = fate-over _ _ _ (c .loop-test .left) _ _ (c .before .loop .inv .answer)
 
 pub fate-spec : {M : Type 1} → statement M
 fate-spec =
@@ -68,6 +73,7 @@ fate-spec =
     (tie.spec
     Inv-loop
     μ-loop
+    next-requires
     loop-holds
     stated-at-requires
     enum-known-len
@@ -78,7 +84,8 @@ fate-spec =
     part-leaves-start
     part-leaves-end
     leaves-requires
-    add-p
+    add-next
+    next-requires-2
     loop-less
     loop-again
     enum-told

@@ -6,10 +6,10 @@ use Rattle.composing.proofs.held.cells_stand.Statement.{statement}
 use Rattle.composing.proofs.held.cells_stand.Tie as tie
 
 abbrev Inv-loop : tie.InvT-loop
-Inv-loop d ds t n map u us flags c m i₀ i = Left d ds u us flags c m i
+Inv-loop d ds t n map u us flags out lim c m i₀ i = Left d ds u us flags c m i
 
 abbrev μ-loop : tie.MeasureT-loop
-μ-loop d ds t n map u us flags c m i₀ i = m - i
+μ-loop d ds t n map u us flags out lim c m i₀ i = m - i
 
 loop-holds : tie.Need-loop-holds Inv-loop μ-loop
 loop-holds c = search cells-turn

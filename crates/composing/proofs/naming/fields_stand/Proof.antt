@@ -2,7 +2,7 @@ use Rattle.base.specs.Lists.{gather}
 use Rattle.rules.specs.Associations.{fieldKeys}
 use Rattle.references.specs.Readable.{allReadable}
 use Rattle.skeleton.specs.Place.{fieldsAt}
-use Rattle.composing.specs.Settled.{Alike}
+use Rattle.composing.specs.Tied.{Remain}
 use Rattle.composing.proofs.NamingLaws.{fields-turn}
 use lib.ListN.{length}
 use mathlib.Core.Bool.{true}
@@ -13,10 +13,10 @@ use Rattle.composing.proofs.naming.fields_stand.Statement.{statement}
 use Rattle.composing.proofs.naming.fields_stand.Tie as tie
 
 abbrev Inv-loop : tie.InvT-loop
-Inv-loop d ds t n map u us flags r h q₀ q = (allReadable (fieldsAt r h q) ≡ true) × Alike d ds u us flags (gather fieldKeys (fieldsAt r h q)) (gather fieldKeys (fieldsAt r h 24))
+Inv-loop u us flags out lim r h q₀ q = (allReadable (fieldsAt r h q) ≡ true) × Remain u us flags (gather fieldKeys (fieldsAt r h q)) (gather fieldKeys (fieldsAt r h 24))
 
 abbrev μ-loop : tie.MeasureT-loop
-μ-loop d ds t n map u us flags r h q₀ q = length r - q
+μ-loop u us flags out lim r h q₀ q = length r - q
 
 loop-holds : tie.Need-loop-holds Inv-loop μ-loop
 loop-holds c = (search needs, search fields-turn)
