@@ -73,13 +73,12 @@ module _ (u : List ℕ) (us : ℕ) (flags : List ℕ) (key : ℕ) where
 
 -- ---- what is asked is where it can be found
 
-module _ (u : List ℕ) (us : ℕ) (flags : List ℕ) (lim : Limits) (out : List ℕ) (a : Noted u us flags lim out) where
-  pub noted-new : (s : List ℕ) → s ≡ drop (lim .new) out → Sound u us × Indexed u us s
-  noted-new s e = (a .sound, subst (Indexed u us) (sym e) (a .new))
+pub noted-new : (u : List ℕ) (us : ℕ) (lim : Limits) (out : List ℕ) → Noted u us lim out → (s : List ℕ) → s ≡ drop (lim .new) out → Sound u us × Indexed u us s
+noted-new u us lim out a s e = (a .sound, subst (Indexed u us) (sym e) (a .new))
 
 module _ (d : List ℕ) (ds : ℕ) (t : List ℕ) (n : ℕ) (map u : List ℕ) (us : ℕ) (flags : List ℕ) (lim : Limits) (out : List ℕ) (a : Asks d ds t n map u us flags lim out) where
-  pub asks-noted : Noted u us flags lim out
-  asks-noted = record { sound = a .sound; room = a .room; inside = a .indices .inside; new = a .indices .new }
+  pub asks-noted : Noted u us lim out
+  asks-noted = record { sound = a .sound; inside = a .indices .inside; new = a .indices .new }
 
   pub asks-old : (s : List ℕ) → s ≡ between out (lim .old) (lim .new) → Laid d ds t n map × Indexed d ds s
   asks-old s e = (a .laid, subst (Indexed d ds) (sym e) (a .indices .old))

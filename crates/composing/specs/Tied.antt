@@ -23,10 +23,9 @@ TiedIn d ds ks = Each (λ k. Ranged (take 2 k) → hasFrom d ds (numberOf (take 
 unfoldable pub TiedFrom : List ℕ → ℕ → ℕ → Type 0
 TiedFrom d ds p = Each (λ (fs : List Field). TiedIn d ds (gather fieldKeys fs)) ((recordsFrom d p) .items)
 
--- what is asked of the update alone is where it can be found: its records from us on, the flags of the keys that it names, its index at the end of out
-pub record Noted (u : List ℕ) (us : ℕ) (flags : List ℕ) (lim : Limits) (out : List ℕ) : Type 0 where
+-- what is asked of the update alone is where it can be found: its records from us on, and their index at the end of out
+pub record Noted (u : List ℕ) (us : ℕ) (lim : Limits) (out : List ℕ) : Type 0 where
   pub sound : Sound u us
-  pub room : 14000 ≤ length flags
   pub inside : lim .new ≤ length out
   pub new : Indexed u us (drop (lim .new) out)
 

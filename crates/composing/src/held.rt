@@ -94,38 +94,14 @@ pub fn version_stands(
     requires { ⌜ Asks (now d) ds (now t) n (now map) (now u) us (now flags) lim (now out) × (400000 ≤ length (now work)) × (7 * v .inas ≤ 92000) × (7 * v .spas ≤ 94000) ⌝ }
     ensures { λ b. ⌜ TellsHeld (now (d .entry)) ds (now (u .entry)) us (now (flags .entry)) (now (work .entry)) v b ⌝ }
 {
-    if !area_stands(
-        d,
-        ds,
-        t,
-        n,
-        map,
-        u,
-        us,
-        flags,
-        out,
-        lim,
-        work,
-        200000,
-        292000,
-        v.inas,
-    ) {
+    let from = 200000;
+    let to = 292000;
+    let m = v.inas;
+    if !area_stands(d, ds, t, n, map, u, us, flags, out, lim, work, from, to, m) {
         return false;
     }
-    area_stands(
-        d,
-        ds,
-        t,
-        n,
-        map,
-        u,
-        us,
-        flags,
-        out,
-        lim,
-        work,
-        292000,
-        386000,
-        v.spas,
-    )
+    let from = 292000;
+    let to = 386000;
+    let m = v.spas;
+    area_stands(d, ds, t, n, map, u, us, flags, out, lim, work, from, to, m)
 }

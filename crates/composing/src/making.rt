@@ -32,7 +32,7 @@ pub fn make_untouched(
     to: usize,
     lim: Limits,
 ) -> Made
-    requires { ⌜ Noted (now u) us (now flags) lim (now out) × Bounded h × (length (now r) ≤ 16777216) × (allReadable (fieldsAt (now r) h 24) ≡ true) ⌝ }
+    requires { ⌜ Noted (now u) us lim (now out) × (14000 ≤ length (now flags)) × Bounded h × (length (now r) ≤ 16777216) × (allReadable (fieldsAt (now r) h 24) ≡ true) ⌝ }
     requires { ⌜ (to ≤ 4611686018427387904) × (writtenLength (inHouseForm true (fieldsAt (now r) h 24)) ≤ 99999) ⌝ }
     ensures { λ e. ⌜ CarriesTied (now (u .entry)) us (now (flags .entry)) (fieldsAt (now (r .entry)) h 24) to (now (out .entry)) (now (out .exit)) e ⌝ }
 {

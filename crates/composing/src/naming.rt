@@ -22,7 +22,7 @@ ghost use Rattle.composing.specs.Tied.{Noted, StaysAll};
 
 // The record that the INAS b names.
 fn inas_stands(u: &[u8], us: usize, flags: &[u8], out: &[u8], lim: Limits, b: &[u8]) -> bool
-    requires { ⌜ Noted (now u) us (now flags) lim (now out) × (fill (headOf InasNew) (tupleOf InasNew) (now b) ≡ true) ⌝ }
+    requires { ⌜ Noted (now u) us lim (now out) × (14000 ≤ length (now flags)) × (fill (headOf InasNew) (tupleOf InasNew) (now b) ≡ true) ⌝ }
     ensures { λ r. ⌜ StaysAll (now (u .entry)) us (now (flags .entry)) (inasKey (now (b .entry)) ∷ []) r ⌝ }
 {
     let key = key_at(b, 0);
@@ -31,7 +31,7 @@ fn inas_stands(u: &[u8], us: usize, flags: &[u8], out: &[u8], lim: Limits, b: &[
 
 // The records that the tuples of the SPAS b name.
 fn spas_stand(u: &[u8], us: usize, flags: &[u8], out: &[u8], lim: Limits, b: &[u8]) -> bool
-    requires { ⌜ Noted (now u) us (now flags) lim (now out) × (length (now b) ≤ 16777216) × (fill (headOf Spas) (tupleOf Spas) (now b) ≡ true) ⌝ }
+    requires { ⌜ Noted (now u) us lim (now out) × (14000 ≤ length (now flags)) × (length (now b) ≤ 16777216) × (fill (headOf Spas) (tupleOf Spas) (now b) ≡ true) ⌝ }
     ensures { λ r. ⌜ StaysAll (now (u .entry)) us (now (flags .entry)) (spasKeys (now (b .entry))) r ⌝ }
 {
     let mut at = 0;
@@ -55,7 +55,7 @@ fn field_stands(
     tag: u32,
     b: &[u8],
 ) -> bool
-    requires { ⌜ Noted (now u) us (now flags) lim (now out) × (length (now b) ≤ 16777216) × (readable (record { tag = tag; body = now b }) ≡ true) ⌝ }
+    requires { ⌜ Noted (now u) us lim (now out) × (14000 ≤ length (now flags)) × (length (now b) ≤ 16777216) × (readable (record { tag = tag; body = now b }) ≡ true) ⌝ }
     ensures { λ r. ⌜ StaysAll (now (u .entry)) us (now (flags .entry)) (fieldKeys (record { tag = tag; body = now (b .entry) })) r ⌝ }
 {
     if tag == 0x494e4153 {
@@ -77,7 +77,7 @@ pub fn fields_stand(
     r: &[u8],
     h: Shape,
 ) -> bool
-    requires { ⌜ Noted (now u) us (now flags) lim (now out) × Bounded h × (length (now r) ≤ 16777216) × (allReadable (fieldsAt (now r) h 24) ≡ true) ⌝ }
+    requires { ⌜ Noted (now u) us lim (now out) × (14000 ≤ length (now flags)) × Bounded h × (length (now r) ≤ 16777216) × (allReadable (fieldsAt (now r) h 24) ≡ true) ⌝ }
     ensures { λ b. ⌜ StaysAll (now (u .entry)) us (now (flags .entry)) (gather fieldKeys (fieldsAt (now (r .entry)) h 24)) b ⌝ }
 {
     let mut q = 24;

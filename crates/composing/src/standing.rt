@@ -5,6 +5,8 @@ use sorting::found::has_by;
 use sorting::limits::Limits;
 use sorting::limits::new_index;
 use sorting::limits::old_index;
+ghost use Prim.Native.Nat.{_≤_};
+ghost use lib.ListN.{length};
 ghost use Rattle.composing.specs.Settled.{Asks, Tells};
 ghost use Rattle.composing.specs.Tied.{Noted, Stays};
 
@@ -34,7 +36,7 @@ pub fn stands(
 
 // The same of a key that the dataset has.
 pub fn stays(u: &[u8], us: usize, flags: &[u8], out: &[u8], lim: Limits, key: u64) -> bool
-    requires { ⌜ Noted (now u) us (now flags) lim (now out) ⌝ }
+    requires { ⌜ Noted (now u) us lim (now out) × (14000 ≤ length (now flags)) ⌝ }
     ensures { λ b. ⌜ Stays (now (u .entry)) us (now (flags .entry)) key b ⌝ }
 {
     if flag(flags, (key % 111997) as usize) {

@@ -37,7 +37,7 @@ part-field-stands-end : tie.Need-part-field-stands-end Inv-loop μ-loop
 part-field-stands-end c = search fields-turn
 
 field-stands-requires : tie.Need-field-stands-requires Inv-loop μ-loop
-field-stands-requires c κs = (search needs, search fields-turn, search fields-turn)
+field-stands-requires c κs = (search needs, search needs, search fields-turn, search fields-turn)
 
 returns : tie.Need-returns Inv-loop μ-loop
 returns c = search fields-turn
