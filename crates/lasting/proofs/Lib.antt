@@ -1,5 +1,6 @@
 pub mod WalkLaws
 pub mod WholeLaws
+pub mod TiedLaws
 pub mod NamingLaws
 pub mod ReadableLaws
 pub mod StepLaws

@@ -13,11 +13,12 @@ use Rattle.base.specs.Walk.{Got}
 use Rattle.base.specs.Lists.{Each}
 use Rattle.skeleton.specs.File.{Field, recordsFrom}
 use Rattle.skeleton.specs.Place.{between, fieldsAt}
-use Rattle.skeleton.specs.Record.{recordAt}
+use Rattle.skeleton.specs.Record.{recordAt, statedAt}
 use Rattle.skeleton.specs.Shape.{Bounded}
 use Rattle.skeleton.specs.declared.directory.Shape.{Shape}
 use Rattle.skeleton.proofs.RecordLaws.{Right, right}
 use Rattle.skeleton.proofs.FileLaws.{records-more}
+use Rattle.skeleton.proofs.AgainLaws.{again, records-some}
 use Rattle.fields.specs.Valid.{Bytes}
 use Rattle.rules.specs.Record.{Rec}
 use Rattle.sequence.specs.Keyed.{Parts}
@@ -33,10 +34,14 @@ use Rattle.stock.specs.Stock.{stockFrom}
 use Rattle.incoming.specs.Fitting.{Single, Rest}
 use Rattle.incoming.proofs.FittingLaws.{rest-here, rest-more}
 use Rattle.keys.specs.Listed.{keyOf}
-use Rattle.keys.specs.Look.{Sound}
+use Rattle.keys.specs.Key.{keyAt}
+use Rattle.keys.specs.Look.{lookAt}
+use Rattle.keys.specs.declared.look.Look.the-variants.{At}
 use Rattle.keys.specs.Numbered.{numberOf, Ranged}
 use Rattle.keys.proofs.FirstLaws.{first-key}
 use Rattle.keys.proofs.IdentLaws.{Keyed}
+use Rattle.sorting.specs.Places.{Leads, here as there, over}
+use Rattle.sorting.proofs.PlaceLaws.{leads-then}
 use Rattle.version.specs.Areas.{flagArea}
 use Rattle.version.specs.Present.{HeldAs, ChangedTo, FlagsKept}
 use Rattle.version.specs.declared.Present.the-variants.{Absent}
@@ -48,7 +53,7 @@ use Rattle.history.specs.Here.{namedIn}
 use Rattle.history.specs.Played.{Playing, Played}
 use Rattle.history.proofs.FlagLaws.{flags-kept}
 use Rattle.history.proofs.HereLaws.{known-sent}
-use Rattle.history.proofs.PlayingLaws.{rest-sound, Named, single-named}
+use Rattle.history.proofs.PlayingLaws.{Named, single-named}
 use Rattle.lasting.specs.Whole.{Whole, New}
 use Rattle.lasting.specs.Step.{Stepped}
 use Rattle.lasting.specs.Stays.{Lasting, Stays, LastStep, NewStep}
@@ -124,8 +129,12 @@ module _ (d : List ℕ) (ds : ℕ) (t : List ℕ) (n : ℕ) (map u : List ℕ) (
   pub new-word : p + len < 2 ^ 64
   new-word = let i = whole .inside in let l = x .ready .short .new in omega arith
 
-  pub new-behind : Sound u (p + len)
-  new-behind = rest-sound u (p + len) behind (whole .inside) (x .ready .short .new)
+  pub new-behind : Leads u us (p + len)
+  unfolding lookAt
+  new-behind =
+      let e : statedAt u p ≡ recordAt u p = again u p (records-some u p (o .inside) (o .rest .ended)) (statedAt u p) refl in
+      let y : lookAt u p ≡ At len (keyAt u (p + h .base)) = rw (e ∙ o .there) in
+      leads-then (o .leads) (over y there)
 
   -- it inserts, and none of the later ones deletes
   abbrev Lasts : Type 0

@@ -9,15 +9,17 @@ use borrow.Author.Tests.{eq-eqb, ne-eqb, not-true}
 use lib.ListN.{length, drop, length-take, length-drop}
 use Rattle.base.specs.Check.{Check, ok, pass}
 use Rattle.base.specs.Walk.{Got}
-use Rattle.base.specs.Lists.{Each}
+use Rattle.base.specs.Lists.{gather, Each}
 use Rattle.skeleton.specs.File.{Field, recordsFrom}
 use Rattle.skeleton.specs.Place.{between, fieldsAt}
 use Rattle.skeleton.specs.Record.{recordAt}
 use Rattle.skeleton.specs.Shape.{Bounded}
 use Rattle.skeleton.specs.declared.directory.Shape.{Shape}
 use Rattle.skeleton.proofs.RecordLaws.{Right, right}
+use Rattle.skeleton.proofs.FileLaws.{records-more}
 use Rattle.skeleton.proofs.ReadLaws.{bytes-between}
 use Rattle.fields.specs.Valid.{Bytes}
+use Rattle.rules.specs.Associations.{fieldKeys}
 use Rattle.rules.specs.Record.{Rec, recOf, keyOf as keyInRules}
 use Rattle.rules.specs.Written.{writtenFields, writtenLength, number12}
 use Rattle.rules.specs.declared.Kind.{Kind}
@@ -50,7 +52,8 @@ use Rattle.version.specs.Present.{HeldAs, ChangedTo, FlagsKept}
 use Rattle.version.specs.declared.Present.{Present}
 use Rattle.version.specs.declared.Changed.{Changed}
 use Rattle.composing.specs.Acts.{deletedFrom}
-use Rattle.composing.specs.Made.{Carries}
+use Rattle.composing.specs.Made.{Carries, CarriesTied}
+use Rattle.composing.specs.Tied.{TiedIn}
 use Rattle.composing.specs.declared.making.Made.{Made}
 use Rattle.composing.proofs.KnownLaws.{deleted-known}
 use Rattle.composing.proofs.ResultLaws.{kept-some, history-sound}
@@ -66,6 +69,7 @@ use Rattle.lasting.specs.declared.Step.{Step}
 use Rattle.lasting.specs.declared.Step.the-variants.{Nothing}
 use Rattle.lasting.proofs.WalkLaws.{take-records}
 use Rattle.lasting.proofs.WholeLaws.{rest-sendable, whole-known, whole-fine, whole-kept}
+use Rattle.lasting.proofs.TiedLaws.{tied-on, tied-first}
 use Rattle.lasting.proofs.NamingLaws.{place-is, named-listed, once-there}
 use Rattle.lasting.proofs.ReadableLaws.{stored-readable}
 use Rattle.lasting.proofs.StepLaws.{made-step, stepped-as, step-flags}
@@ -179,6 +183,13 @@ module _ (d : List ℕ) (ds : ℕ) (t : List ℕ) (n : ℕ) (map u : List ℕ) (
   pub old-readable : allReadable fields ≡ true
   old-readable = stored-readable (stored .0) fields (stored .1)
 
+  -- the dataset has what it names
+  old-tied : TiedIn d ds (gather fieldKeys fields)
+  old-tied =
+      tied-first d ds p fields ((recordsFrom d (p + len)) .items)
+      (ap (λ (g : Got (List Field)). g .items) (records-more d p (o .inside) (recordAt d p) refl len (h .base) (h .a) (h .b) (o .there)))
+      (tied-on d ds (o .leads) (x .laid .sound) (x .tied))
+
   module _ (bytes : Bytes d) where
     house : writtenFields (recOf (stored .0) fields) ≡ inHouseForm true fields
     house =
@@ -260,12 +271,12 @@ module _ (d u : List ℕ) (us p key : ℕ) (r : Replayable d u us p key) (v : Li
 
 module _ (d : List ℕ) (ds : ℕ) (t : List ℕ) (n : ℕ) (map u : List ℕ) (us : ℕ) (w : List ℕ) (x : Whole d ds t n map u us w) (to : ℕ) (before out : List ℕ) (s : Step) (p : ℕ) where
   -- f is the workspace's flags
-  pub same-step : Bytes d → (f : List ℕ) → f ≡ flagArea w → (len : ℕ) (h : Shape) (m : Made) → Carries d ds u us f (fieldsAt (between d p (p + len)) h 24) to before out m
+  pub same-step : Bytes d → (f : List ℕ) → f ≡ flagArea w → (len : ℕ) (h : Shape) (m : Made) → CarriesTied u us f (fieldsAt (between d p (p + len)) h 24) to before out m
       → s ≡ stepBy m → SameStep d ds u us w to before out p len h s
-  unfolding SameStep
+  unfolding SameStep CarriesTied
   same-step bytes f e len h m c es key o =
       step-flags d ds u us f w e to before out (recIn (fieldsAt (between d p (p + len)) h 24) ∷ []) s
-      (old-carried d ds t n map u us w x p len h key o bytes f to before out m c s es)
+      (old-carried d ds t n map u us w x p len h key o bytes f to before out m (c d ds (old-tied d ds t n map u us w x p len h key o)) s es)
 
   pub old-step : (key : ℕ) (w₂ : List ℕ) (c : Changed) → Replayed d u us p key w w₂ c → deletedFrom u us key ≡ false → Bytes u
       → LastStep d ds u us w₂ to before out c s → OldStep d ds u us w to before out p key w₂ s

@@ -21,10 +21,13 @@ use Rattle.keys.specs.Listed.{keyOf, keysFrom}
 use Rattle.keys.specs.Look.{Sound}
 use Rattle.keys.specs.Numbered.{Numbered}
 use Rattle.keys.proofs.NumberLaws.{numbered-none, numbered-front}
+use Rattle.sorting.specs.Indices.{Indices}
+use Rattle.sorting.specs.declared.limits.Limits.{Limits}
 use Rattle.version.specs.Areas.{flagArea}
 use Rattle.version.specs.Present.{FlagsKept}
 use Rattle.composing.specs.Acts.{Known}
 use Rattle.composing.specs.Settled.{Asks, Settled}
+use Rattle.composing.specs.Tied.{Noted}
 use Rattle.composing.proofs.KnownLaws.{known-right}
 use Rattle.history.specs.Flags.{Flags}
 use Rattle.history.proofs.FlagLaws.{flags-kept, area-long}
@@ -67,8 +70,15 @@ module _ (d : List ℕ) (ds : ℕ) (t : List ℕ) (n : ℕ) (map u : List ℕ) (
   whole-sound = rest-sound u us (x .ready .rest) (x .ready .inside) (x .ready .short .new)
 
   -- f is the workspace's flags
-  pub whole-asks : (f : List ℕ) → f ≡ flagArea w → Asks d ds t n map u us f
-  whole-asks f e = record { laid = x .laid; sound = whole-sound; room = subst (λ (g : List ℕ). 14000 ≤ length g) (sym e) (let l = area-long w (x .wide) in omega arith) }
+  pub flags-room : (f : List ℕ) → f ≡ flagArea w → 14000 ≤ length f
+  flags-room f e = subst (λ (g : List ℕ). 14000 ≤ length g) (sym e) (let l = area-long w (x .wide) in omega arith)
+
+  module _ (lim : Limits) (out : List ℕ) (i : Indices d ds u us lim out) where
+    pub whole-noted : Noted u us lim out
+    whole-noted = record { sound = whole-sound; inside = i .inside; new = i .new }
+
+    pub whole-asks : (f : List ℕ) → f ≡ flagArea w → Asks d ds t n map u us f lim out
+    whole-asks f e = record { laid = x .laid; sound = whole-sound; room = flags-room f e; indices = i }
 
   pub whole-known : Each Known ((recordsFrom u us) .items)
   whole-known = singles-known ((recordsFrom u us) .items) (x .ready .rest .singles)
@@ -93,4 +103,5 @@ module _ (d : List ℕ) (ds : ℕ) (t : List ℕ) (n : ℕ) (map u : List ℕ) (
     sound = x .sound;
     fine = x .fine;
     flags = subst (Flags (keysFrom u us)) (sym (flags-kept w v k)) (x .flags);
+    tied = x .tied;
   }

@@ -18,11 +18,13 @@ use Rattle.keys.specs.Listed.{keysFrom}
 use Rattle.keys.specs.Table.{Laid}
 use Rattle.stock.specs.Stock.{Stock, stockFrom}
 use Rattle.incoming.specs.Fitting.{Rest}
+use Rattle.sorting.specs.Places.{Leads}
 use Rattle.version.specs.Areas.{flagArea}
+use Rattle.composing.specs.Tied.{TiedFrom}
 use Rattle.history.specs.Flags.{Flags}
 use Rattle.history.specs.Ready.{Ready}
 
--- the dataset d from ds on, with its table and map; the update u from us on, which is accepted record by record; in the workspace w the flags of the keys that it names
+-- the dataset d from ds on, with its table and map, whose records name records that it has; the update u from us on, which is accepted record by record; in the workspace w the flags of the keys that it names
 pub record Whole (d : List ℕ) (ds : ℕ) (t : List ℕ) (n : ℕ) (map u : List ℕ) (us : ℕ) (w : List ℕ) : Type 0 where
   pub ready : Ready d ds u us
   pub laid : Laid d ds t n map
@@ -30,6 +32,7 @@ pub record Whole (d : List ℕ) (ds : ℕ) (t : List ℕ) (n : ℕ) (map u : Lis
   pub sound : Each SoundRec (stockFrom d ds)
   pub fine : verdicts (stockFrom d ds) ((recordsFrom u us) .items) ≡ done tt
   pub flags : Flags (keysFrom u us) (flagArea w)
+  pub tied : TiedFrom d ds ds
 
 -- the old record at p, one of those from ds on: len bytes of this shape, and its key has this number
 pub record Old (d : List ℕ) (ds p len : ℕ) (h : Shape) (key : ℕ) : Type 0 where
@@ -39,6 +42,7 @@ pub record Old (d : List ℕ) (ds p len : ℕ) (h : Shape) (key : ℕ) : Type 0 
   pub number : keyAt d (p + h .base) ≡ key
   pub before : List Rec
   pub split : before ++ stockFrom d p ≡ stockFrom d ds
+  pub leads : Leads d ds p
 
 -- the update record at p, one of those from us on
 pub record New (u : List ℕ) (us p len : ℕ) (h : Shape) (key : ℕ) : Type 0 where
@@ -48,3 +52,4 @@ pub record New (u : List ℕ) (us p len : ℕ) (h : Shape) (key : ℕ) : Type 0 
   pub number : keyAt u (p + h .base) ≡ key
   pub before : List (List Field)
   pub split : before ++ (recordsFrom u p) .items ≡ (recordsFrom u us) .items
+  pub leads : Leads u us p

@@ -1,10 +1,11 @@
 // An update record on the way to the result: the record that it inserts, if none of the later ones deletes it.
 use crate::Step;
+use crate::named::deleted;
+use crate::named::play_named;
 use crate::stepping::last_step;
-use composing::acts::deleted_from;
 use composing::acts::ruin;
-use history::playing::play;
 use skeleton::directory::Shape;
+use sorting::limits::Limits;
 use version::Present;
 ghost use mathlib.Core.Path.{_≡_};
 ghost use Prim.Native.Nat.{_+_, _≤_};
@@ -17,6 +18,7 @@ ghost use Rattle.sequence.specs.Stream.{joinedOf};
 ghost use Rattle.updates.specs.Acts.{chart};
 ghost use Rattle.version.specs.Areas.{flagArea};
 ghost use Rattle.version.specs.Present.{FlagsKept};
+ghost use Rattle.sorting.specs.Indices.{Indices};
 ghost use Rattle.composing.specs.Acts.{ruinWith};
 ghost use Rattle.lasting.specs.Whole.{Whole, New};
 ghost use Rattle.lasting.specs.Step.{Stepped};
@@ -44,13 +46,13 @@ fn joined(
     work: &mut [u8],
     out: &mut [u8],
     to: usize,
+    lim: Limits,
 ) -> Step
-    requires { ⌜ Whole (now d) ds (now t) n (now map) (now u) us (now work) × Lasting (now u) us p key × (to ≤ 4611686018427387904) ⌝ }
+    requires { ⌜ Whole (now d) ds (now t) n (now map) (now u) us (now work) × Lasting (now u) us p key × (to ≤ 4611686018427387904) × Indices (now d) ds (now u) us lim (now out) ⌝ }
     ensures { λ s. ⌜ NewStep (now (d .entry)) ds (now (u .entry)) us (now (work .entry)) to (now (out .entry)) (now (out .exit)) p key (now (work .exit)) s ⌝ }
 {
-    let all = u.len();
-    let last = play(d, u, p, all, key, Present::Absent, work);
-    last_step(d, ds, t, n, map, u, us, work, last, out, to)
+    let last = play_named(d, u, us, out, lim, p, key, Present::Absent, work);
+    last_step(d, ds, t, n, map, u, us, work, last, out, to, lim)
 }
 
 // The update record at p, of len bytes and shape h, for the kind with place q.
@@ -70,8 +72,9 @@ pub fn make_new(
     work: &mut [u8],
     out: &mut [u8],
     to: usize,
+    lim: Limits,
 ) -> Step
-    requires { ⌜ Whole (now d) ds (now t) n (now map) (now u) us (now work) × New (now u) us p len h key × (to ≤ 4611686018427387904) ⌝ }
+    requires { ⌜ Whole (now d) ds (now t) n (now map) (now u) us (now work) × New (now u) us p len h key × (to ≤ 4611686018427387904) × Indices (now d) ds (now u) us lim (now out) ⌝ }
     ensures { λ r. ⌜ Stepped (now (d .entry)) ds (now (u .entry)) us (flagArea (now (work .entry))) (joinedOf chart q (fieldsAt (between (now (u .entry)) p (p + len)) h 24) ((recordsFrom (now (u .entry)) (p + len)) .items)) to (now (out .entry)) (now (out .exit)) r
         × FlagsKept (now (work .entry)) (now (work .exit)) ⌝ }
 {
@@ -81,8 +84,8 @@ pub fn make_new(
     if !inserts(&u[p..p + len], h, key) {
         return Step::Nothing;
     }
-    if deleted_from(u, p + len, key) {
+    if deleted(u, us, out, lim, p + len, key) {
         return Step::Nothing;
     }
-    joined(d, ds, t, n, map, u, us, p, key, work, out, to)
+    joined(d, ds, t, n, map, u, us, p, key, work, out, to, lim)
 }

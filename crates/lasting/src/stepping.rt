@@ -3,11 +3,13 @@ use crate::Step;
 use crate::emitting::make_held;
 use composing::making::Made;
 use history::flags::flags_of;
+use sorting::limits::Limits;
 use version::Changed;
 use version::Present;
 use version::Version;
 ghost use mathlib.Core.Path.{_≡_};
 ghost use Prim.Native.Nat.{_≤_};
+ghost use Rattle.sorting.specs.Indices.{Indices};
 ghost use Rattle.composing.specs.Kept.{Kept};
 ghost use Rattle.lasting.specs.Whole.{Whole};
 ghost use Rattle.lasting.specs.Stays.{stepBy, Stays, HeldStep, LastStep};
@@ -35,12 +37,13 @@ fn held_step(
     v: Version,
     out: &mut [u8],
     to: usize,
+    lim: Limits,
 ) -> Step
-    requires { ⌜ Whole (now d) ds (now t) n (now map) (now u) us (now work) × Kept (now d) (now u) (now work) v × (to ≤ 4611686018427387904) ⌝ }
+    requires { ⌜ Whole (now d) ds (now t) n (now map) (now u) us (now work) × Kept (now d) (now u) (now work) v × (to ≤ 4611686018427387904) × Indices (now d) ds (now u) us lim (now out) ⌝ }
     ensures { λ s. ⌜ HeldStep (now (d .entry)) ds (now (u .entry)) us (now (work .entry)) to (now (out .entry)) (now (out .exit)) v s ⌝ }
 {
     let flags = flags_of(work);
-    step_of(make_held(d, ds, t, n, map, u, us, flags, work, v, out, to))
+    step_of(make_held(d, ds, t, n, map, u, us, flags, work, v, out, to, lim))
 }
 
 // The record that a history ends with; one stands there.
@@ -56,13 +59,14 @@ pub fn last_step(
     last: Changed,
     out: &mut [u8],
     to: usize,
+    lim: Limits,
 ) -> Step
-    requires { ⌜ Whole (now d) ds (now t) n (now map) (now u) us (now work) × Stays (now d) (now u) (now work) last × (to ≤ 4611686018427387904) ⌝ }
+    requires { ⌜ Whole (now d) ds (now t) n (now map) (now u) us (now work) × Stays (now d) (now u) (now work) last × (to ≤ 4611686018427387904) × Indices (now d) ds (now u) us lim (now out) ⌝ }
     ensures { λ s. ⌜ LastStep (now (d .entry)) ds (now (u .entry)) us (now (work .entry)) to (now (out .entry)) (now (out .exit)) last s ⌝ }
 {
     match last {
         Changed::Now(p) => match p {
-            Present::Here(v) => held_step(d, ds, t, n, map, u, us, work, v, out, to),
+            Present::Here(v) => held_step(d, ds, t, n, map, u, us, work, v, out, to, lim),
             Present::Absent => Step::Nothing,
         },
         Changed::Refused(_, _, _) => Step::Nothing,

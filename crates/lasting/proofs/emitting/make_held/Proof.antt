@@ -6,17 +6,28 @@ use Rattle.lasting.proofs.emitting.make_held.Tie as tie
 version-stands-requires : tie.Need-version-stands-requires
 version-stands-requires c κs = search needs
 
+same-length : tie.Need-same-length
+same-length c = search needs
+
 returns : tie.Need-returns
 returns c = search made-ways
 
 emit-version-requires : tie.Need-emit-version-requires
 emit-version-requires c κs = search needs
 
-same-length : tie.Need-same-length
-same-length c = search needs
+same-length-2 : tie.Need-same-length-2
+same-length-2 c = search needs
 
 returns-2 : tie.Need-returns-2
 returns-2 c = search made-ways
 
 pub make-held-spec : {M : Type 1} → statement M
-make-held-spec = tie.close (tie.spec version-stands-requires returns emit-version-requires same-length returns-2)
+make-held-spec =
+    tie.close
+    (tie.spec
+    version-stands-requires
+    same-length
+    returns
+    emit-version-requires
+    same-length-2
+    returns-2)

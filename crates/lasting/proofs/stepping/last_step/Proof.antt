@@ -12,7 +12,7 @@ enum-known-p c = search needs
 held-step-requires : tie.Need-held-step-requires
 held-step-requires c κs =
     let s = c .before .before .before .before .before .before .before .before .before .before .before .before .before in
-    (s .pre .0, stays-kept _ _ _ _ _ (c .before .before .before .before .before .last .given .1) _ (c .before .before .p .given .1) (s .pre .1), s .pre .2)
+    (s .pre .0, stays-kept _ _ _ _ _ (c .before .before .before .before .before .last .given .1) _ (c .before .before .p .given .1) (s .pre .1), s .pre .2, s .pre .3)
 
 enum-told : tie.Need-enum-told
 enum-told c = search needs
