@@ -16,16 +16,19 @@ use Rattle.stock.specs.Stock.{stockFrom}
 use Rattle.composing.specs.Composing.{Complete}
 use Rattle.composing.proofs.ComposingLaws.{left-all, left-kind, left-end, composing-start, composing-same, composing-over}
 use Rattle.result.specs.Composed.{ComposedBy}
+use Rattle.sorting.specs.Indices.{Indices, Spared}
+use Rattle.sorting.specs.declared.limits.Limits.{Limits}
+use Rattle.sorting.proofs.IndicesLaws.{spared-start}
 use Rattle.lasting.specs.Whole.{Whole}
 use Rattle.lasting.proofs.WholeLaws.{whole-kept}
-use Rattle.result.specs.Pass.{Within, passFrom, kindsLeft, newLeft, linksOf, Made, Passing, Few, Walked}
+use Rattle.result.specs.Pass.{Within, passFrom, kindsLeft, newLeft, linksOf, Made, Passing, Few, Walked, Sparing}
 use Rattle.result.specs.Side.{fileOf, Reached, StandsBy, Ended, Stands, sideLeft, sideBehind}
 use Rattle.result.specs.declared.pass.Progress.{Progress}
 use Rattle.result.specs.declared.pass.Pass.{Pass}
 use Rattle.result.specs.declared.pass.Pass.the-variants.{Loose, Went}
 use Rattle.result.specs.declared.Composed.the-variants.{Loose as LooseResult, Whole as WholeResult}
 use Rattle.result.proofs.RestLaws.{rest-bytes, rest-long}
-use Rattle.result.proofs.PassLaws.{walked-from, passing-then}
+use Rattle.result.proofs.PassLaws.{walked-from, passing-then, sparing-none, sparing-then, sparing-spared}
 use Rattle.result.proofs.WalkLaws.{old-start, old-later, old-from, new-start}
 
 -- ---- one kind
@@ -76,9 +79,9 @@ module _ (d : List ℕ) (ds : ℕ) (u : List ℕ) (us : ℕ) where
 
     pub kind-loose : (k : ℕ) → r ≡ Loose k
         → Ended d ds u us (kindsLeft d ds u us q) (kindsLeft d ds u us (suc q)) 33554432 (Reached d ds (suc q)) g w o w2 o2 (Loose k)
-    unfolding Passing Few StandsBy
+    unfolding Passing Few StandsBy Sparing
     kind-loose k x = record {
-      walked = record { passing = subst (λ (a : Pass). Passing d ds u us (kindsLeft d ds u us q) (newLeft d ds u us q us) g o o2 a) x first; few = tt };
+      walked = record { passing = subst (λ (a : Pass). Passing d ds u us (kindsLeft d ds u us q) (newLeft d ds u us q us) g o o2 a) x first; few = tt; spares = tt };
       stands = tt;
       flags = v .flags;
     }
@@ -96,6 +99,13 @@ module _ (d : List ℕ) (ds : ℕ) (u : List ℕ) (us : ℕ) where
       unfolding Within
       kind-within i = let a = few-first .0 in let b = i .0 in (omega arith, few-first .1)
 
+      spares : Sparing g o o2 (Went h)
+      spares = subst (λ (a : Pass). Sparing g o o2 a) x (v .walked .spares)
+
+      -- the indices that are left
+      pub kind-spared : (lim : Limits) → Spared d ds u us lim (g .to) o → Spared d ds u us lim (h .to) o2
+      kind-spared lim i = sparing-spared d ds u us lim g h o o2 spares i
+
       module _ (w3 o3 : List ℕ) (s : Pass)
           (y : Ended d ds u us (sideLeft d ds u us q false us) (sideBehind d ds u us q false) 16777216 (Stands d ds u us q false) (record { to = h .to; made = h .made; next = us }) w2 o2 w3 o3 s) where
         -- the place in the dataset is put by
@@ -104,11 +114,12 @@ module _ (d : List ℕ) (ds : ℕ) (u : List ℕ) (us : ℕ) where
         aside = subst (λ (a : Pass). Passing d ds u us (kindsLeft d ds u us q) (newLeft d ds u us q us) g o o2 a) x first
 
         second : Walked d ds u us (kindsLeft d ds u us q) (kindsLeft d ds u us (suc q)) 33554432 g o o3 s
-        unfolding sideLeft sideBehind
+        unfolding sideLeft sideBehind Sparing
         second = record {
           passing = passing-then d ds u us (kindsLeft d ds u us q) (newLeft d ds u us q us) (kindsLeft d ds u us (suc q)) g (record { to = h .to; made = h .made; next = us }) o o2 o3
               aside s (y .walked .passing);
           few = few-then g (record { to = h .to; made = h .made; next = us }) (unfold Within in few-first) s (y .walked .few);
+          spares = sparing-then g (record { to = h .to; made = h .made; next = us }) o o2 o3 spares s (y .walked .spares);
         }
 
         pub kind-on : (p : Pass) → p ≡ passFrom s (h .next)
@@ -131,6 +142,7 @@ module _ (d : List ℕ) (ds : ℕ) (u : List ℕ) (us : ℕ) where
     pub place : q ≤ 5
     pub few : g .made ≤ 33554432 * q
     pub room : g .to ≤ 299997 + 99999 * g .made
+    pub spares : Sparing (record { to = at; made = 0; next = ds }) before out (Went g)
 
   module _ (t : List ℕ) (n : ℕ) (map : List ℕ) (at : ℕ) where
     pub kinds-start : at ≤ 299997 → (o w : List ℕ) → Whole d ds t n map u us w → Kinds t n map 1 (record { to = at; made = 0; next = ds }) at o w o
@@ -142,9 +154,14 @@ module _ (d : List ℕ) (ds : ℕ) (u : List ℕ) (us : ℕ) where
       place = omega arith;
       few = omega arith;
       room = omega arith;
+      spares = sparing-none (record { to = at; made = 0; next = ds }) o;
     }
 
     module _ (q : ℕ) (g : Progress) (before w out : List ℕ) (k : Kinds t n map q g at before w out) where
+      -- the indices that are left
+      pub kinds-spared : (lim : Limits) → Indices d ds u us lim before → Spared d ds u us lim (g .to) out
+      kinds-spared lim i = sparing-spared d ds u us lim (record { to = at; made = 0; next = ds }) g before out (k .spares) (spared-start d ds u us lim at before i)
+
       -- before the first record
       none-made : Made d ds u us (kindsLeft d ds u us 1) at 0 at before before
       none-made =
@@ -207,4 +224,5 @@ module _ (d : List ℕ) (ds : ℕ) (u : List ℕ) (us : ℕ) where
                 place = omega arith;
                 few = let a = k .few in let b = f .0 in omega arith;
                 room = f .1;
+                spares = sparing-then (record { to = at; made = 0; next = ds }) g before out out2 (k .spares) (Went h) (subst (λ (a : Pass). Sparing g out out2 a) x (v .walked .spares));
               }

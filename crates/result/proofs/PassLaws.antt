@@ -1,26 +1,40 @@
 -- Laws of the pass over a result's records, part by part. Assumes nothing.
 use Prim.Native.Nat.{ℕ, _+_, _^_, _≤_, _<_}
-use mathlib.Core.Path.{_≡_}
+use mathlib.Core.Path.{_≡_, sym, ap, _∙_, subst}
+use mathlib.Core.Bool.{false}
 use mathlib.Core.List.{List, _∷_, _++_}
 use native.Mathlib.Omega.{arith}
+use borrow.Author.Tests.{leb-true, leb-false}
+use lib.Dec.{leb}
+use lib.ListN.{length, drop, take, length-take, length-append}
+use lib.Seq.{drop-at}
 use Rattle.base.specs.Walk.{Got}
-use Rattle.skeleton.specs.File.{recordsFrom}
+use Rattle.memory.specs.Wrote.{Wrote}
+use Rattle.memory.proofs.PutLaws.{length-put, put-is}
+use Rattle.skeleton.specs.File.{Field, recordsFrom}
+use Rattle.skeleton.specs.Emit.{emit}
 use Rattle.rules.specs.Record.{Rec}
+use Rattle.rules.specs.Written.{writtenFields, fieldWidth}
+use Rattle.sequence.proofs.Tests.{by-bool}
 use Rattle.updates.specs.Streamed.{resultRecords, resultReferences}
 use Rattle.stock.specs.Stock.{stockFrom}
 use Rattle.version.specs.Areas.{flagArea}
+use Rattle.sorting.specs.Indices.{Spared, Beyond}
+use Rattle.sorting.specs.declared.limits.Limits.{Limits}
+use Rattle.sorting.proofs.IndicesLaws.{beyond-same, beyond-then, spared-on}
+use Rattle.composing.specs.Emitted.{Emitted}
 use Rattle.composing.specs.Made.{MadeOf}
 use Rattle.composing.proofs.ComposingLaws.{composing-loose}
 use Rattle.composing.proofs.EmittedLaws.{composing-emitted}
 use Rattle.lasting.specs.Whole.{Whole}
 use Rattle.lasting.specs.Step.{Stepped}
-use Rattle.result.specs.Pass.{Within, passAfter, passFrom, linksOf, Made, Passing, Few, Walked}
+use Rattle.lasting.proofs.WholeLaws.{whole-settled}
+use Rattle.result.specs.Pass.{Within, passAfter, passFrom, linksOf, Made, Passing, Few, Walked, Sparing}
 use Rattle.lasting.specs.declared.Step.{Step}
 use Rattle.lasting.specs.declared.Step.the-variants.{Nothing, Loose as LooseStep, One}
 use Rattle.result.specs.declared.pass.Progress.{Progress}
 use Rattle.result.specs.declared.pass.Pass.{Pass}
 use Rattle.result.specs.declared.pass.Pass.the-variants.{Loose, Went}
-use Rattle.lasting.proofs.WholeLaws.{whole-settled}
 
 -- ---- `after`
 
@@ -66,22 +80,57 @@ module _ (s : Pass) (next : ℕ) where
 
 pub ruleset from-ways = (from-loose, from-went)
 
+-- ---- the bytes behind what is written
+
+pub sparing-none : (g : Progress) (o : List ℕ) → Sparing g o o (Went g)
+unfolding Sparing
+sparing-none g o = (omega arith, beyond-same (g .to) o)
+
+pub sparing-then : (g g2 : Progress) (o o2 o3 : List ℕ) → Sparing g o o2 (Went g2) → (r : Pass) → Sparing g2 o2 o3 r → Sparing g o o3 r
+unfolding Sparing
+sparing-then g g2 o o2 o3 a (Loose k) b = tt
+sparing-then g g2 o o2 o3 a (Went g3) b = let x = a .0 in let y = b .0 in (omega arith, beyond-then (g2 .to) (g3 .to) o o2 o3 y (a .1) (b .1))
+
+-- the indices that they are
+pub sparing-spared : (d : List ℕ) (ds : ℕ) (u : List ℕ) (us : ℕ) (lim : Limits) (g h : Progress) (o o2 : List ℕ) → Sparing g o o2 (Went h)
+    → Spared d ds u us lim (g .to) o → Spared d ds u us lim (h .to) o2
+unfolding Sparing
+sparing-spared d ds u us lim g h o o2 a s = spared-on d ds u us lim (g .to) (h .to) o o2 (a .0) (a .1) s
+
+-- a record is written up to where the next one begins
+wrote-beyond : (to : ℕ) (ys before : List ℕ) (n : ℕ) (out : List ℕ) → n ≤ length before → Wrote to ys before n out → Beyond n before out
+wrote-beyond to ys before n out h w =
+    let e = w .next in
+    record {
+      long = ap length (w .is) ∙ length-put to ys before;
+      same = ap (drop n) (w .is ∙ put-is to ys before (omega arith))
+          ∙ drop-at (take to before ++ ys) (drop (to + length ys) before) n (simp (length-append, length-take) (omega arith))
+          ∙ ap (λ (k : ℕ). drop k before) (sym e);
+    }
+
+emitted-beyond : (fs : List Field) (to : ℕ) (before : List ℕ) (n : ℕ) (out : List ℕ) → Emitted fs to before n out → Beyond n before out
+emitted-beyond fs to before n out e =
+    by-bool (leb n (length before))
+    (λ h. let l = leb-true n (length before) h in wrote-beyond to (emit fieldWidth fieldWidth false fs) before n out l (e .wrote l))
+    (λ h. subst (Beyond n before) (sym (e .kept (leb-false n (length before) h))) (beyond-same n before))
+
 module _ (d : List ℕ) (ds : ℕ) (u : List ℕ) (us : ℕ) where
   -- a walk says nothing of the place
   pub walked-from : (left later : List Rec) (most : ℕ) (g : Progress) (o o′ : List ℕ) (s : Pass) (next : ℕ)
       → Walked d ds u us left later most g o o′ s → Walked d ds u us left later most g o o′ (passFrom s next)
-  unfolding passFrom Passing Few Within
-  walked-from left later most g o o′ (Loose k) next w = record { passing = w .passing; few = tt }
-  walked-from left later most g o o′ (Went h) next w = record { passing = w .passing; few = w .few }
+  unfolding passFrom Passing Few Within Sparing
+  walked-from left later most g o o′ (Loose k) next w = record { passing = w .passing; few = tt; spares = tt }
+  walked-from left later most g o o′ (Went h) next w = record { passing = w .passing; few = w .few; spares = w .spares }
 
   -- ---- one record
 
   module _ (t : List ℕ) (n : ℕ) (map w : List ℕ) (y : Whole d ds t n map u us w) (rs : List Rec) (g : Progress) (i : Within 4294967296 g) (o o′ : List ℕ) (next : ℕ) (left : List Rec) where
     pub turned-by : (s : Step) → Stepped d ds u us (flagArea w) rs (g .to) o o′ s → Walked d ds u us (rs ++ left) left 1 g o o′ (passAfter s g next)
-    unfolding Stepped Passing Few Within passAfter MadeOf resultReferences
+    unfolding Stepped Passing Few Within passAfter MadeOf resultReferences Sparing
     turned-by Nothing h = record {
       passing = λ at first z. let v : Made d ds u us left at (g .made) (g .to) first o = rw (h .0) at z in rw (h .1) v;
       few = (omega arith, i .1);
+      spares = (omega arith, subst (Beyond (g .to) o) (sym (h .1)) (beyond-same (g .to) o));
     }
     turned-by LooseStep h = record {
       passing = λ at first z.
@@ -89,6 +138,7 @@ module _ (d : List ℕ) (ds : ℕ) (u : List ℕ) (us : ℕ) where
           let x = h .2 (stockFrom d ds) (whole-settled d ds t n map u us w y) in
           (x .0, x .1, composing-loose (linksOf d ds u us) (resultRecords (stockFrom d ds) ((recordsFrom u us) .items)) at first (g .made) (g .to) o (h .0) left v (x .0) (x .2));
       few = tt;
+      spares = tt;
     }
     turned-by (One to) h = record {
       passing = λ at first z.
@@ -96,6 +146,7 @@ module _ (d : List ℕ) (ds : ℕ) (u : List ℕ) (us : ℕ) where
           composing-emitted (linksOf d ds u us) (resultRecords (stockFrom d ds) ((recordsFrom u us) .items)) at first (g .made) (g .to) o (h .0) left v
           (h .2 .0 (stockFrom d ds) (whole-settled d ds t n map u us w y)) to o′ (h .2 .1);
       few = (omega arith, let a = h .3 in let b = i .1 in omega arith);
+      spares = (let e = h .2 .1 .next in omega arith, emitted-beyond (writtenFields (h .0)) (g .to) o to o′ (h .2 .1));
     }
 
   -- ---- one part after another

@@ -24,17 +24,19 @@ use Rattle.stock.specs.Stock.{recIn, stockFrom}
 use Rattle.version.specs.Areas.{flagArea}
 use Rattle.version.specs.Present.{FlagsKept}
 use Rattle.composing.proofs.ActsLaws.{turn-falls}
+use Rattle.sorting.specs.Indices.{Spared}
+use Rattle.sorting.specs.declared.limits.Limits.{Limits}
 use Rattle.lasting.specs.Whole.{Whole, Old, New}
 use Rattle.lasting.specs.Step.{Stepped}
 use Rattle.lasting.specs.declared.Step.{Step}
 use Rattle.lasting.specs.declared.Step.the-variants.{Nothing, Loose as LooseStep, One}
 use Rattle.lasting.proofs.WholeLaws.{whole-kept}
-use Rattle.result.specs.Pass.{Within, passAfter, Passing, Few, Walked}
+use Rattle.result.specs.Pass.{Within, passAfter, Passing, Few, Walked, Sparing}
 use Rattle.result.specs.Side.{fileOf, laterKind, StandsBy, Here, Ended, Stands, sideLeft, sideBehind, sideOne, Put, Onward, TurnedTo, Turned}
 use Rattle.result.specs.declared.pass.Progress.{Progress}
 use Rattle.result.specs.declared.pass.Pass.{Pass}
 use Rattle.result.specs.declared.pass.Pass.the-variants.{Loose, Went}
-use Rattle.result.proofs.PassLaws.{turned-by, passing-then}
+use Rattle.result.proofs.PassLaws.{turned-by, passing-then, sparing-none, sparing-then, sparing-spared}
 use Rattle.result.proofs.WalkLaws.{old-over, old-split, old-here, old-stop, old-next, new-over, new-split, new-here, new-next}
 
 -- the record at p of a file, by the numbers of its leader
@@ -139,7 +141,7 @@ module _ (d : List ℕ) (ds : ℕ) (u : List ℕ) (us q : ℕ) where
         pub turn-stop : over ≡ true → Ordered chart 1 (stockFrom d ds) → (w o : List ℕ) → Turned d ds u us q old g w o w o (Went g)
         unfolding TurnedTo Passing Within
         turn-stop y z w o =
-            let still : Onward d ds u us q old g g o o = record { stands = st; passing = λ at first v. v; forward = omega arith; few = omega arith; room = i .1 } in
+            let still : Onward d ds u us q old g g o o = record { stands = st; passing = λ at first v. v; forward = omega arith; few = omega arith; room = i .1; spares = sparing-none g o } in
             record { turned = (still, λ same. here-stop (g .next) len shape key old st read z (sym eo ∙ y)); flags = refl }
 
         -- or goes on
@@ -154,6 +156,7 @@ module _ (d : List ℕ) (ds : ℕ) (u : List ℕ) (us q : ℕ) where
                 forward = omega (arith, eh);
                 few = let b = v .few .0 in let c = falls in omega (arith, eh);
                 room = v .few .1;
+                spares = v .spares;
               } in
               (z, λ same. absurd (let c = falls in omega (arith, eh, same)))
 
@@ -186,7 +189,7 @@ module _ (d : List ℕ) (ds : ℕ) (u : List ℕ) (us q : ℕ) where
     pub walk-start : Stands d ds u us q old (a .next) → Whole d ds t n map u us w → Walking t n map old a a w o w o
     unfolding Passing Within
     walk-start st y =
-        record { onward = record { stands = st; passing = λ at first v. v; forward = omega arith; few = omega arith; room = i .1 }; whole = y; flags = refl }
+        record { onward = record { stands = st; passing = λ at first v. v; forward = omega arith; few = omega arith; room = i .1; spares = sparing-none a o }; whole = y; flags = refl }
 
     module _ (g : Progress) (w′ o′ : List ℕ) (v : Walking t n map old a g w o w′ o′) where
       small : length (fileOf old d u) ≤ 16777216
@@ -196,6 +199,10 @@ module _ (d : List ℕ) (ds : ℕ) (u : List ℕ) (us q : ℕ) where
       unfolding Within
       walk-within = let f = v .onward .few in let s = small in let c = i .0 in (omega arith, v .onward .room)
 
+      -- the indices that are left
+      pub walk-spared : (lim : Limits) → Spared d ds u us lim (a .to) o → Spared d ds u us lim (g .to) o′
+      walk-spared lim s = sparing-spared d ds u us lim a g o o′ (v .onward .spares) s
+
       ended : sideLeft d ds u us q old (g .next) ≡ sideBehind d ds u us q old
           → Ended d ds u us (sideLeft d ds u us q old (a .next)) (sideBehind d ds u us q old) 16777216 (Stands d ds u us q old) a w o w′ o′ (Went g)
       unfolding Few Within StandsBy
@@ -203,6 +210,7 @@ module _ (d : List ℕ) (ds : ℕ) (u : List ℕ) (us q : ℕ) where
         walked = record {
           passing = subst (λ (l : List Rec). Passing d ds u us (sideLeft d ds u us q old (a .next)) l a o o′ (Went g)) e (v .onward .passing);
           few = let f = v .onward .few in let s = small in (omega arith, v .onward .room);
+          spares = v .onward .spares;
         };
         stands = v .onward .stands;
         flags = v .flags;
@@ -216,13 +224,14 @@ module _ (d : List ℕ) (ds : ℕ) (u : List ℕ) (us q : ℕ) where
       module _ (w″ o″ : List ℕ) (r : Pass) (b : Turned d ds u us q old g w′ o′ w″ o″ r) where
         pub walk-loose : (k : ℕ) → r ≡ Loose k
             → Ended d ds u us (sideLeft d ds u us q old (a .next)) (sideBehind d ds u us q old) 16777216 (Stands d ds u us q old) a w o w″ o″ (Loose k)
-        unfolding TurnedTo Few StandsBy
+        unfolding TurnedTo Few StandsBy Sparing
         walk-loose k x =
             let c : TurnedTo d ds u us q old g o′ o″ (Loose k) = subst (λ (p : Pass). TurnedTo d ds u us q old g o′ o″ p) x (b .turned) in
             record {
               walked = record {
                 passing = passing-then d ds u us (sideLeft d ds u us q old (a .next)) (sideLeft d ds u us q old (g .next)) (sideBehind d ds u us q old) a g o o′ o″ (v .onward .passing) (Loose k) (c (sideBehind d ds u us q old));
                 few = tt;
+                spares = tt;
               };
               stands = tt;
               flags = b .flags ∙ v .flags;
@@ -247,6 +256,7 @@ module _ (d : List ℕ) (ds : ℕ) (u : List ℕ) (us q : ℕ) where
                   forward = let y = v .onward .forward in let z = c .forward in omega arith;
                   few = let y = v .onward .few in let z = c .few in omega arith;
                   room = c .room;
+                  spares = sparing-then a g o o′ o″ (v .onward .spares) (Went h) (c .spares);
                 };
                 whole = whole-kept d ds t n map u us w′ (v .whole) w″ (b .flags) k;
                 flags = b .flags ∙ v .flags;
@@ -263,6 +273,7 @@ module _ (d : List ℕ) (ds : ℕ) (u : List ℕ) (us q : ℕ) where
                   passing = passing-then d ds u us (sideLeft d ds u us q old (a .next)) (sideLeft d ds u us q old (g .next)) (sideBehind d ds u us q old) a g o o′ o″ (v .onward .passing) (Went h)
                       (subst (λ (l : List Rec). Passing d ds u us (sideLeft d ds u us q old (g .next)) l g o′ o″ (Went h)) (turned .1 same) (c .passing));
                   few = let y = v .onward .few in let z = c .few in let s = small in (omega arith, c .room);
+                  spares = sparing-then a g o o′ o″ (v .onward .spares) (Went h) (c .spares);
                 };
                 stands = c .stands;
                 flags = b .flags ∙ v .flags;

@@ -26,6 +26,9 @@ use Rattle.updates.specs.Acts.{chart}
 use Rattle.keys.specs.Key.{keyAt}
 use Rattle.keys.specs.Look.{Sound}
 use Rattle.keys.proofs.FirstLaws.{first-key}
+use Rattle.keys.proofs.LookLaws.{look-good}
+use Rattle.sorting.specs.Places.{Leads, here, over}
+use Rattle.sorting.proofs.PlaceLaws.{leads-then}
 use Rattle.stock.specs.Stock.{recIn, stockFrom, Stock}
 use Rattle.stock.proofs.StockLaws.{stock-over, stock-here, stock-more, stock-next}
 use Rattle.incoming.proofs.FittingLaws.{rest-more}
@@ -43,16 +46,20 @@ use Rattle.result.specs.Pass.{kindsLeft, oldLeft, newLeft}
 -- the first record of the dataset
 pub old-start : (d : List ℕ) (ds : ℕ) → Sound d ds → Stock d ds → Reached d ds 1 ds
 unfolding Each
-old-start d ds s k = record { sound = s; stock = k; before = []; split = refl; passed = tt }
+old-start d ds s k = record { sound = s; stock = k; before = []; split = refl; passed = tt; leads = here }
 
 module _ (d : List ℕ) (ds : ℕ) (t : List ℕ) (n : ℕ) (map u : List ℕ) (us : ℕ) (w : List ℕ) (y : Whole d ds t n map u us w) where
   pub new-start : NewAt u us us
-  new-start = record { sound = rest-sound u us (y .ready .rest) (y .ready .inside) (y .ready .short .new); rest = y .ready .rest; before = []; split = refl }
+  new-start = record { sound = rest-sound u us (y .ready .rest) (y .ready .inside) (y .ready .short .new); rest = y .ready .rest; before = []; split = refl; leads = here }
 
 -- the record at p, by the numbers of its leader
 module _ (f : List ℕ) (p : ℕ) (s : Sound f p) (l : p < length f) (h : Head) (eh : h ≡ statedAt f p) where
   found : h ≡ recordAt f p
   found = again f p (records-some f p l (s .clean)) h eh
+
+  -- the records before the one behind it
+  further : (start len base a b : ℕ) → h ≡ Good len base a b → Leads f start p → Leads f start (p + len)
+  further start len base a b x g = leads-then g (over (sym (look-good f p h eh len base a b x (keyAt f (p + base)) refl)) here)
 
 -- one element of a list more is before the others
 more-before : {A : Type 0} (before later whole : List A) (x : A) (rest : List A) → later ≡ x ∷ rest → before ++ later ≡ whole → (before ++ (x ∷ [])) ++ rest ≡ whole
@@ -80,6 +87,7 @@ module _ (d : List ℕ) (ds q p : ℕ) (g : Reached d ds q p) where
     before = g .before;
     split = g .split;
     passed = each-map (g .before) (λ r h. let z : rank chart r < suc q = omega arith in z) (g .passed);
+    leads = g .leads;
   }
 
   -- the records before the place are not of kind q
@@ -119,6 +127,7 @@ module _ (d : List ℕ) (ds m p : ℕ) (g : Reached d ds m p) where
         number = sym e;
         before = g .before;
         split = g .split;
+        leads = g .leads;
       }
 
       -- its kind, by its key
@@ -149,6 +158,7 @@ module _ (d : List ℕ) (ds m p : ℕ) (g : Reached d ds m p) where
         before = g .before ++ (rec ∷ []);
         split = more-before (g .before) (stockFrom d p) (stockFrom d ds) _ (stockFrom d (p + len)) next-old (g .split);
         passed = each-join (λ r. rank chart r < m) (g .before) (rec ∷ []) (g .passed) (unfold Each in (omega (arith, ranked), tt));
+        leads = further d p (g .sound) l h eh ds len base a b x (g .leads);
       }
 
 -- ---- update records
@@ -168,6 +178,7 @@ module _ (u : List ℕ) (us p : ℕ) (g : NewAt u us p) where
       number = sym e;
       before = g .before;
       split = g .split;
+      leads = g .leads;
     }
 
     next-new : (recordsFrom u p) .items ≡ fieldsAt (between u p (p + len)) (record { base = base; a = a; b = b }) 24 ∷ (recordsFrom u (p + len)) .items
@@ -179,6 +190,7 @@ module _ (u : List ℕ) (us p : ℕ) (g : NewAt u us p) where
       rest = rest-more u p (g .rest) l h (found u p (g .sound) l h eh) len base a b x;
       before = g .before ++ (fieldsAt (between u p (p + len)) (record { base = base; a = a; b = b }) 24 ∷ []);
       split = more-before (g .before) ((recordsFrom u p) .items) ((recordsFrom u us) .items) _ ((recordsFrom u (p + len)) .items) next-new (g .split);
+      leads = further u p (g .sound) l h eh us len base a b x (g .leads);
     }
 
     pub new-split : (d : List ℕ) (ds q : ℕ) → newLeft d ds u us q p

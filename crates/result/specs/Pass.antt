@@ -14,6 +14,7 @@ use Rattle.sequence.specs.Stream.{standing}
 use Rattle.updates.specs.Acts.{chart}
 use Rattle.updates.specs.Streamed.{resultRecords, resultReferences, refersTo}
 use Rattle.stock.specs.Stock.{stockFrom}
+use Rattle.sorting.specs.Indices.{Beyond}
 use Rattle.composing.specs.Composing.{leftKinds, leftOld, leftNew, Composing}
 use Rattle.lasting.specs.declared.Step.{Step}
 use Rattle.lasting.specs.declared.Step.the-variants.{Nothing, Loose as LooseStep, One}
@@ -35,6 +36,11 @@ passAfter (One to) g next = Went (record { to = to; made = g .made + 1; next = n
 unfoldable pub passFrom : Pass → ℕ → Pass
 passFrom (Loose k) next = Loose k
 passFrom (Went g) next = Went (record { to = g .to; made = g .made; next = next })
+
+-- from g, where out was `before`, it wrote no further than where it went on to
+unfoldable pub Sparing : Progress → List ℕ → List ℕ → Pass → Type 0
+Sparing g before out (Loose k) = Unit {0}
+Sparing g before out (Went h) = (g .to ≤ h .to) × Beyond (h .to) before out
 
 -- the dataset d from ds on, the update u from us on
 module _ (d : List ℕ) (ds : ℕ) (u : List ℕ) (us : ℕ) where
@@ -73,3 +79,4 @@ module _ (d : List ℕ) (ds : ℕ) (u : List ℕ) (us : ℕ) where
   pub record Walked (left later : List Rec) (most : ℕ) (g : Progress) (before out : List ℕ) (r : Pass) : Type 0 where
     pub passing : Passing left later g before out r
     pub few : Few most g r
+    pub spares : Sparing g before out r

@@ -19,10 +19,11 @@ use Rattle.stock.specs.Stock.{recIn, Stock, stockFrom}
 use Rattle.incoming.specs.Fitting.{Rest}
 use Rattle.version.specs.Areas.{flagArea}
 use Rattle.version.specs.Present.{FlagsKept}
+use Rattle.sorting.specs.Places.{Leads}
 use Rattle.lasting.specs.Whole.{Old, New}
 use Rattle.lasting.specs.Step.{Stepped}
 use Rattle.lasting.specs.declared.Step.{Step}
-use Rattle.result.specs.Pass.{kindsLeft, oldLeft, newLeft, Passing, Walked}
+use Rattle.result.specs.Pass.{kindsLeft, oldLeft, newLeft, Passing, Walked, Sparing}
 use Rattle.result.specs.declared.pass.Progress.{Progress}
 use Rattle.result.specs.declared.pass.Pass.{Pass}
 use Rattle.result.specs.declared.pass.Pass.the-variants.{Loose, Went}
@@ -34,6 +35,7 @@ pub record Reached (d : List ℕ) (ds q p : ℕ) : Type 0 where
   pub before : List Rec
   pub split : before ++ stockFrom d p ≡ stockFrom d ds
   pub passed : Each (λ r. rank chart r < q) before
+  pub leads : Leads d ds p
 
 -- one of the update's records from us on begins at p, or they end there
 pub record NewAt (u : List ℕ) (us p : ℕ) : Type 0 where
@@ -41,6 +43,7 @@ pub record NewAt (u : List ℕ) (us p : ℕ) : Type 0 where
   pub rest : Rest u p
   pub before : List (List Field)
   pub split : before ++ (recordsFrom u p) .items ≡ (recordsFrom u us) .items
+  pub leads : Leads u us p
 
 -- the file of a side
 unfoldable pub fileOf : Bool → List ℕ → List ℕ → List ℕ
@@ -102,6 +105,7 @@ module _ (d : List ℕ) (ds : ℕ) (u : List ℕ) (us : ℕ) where
       pub forward : g .next ≤ h .next
       pub few : h .made + (length (fileOf old d u) - h .next) ≤ g .made + (length (fileOf old d u) - g .next)
       pub room : h .to ≤ 299997 + 99999 * h .made
+      pub spares : Sparing g o o′ (Went h)
 
     -- one turn of it: a loose reference, or a record further; or it stands still, since the side is over
     unfoldable pub TurnedTo : Bool → Progress → List ℕ → List ℕ → Pass → Type 0

@@ -2,6 +2,7 @@
 use crate::pass::Pass;
 use crate::pass::Progress;
 use crate::walk::walk_kind;
+use sorting::limits::Limits;
 ghost use mathlib.Core.Path.{_≡_};
 ghost use Prim.Native.Nat.{_≤_};
 ghost use lib.ListN.{length};
@@ -19,6 +20,8 @@ ghost use Rattle.stock.specs.Stock.{stockFrom};
 ghost use Rattle.version.specs.Areas.{flagArea};
 ghost use Rattle.history.specs.Flags.{Flags};
 ghost use Rattle.history.specs.Ready.{Ready};
+ghost use Rattle.sorting.specs.Indices.{Indices};
+ghost use Rattle.composing.specs.Tied.{TiedFrom};
 ghost use Rattle.result.specs.Composed.{ComposedBy};
 
 pub mod pass;
@@ -31,7 +34,7 @@ pub enum Composed {
     Whole { length: usize, count: usize },
 }
 
-// All of them, kind by kind, from `at` on.
+// All of them, kind by kind, from `at` on. At the end of the output stand the indices that lim tells, until the records reach them.
 pub fn compose(
     d: &[u8],
     ds: usize,
@@ -43,9 +46,10 @@ pub fn compose(
     work: &mut [u8],
     out: &mut [u8],
     at: usize,
+    lim: Limits,
 ) -> Composed
     requires { ⌜ Ready (now d) ds (now u) us × Laid (now d) ds (now t) n (now map) × (400000 ≤ length (now work)) × (at ≤ 299997) × Each SoundRec (stockFrom (now d) ds) × Ordered chart 1 (stockFrom (now d) ds) ⌝ }
-    requires { ⌜ (verdicts (stockFrom (now d) ds) ((recordsFrom (now u) us) .items) ≡ done tt) × Flags (keysFrom (now u) us) (flagArea (now work)) ⌝ }
+    requires { ⌜ (verdicts (stockFrom (now d) ds) ((recordsFrom (now u) us) .items) ≡ done tt) × Flags (keysFrom (now u) us) (flagArea (now work)) × Indices (now d) ds (now u) us lim (now out) × TiedFrom (now d) ds ds ⌝ }
     ensures { λ r. ⌜ ComposedBy (stockFrom (now (d .entry)) ds) ((recordsFrom (now (u .entry)) us) .items) at (now (out .entry)) r (now (out .exit)) ⌝ }
 {
     let mut q = 1;
@@ -55,7 +59,7 @@ pub fn compose(
         next: ds,
     };
     while q < 5 {
-        match walk_kind(d, ds, t, n, map, u, us, q, work, out, g) {
+        match walk_kind(d, ds, t, n, map, u, us, q, work, out, g, lim) {
             Pass::Loose(k) => {
                 return Composed::Loose(k);
             }

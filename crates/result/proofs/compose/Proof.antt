@@ -1,6 +1,6 @@
 use native.Mathlib.Omega.{arith}
 use borrow.Author.Needs.{needs}
-use Rattle.result.proofs.KindLaws.{Kinds, kinds-start, kinds-within, kinds-loose, kinds-next, kinds-over}
+use Rattle.result.proofs.KindLaws.{Kinds, kinds-start, kinds-within, kinds-spared, kinds-loose, kinds-next, kinds-over}
 use mathlib.Core.Path.{_≡_, refl}
 use Prim.Native.Nat.{_-_}
 use lib.ListN.{length}
@@ -8,16 +8,16 @@ use Rattle.result.proofs.compose.Statement.{statement}
 use Rattle.result.proofs.compose.Tie as tie
 
 abbrev Inv-loop : tie.InvT-loop
-Inv-loop d ds t n map u us work₀ out₀ at q₀ g₀ work out q g = Kinds d ds u us t n map q g at out₀ work out × (length work ≡ length work₀) × (length out ≡ length out₀)
+Inv-loop d ds t n map u us work₀ out₀ at lim q₀ g₀ work out q g = Kinds d ds u us t n map q g at out₀ work out × (length work ≡ length work₀) × (length out ≡ length out₀)
 
 abbrev μ-loop : tie.MeasureT-loop
-μ-loop d ds t n map u us work₀ out₀ at q₀ g₀ work out q g = 5 - q
+μ-loop d ds t n map u us work₀ out₀ at lim q₀ g₀ work out q g = 5 - q
 
 loop-holds : tie.Need-loop-holds Inv-loop μ-loop
-loop-holds c = let s = c .before .before .before .before .before .before in (kinds-start _ _ _ _ _ _ _ _ (s .pre .0 .3) _ _ (record { ready = s .pre .0 .0; laid = s .pre .0 .1; wide = s .pre .0 .2; sound = s .pre .0 .4; fine = s .pre .1 .0; flags = s .pre .1 .1 }), refl, refl)
+loop-holds c = let s = c .before .before .before .before .before .before in (kinds-start _ _ _ _ _ _ _ _ (s .pre .0 .3) _ _ (record { ready = s .pre .0 .0; laid = s .pre .0 .1; wide = s .pre .0 .2; sound = s .pre .0 .4; fine = s .pre .1 .0; flags = s .pre .1 .1; tied = s .pre .1 .3 }), refl, refl)
 
 walk-kind-requires : tie.Need-walk-kind-requires Inv-loop μ-loop
-walk-kind-requires c κs = let s = c .before .before .before .before .before .before .before .before .before .before in let k = c .before .before .before .loop .inv .0 in (k .whole, omega (arith, c .before .before .loop-test .taken), kinds-within _ _ _ _ _ _ _ _ _ _ _ _ _ k (c .before .before .loop-test .taken), s .pre .0 .5, k .reached)
+walk-kind-requires c κs = let s = c .before .before .before .before .before .before .before .before .before .before in let k = c .before .before .before .loop .inv .0 in (k .whole, omega (arith, c .before .before .loop-test .taken), kinds-within _ _ _ _ _ _ _ _ _ _ _ _ _ k (c .before .before .loop-test .taken), s .pre .0 .5, k .reached, kinds-spared _ _ _ _ _ _ _ _ _ _ _ _ _ k _ (s .pre .1 .2))
 
 enum-known-k : tie.Need-enum-known-k Inv-loop μ-loop
 enum-known-k c = search needs

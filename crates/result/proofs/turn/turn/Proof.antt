@@ -25,7 +25,7 @@ returns : tie.Need-returns
 returns c = let s = c .before .before .before .before .before .before .before .before .before .before .before .before .before .before in turn-stop _ _ _ _ _ _ _ (s .pre .1 .0) _ (s .pre .0 .2) (s .pre .1 .1) (s .pre .1 .2) _ (c .before .before .before .before .before .before .stated-at .ensures) _ _ _ _ (c .before .before .before .before .len .given .1) _ (c .before .before .key-at .ensures .0) _ (c .before .ends .ensures) (c .if1 .taken) (s .pre .0 .1) _ _
 
 make-requires : tie.Need-make-requires
-make-requires c κs = let s = c .before .before .before .before .before .before .before .before .before .before .before .before .before .before .before .before in (s .pre .0 .0, turn-here _ _ _ _ _ _ _ (s .pre .1 .0) _ (s .pre .0 .2) (s .pre .1 .1) (s .pre .1 .2) _ (c .before .before .before .before .before .before .before .before .stated-at .ensures) _ _ _ _ (c .before .before .before .before .before .before .len .given .1) _ (c .before .before .before .before .key-at .ensures .0), within-place _ (s .pre .0 .2))
+make-requires c κs = let s = c .before .before .before .before .before .before .before .before .before .before .before .before .before .before .before .before in (s .pre .0 .0, turn-here _ _ _ _ _ _ _ (s .pre .1 .0) _ (s .pre .0 .2) (s .pre .1 .1) (s .pre .1 .2) _ (c .before .before .before .before .before .before .before .before .stated-at .ensures) _ _ _ _ (c .before .before .before .before .before .before .len .given .1) _ (c .before .before .before .before .key-at .ensures .0), within-place _ (s .pre .0 .2), s .pre .1 .3)
 
 add-after : tie.Need-add-after
 add-after c = let s = c .before .before .before .before .before .before .before .before .before .before .before .before .before .before .before .before .before .before .before .before .before in omega (arith, turn-word _ _ (turn-sound _ _ _ _ _ _ _ (s .pre .1 .0) _ (s .pre .0 .2) (s .pre .1 .1)) (s .pre .1 .2) _ (c .before .before .before .before .before .before .before .before .before .before .before .before .before .stated-at .ensures) _ _ _ _ (c .before .before .before .before .before .before .before .before .before .before .before .len .given .1))

@@ -1,6 +1,6 @@
 use native.Mathlib.Omega.{arith}
 use borrow.Author.Needs.{needs}
-use Rattle.result.proofs.SideLaws.{Walking, walk-start, walk-within, walk-over, walk-loose, walk-less, walk-on, walk-stop}
+use Rattle.result.proofs.SideLaws.{Walking, walk-start, walk-within, walk-spared, walk-over, walk-loose, walk-less, walk-on, walk-stop}
 use mathlib.Core.Path.{_≡_, refl}
 use Prim.Native.Nat.{_-_}
 use lib.ListN.{length}
@@ -8,16 +8,16 @@ use Rattle.result.proofs.walk.walk.Statement.{statement}
 use Rattle.result.proofs.walk.walk.Tie as tie
 
 abbrev Inv-loop : tie.InvT-loop
-Inv-loop old f d ds t n map u us q work₀ out₀ g₀ work out g = Walking d ds u us q t n map old g₀ g work₀ out₀ work out × (length work ≡ length work₀) × (length out ≡ length out₀)
+Inv-loop old f d ds t n map u us q work₀ out₀ lim g₀ work out g = Walking d ds u us q t n map old g₀ g work₀ out₀ work out × (length work ≡ length work₀) × (length out ≡ length out₀)
 
 abbrev μ-loop : tie.MeasureT-loop
-μ-loop old f d ds t n map u us q work₀ out₀ g₀ work out g = length f - g .next
+μ-loop old f d ds t n map u us q work₀ out₀ lim g₀ work out g = length f - g .next
 
 loop-holds : tie.Need-loop-holds Inv-loop μ-loop
 loop-holds c = let s = c .before .before .before .before .before .before .before in (walk-start _ _ _ _ _ _ _ _ _ _ (s .pre .0 .2) _ _ (s .pre .1 .1) (s .pre .0 .0), refl, refl)
 
 turn-requires : tie.Need-turn-requires Inv-loop μ-loop
-turn-requires c κs = let s = c .before .before .before .before .before .before .before .before .before .before .before .before in let v = c .before .before .before .before .loop .inv .0 in ((v .whole, s .pre .0 .1, walk-within _ _ _ _ _ _ _ _ _ _ (s .pre .0 .2) _ _ _ _ _ v), (s .pre .1 .0, v .onward .stands, c .before .before .if1 .taken))
+turn-requires c κs = let s = c .before .before .before .before .before .before .before .before .before .before .before .before in let v = c .before .before .before .before .loop .inv .0 in ((v .whole, s .pre .0 .1, walk-within _ _ _ _ _ _ _ _ _ _ (s .pre .0 .2) _ _ _ _ _ v), (s .pre .1 .0, v .onward .stands, c .before .before .if1 .taken, walk-spared _ _ _ _ _ _ _ _ _ _ (s .pre .0 .2) _ _ _ _ _ v _ (s .pre .1 .2)))
 
 enum-known-k : tie.Need-enum-known-k Inv-loop μ-loop
 enum-known-k c = search needs
