@@ -14,7 +14,7 @@ use Rattle.base.specs.declared.Fault.{Fault}
 use Rattle.base.proofs.ListLaws.{each-length}
 use Rattle.memory.specs.Put.{put}
 use Rattle.memory.specs.Wrote.{Wrote}
-use Rattle.memory.proofs.PutLaws.{put-put-last-first}
+use Rattle.memory.proofs.PutLaws.{length-put, put-put-last-first}
 use Rattle.memory.proofs.WroteLaws.{wrote-take}
 use Rattle.skeleton.specs.File.{Field, recordsOf}
 use Rattle.skeleton.specs.Emit.{emits}
@@ -107,12 +107,12 @@ verdict-file ds us file n x e = go (judged chart 3 ds [] us) e
 -- ---- the ways out
 
 -- an answer that says the same
-pub acted-as : (f u : List ℕ) (ds us front room size : ℕ) (a b : Answer) (o o′ : List ℕ) → a ≡ b → Acted f u ds us front room size b o o′ → Acted f u ds us front room size a o o′
-acted-as f u ds us front room size a b o o′ same k = subst (λ (y : Answer). Acted f u ds us front room size y o o′) (sym same) k
+pub acted-as : (f u : List ℕ) (ds us front room size : ℕ) (a b : Answer) (o : List ℕ) → a ≡ b → Acted f u ds us front room size b o → Acted f u ds us front room size a o
+acted-as f u ds us front room size a b o same k = subst (λ (y : Answer). Acted f u ds us front room size y o) (sym same) k
 
--- a workspace of the same length
-pub acted-size : (f u : List ℕ) (ds us front room m size : ℕ) (a : Answer) (o o′ : List ℕ) → Acted f u ds us front room m a o o′ → m ≡ size → Acted f u ds us front room size a o o′
-acted-size f u ds us front room m size a o o′ k same = subst (λ (n : ℕ). Acted f u ds us front room n a o o′) same k
+-- an output and a workspace of the same lengths
+pub acted-sizes : (f u : List ℕ) (ds us front n m room size : ℕ) (a : Answer) (o : List ℕ) → Acted f u ds us front n m a o → n ≡ room → m ≡ size → Acted f u ds us front room size a o
+acted-sizes f u ds us front n m room size a o k e g = rw (← e, ← g) k
 
 module _ (f u : List ℕ) (ds us front : ℕ) (k : Begun f u ds us front) where
   abbrev old : List Rec
@@ -145,23 +145,23 @@ module _ (f u : List ℕ) (ds us front : ℕ) (k : Begun f u ds us front) where
         ∙ ap₂ (λ (a : List Rec) (b : List (List Field)). behind room opening a b) (k .opens .records) (sym (k .fits .fitting .later))
 
     -- a refusal, whatever stands in the output
-    acted-refused : (file n : ℕ) (x : Fault) → streamedOutcome room size f u ≡ refused file n x → (o o′ : List ℕ) → Acted f u ds us front room size (refusing (x .number) file n) o o′
-    acted-refused file n x e o o′ =
+    acted-refused : (file n : ℕ) (x : Fault) → streamedOutcome room size f u ≡ refused file n x → (o : List ℕ) → Acted f u ds us front room size (refusing (x .number) file n) o
+    acted-refused file n x e o =
         let said = answer-refused f u room size file n x e in
         let never : x .number ≡ 0 → ⊥ = λ z.
         let (w, y) = (zero-is-done .updates f u room size) .0 (ap (λ (a : Answer). a .number) said ∙ z) in
         refuses (sym (streams room size f u ∙ e) ∙ y) in
-        record { said = sym said; fits = λ z. absurd (never z); stands = λ z. absurd (never z) }
+        record { said = sym said; before = o; fits = λ z. absurd (never z); stands = λ z. absurd (never z) }
 
-    pub acted-wrong : (n : ℕ) (x : Fault) → verdicts old new ≡ refused 2 n x → (o o′ : List ℕ) → Acted f u ds us front room size (refusing (x .number) 2 n) o o′
+    pub acted-wrong : (n : ℕ) (x : Fault) → verdicts old new ≡ refused 2 n x → (o : List ℕ) → Acted f u ds us front room size (refusing (x .number) 2 n) o
     unfolding andThen
-    acted-wrong n x e o o′ = acted-refused 2 n x (begun-on ∙ rw e) o o′
+    acted-wrong n x e o = acted-refused 2 n x (begun-on ∙ rw e) o
 
     module _ (fine : verdicts old new ≡ done tt) where
-      pub acted-loose : (n : ℕ) (x : Fault) → resultReferences old new ≡ refused 3 n x → (o o′ : List ℕ)
-          → Acted f u ds us front room size (refusing (x .number) 3 n) o o′
+      pub acted-loose : (n : ℕ) (x : Fault) → resultReferences old new ≡ refused 3 n x → (o : List ℕ)
+          → Acted f u ds us front room size (refusing (x .number) 3 n) o
       unfolding andThen
-      acted-loose n x e o o′ = acted-refused 3 n x (begun-on ∙ rw (fine, e)) o o′
+      acted-loose n x e o = acted-refused 3 n x (begun-on ∙ rw (fine, e)) o
 
       module _ (linked : resultReferences old new ≡ done tt) (len : ℕ) (long : len ≡ front + restLength old new) where
         result-length : length (opening ++ restBytes old new) ≡ len
@@ -171,31 +171,31 @@ module _ (f u : List ℕ) (ds us front : ℕ) (k : Begun f u ds us front) where
         unfolding andThen
         sized-on = begun-on ∙ rw (fine, linked)
 
-        pub acted-long : 16777216 < len → (o o′ : List ℕ) → Acted f u ds us front room size (refusing 14 3 0) o o′
+        pub acted-long : 16777216 < len → (o : List ℕ) → Acted f u ds us front room size (refusing 14 3 0) o
         unfolding notTooLong andThen
-        acted-long h o o′ = acted-refused 3 0 (fault 14 0 0) (sized-on ∙ rw (result-length, lt-ltb 16777216 len h)) o o′
+        acted-long h o = acted-refused 3 0 (fault 14 0 0) (sized-on ∙ rw (result-length, lt-ltb 16777216 len h)) o
 
         module _ (short : len ≤ 16777216) where
-          pub acted-short : room < len → (o o′ : List ℕ) → Acted f u ds us front room size (refusing 13 3 0) o o′
+          pub acted-short : room < len → (o : List ℕ) → Acted f u ds us front room size (refusing 13 3 0) o
           unfolding notTooLong andThen
-          acted-short h o o′ = acted-refused 3 0 (fault 13 0 0) (sized-on ∙ rw (result-length, le-ltb 16777216 len short, lt-ltb room len h)) o o′
+          acted-short h o = acted-refused 3 0 (fault 13 0 0) (sized-on ∙ rw (result-length, le-ltb 16777216 len short, lt-ltb room len h)) o
 
           done-on : len ≤ room → streamedOutcome room size f u ≡ done (record { bytes = opening ++ restBytes old new; records = 3 + length (resultRecords old new) })
           unfolding notTooLong andThen
           done-on h = sized-on ∙ rw (result-length, le-ltb 16777216 len short, le-ltb room len h)
 
           pub acted-done : (o o′ : List ℕ) → room ≡ length o → len ≤ room → (c : ℕ) → c ≡ length (resultRecords old new) → o′ ≡ put front (restBytes old new) o
-              → Acted f u ds us front room size (record { number = 0; file = 0; rec = 0; length = len; count = 3 + c }) o o′
+              → Acted f u ds us front room size (record { number = 0; file = 0; rec = 0; length = len; count = 3 + c }) o′
           unfolding update outputOf success
           acted-done o o′ same h c counted e =
               let said = ap (λ (m : Outcome Written). (outputOf room m) .answer) (streams room size f u ∙ done-on h) in
-              record { said = rw counted (sym (rw result-length at said)); fits = λ _. omega (arith, behind-length, long, same); stands = λ _. e }
+              record { said = rw counted (sym (rw result-length at said)); before = o; fits = λ _. omega (arith, behind-length, long, same); stands = λ _. e }
 
     -- ---- the whole result
 
-    module _ (r : Answer) (o o′ : List ℕ) (a : Acted f u ds us front room size r o o′) where
-      pub built-not : (r .number ≡ 0 → ⊥) → (o″ : List ℕ) → Built f u room size r o″
-      built-not nz o″ =
+    module _ (r : Answer) (o : List ℕ) (a : Acted f u ds us front room size r o) where
+      pub built-not : (r .number ≡ 0 → ⊥) → (o′ : List ℕ) → Built f u room size r o′
+      built-not nz o′ =
           record {
             said = a .said;
             stands = λ w z. absurd (nz (ap (λ (y : Answer). y .number) (a .said) ∙ (zero-is-done .updates f u room size) .1 (w, z)));
@@ -203,13 +203,13 @@ module _ (f u : List ℕ) (ds us front : ℕ) (k : Begun f u ds us front) where
 
       module _ (z : r .number ≡ 0) where
         pub front-room : front ≤ length o
-        front-room = omega (arith, a .fits z)
+        front-room = omega (arith, a .fits z, ap length (a .stands z), length-put front (restBytes old new) (a .before))
 
-        pub built-whole : (n : ℕ) (o″ : List ℕ) → Wrote 0 opening o′ n o″ → Built f u room size r o″
-        built-whole n o″ w =
-            let all : o″ ≡ put 0 (opening ++ restBytes old new) o
-            = w .is ∙ ap (put 0 opening) (a .stands z ∙ ap (λ (p : ℕ). put p (restBytes old new) o) (sym opening-length ∙ omega arith)) ∙ put-put-last-first 0 opening (restBytes old new) o in
-            let whole : Wrote 0 (opening ++ restBytes old new) o (length (opening ++ restBytes old new)) o″ = record { next = omega arith; is = all } in
+        pub built-whole : (n : ℕ) (o′ : List ℕ) → Wrote 0 opening o n o′ → Built f u room size r o′
+        built-whole n o′ w =
+            let all : o′ ≡ put 0 (opening ++ restBytes old new) (a .before)
+            = w .is ∙ ap (put 0 opening) (a .stands z ∙ ap (λ (p : ℕ). put p (restBytes old new) (a .before)) (sym opening-length ∙ omega arith)) ∙ put-put-last-first 0 opening (restBytes old new) (a .before) in
+            let whole : Wrote 0 (opening ++ restBytes old new) (a .before) (length (opening ++ restBytes old new)) o′ = record { next = omega arith; is = all } in
             let long = length-append opening (restBytes old new) in
             let taken = wrote-take whole (omega (arith, long, opening-length, a .fits z)) in
             record {

@@ -52,31 +52,29 @@ module _ (f u : List ℕ) (us : ℕ) (k : Fits f u us)
         pub front-begun : Begun f u (third .end) us front
         front-begun = begun f u us k first old third new five r er n x front e
 
-        module _ (room size : ℕ) (big : 400000 ≤ size) (a : Answer) (o o′ : List ℕ) (d : Acted f u (third .end) us front room size a o o′) where
+        module _ (room size : ℕ) (big : 400000 ≤ size) (a : Answer) (o : List ℕ) (d : Acted f u (third .end) us front room size a o) where
           -- a refusal
-          pub front-not : (a .number ≡ 0 → ⊥) → Built f u room size a o′
-          front-not nz = built-not f u (third .end) us front front-begun room size big a o o′ d nz o′
+          pub front-not : (a .number ≡ 0 → ⊥) → Built f u room size a o
+          front-not nz = built-not f u (third .end) us front front-begun room size big a o d nz o
 
           module _ (z : a .number ≡ 0) where
             -- the first three records have room
-            pub front-fits : length o′ ≡ length o
-                → writtenLength (fieldsIn f first) + (writtenLength (merged (fieldsIn f old) (fieldsIn u new)) + writtenLength (fieldsIn f third)) ≤ length o′
-            front-fits same =
+            pub front-fits : writtenLength (fieldsIn f first) + (writtenLength (merged (fieldsIn f old) (fieldsIn u new)) + writtenLength (fieldsIn f third)) ≤ length o
+            front-fits =
                 let long = general-long (fieldsIn f old) (fieldsIn u new) n (sym x ∙ er) .1 in
-                let room = front-room f u (third .end) us front front-begun room size big a o o′ d z in
-                omega (arith, long, room, e, same)
+                let room = front-room f u (third .end) us front front-begun room size big a o d z in
+                omega (arith, long, room, e)
 
-            pub front-stands : length o′ ≡ length o
-                → (Lies f first × Lies f old × Lies f third × Lies u new)
+            pub front-stands : (Lies f first × Lies f old × Lies f third × Lies u new)
                 × (((generalRecord InDataset (fieldsIn f old) ≡ pass) × (generalRecord InUpdate (fieldsIn u new) ≡ pass))
-                × (writtenLength (fieldsIn f first) + (writtenLength (merged (fieldsIn f old) (fieldsIn u new)) + writtenLength (fieldsIn f third)) ≤ length o′))
-            front-stands same = ((five .first-lies, five .old-lies, five .third-lies, five .new-lies), (general-lies .1, front-fits same))
+                × (writtenLength (fieldsIn f first) + (writtenLength (merged (fieldsIn f old) (fieldsIn u new)) + writtenLength (fieldsIn f third)) ≤ length o))
+            front-stands = ((five .first-lies, five .old-lies, five .third-lies, five .new-lies), (general-lies .1, front-fits))
 
             -- the whole result
-            pub front-whole : (n : ℕ) (o″ : List ℕ)
-                → Wrote 0 (emit fieldWidth fieldWidth true (fieldsIn f first) ++ (emit fieldWidth fieldWidth false (merged (fieldsIn f old) (fieldsIn u new)) ++ emit fieldWidth fieldWidth false (fieldsIn f third))) o′ n o″
-                → Built f u room size a o″
+            pub front-whole : (n : ℕ) (o′ : List ℕ)
+                → Wrote 0 (emit fieldWidth fieldWidth true (fieldsIn f first) ++ (emit fieldWidth fieldWidth false (merged (fieldsIn f old) (fieldsIn u new)) ++ emit fieldWidth fieldWidth false (fieldsIn f third))) o n o′
+                → Built f u room size a o′
             unfolding headBytes front-begun begun
-            front-whole n o″ w =
-                built-whole f u (third .end) us front front-begun room size big a o o′ d z n o″
+            front-whole n o′ w =
+                built-whole f u (third .end) us front front-begun room size big a o d z n o′
                 (rw (five .first-is, five .old-is, five .new-is, five .third-is) at w)

@@ -23,11 +23,15 @@ use Rattle.keys.specs.Table.{Tails, Laid}
 use Rattle.keys.proofs.TableLaws.{tails-same}
 use Rattle.stock.specs.Stock.{stockFrom}
 use Rattle.version.specs.Areas.{flagArea}
+use Rattle.sorting.specs.Indices.{Indices}
+use Rattle.sorting.specs.declared.limits.Limits.{Limits}
+use Rattle.composing.specs.Tied.{TiedFrom}
 use Rattle.history.specs.Ready.{Short, Ready}
 use Rattle.history.specs.Judged.{judgedBy, AllJudged}
 use Rattle.history.specs.Flags.{Flags}
 use Rattle.history.specs.declared.judging.Judged.{Judged}
 use Rattle.history.specs.declared.judging.Judged.the-variants.{Fine, Stopped}
+use Rattle.history.proofs.PlayingLaws.{rest-sound}
 use Rattle.result.specs.Composed.{ComposedBy}
 use Rattle.result.specs.declared.Composed.{Composed}
 use Rattle.result.specs.declared.Composed.the-variants.{Loose, Whole}
@@ -69,6 +73,12 @@ module _ (f u : List ℕ) (ds us front : ℕ) (k : Begun f u ds us front) where
   pub begun-sound : Sound f ds
   begun-sound = k .opens .sound (k .fits .old-short)
 
+  pub begun-sent : Sound u us
+  begun-sent = rest-sound u us (k .fits .fitting .rest) (k .fits .fitting .inside) (k .fits .new-short)
+
+  pub begun-tied : TiedFrom f ds ds
+  begun-tied = k .opens .tied
+
   pub begun-table : (n : ℕ) → Tails f ds (replicate n ds)
   begun-table n = tails-same f ds n begun-sound
 
@@ -94,38 +104,39 @@ module _ (f u : List ℕ) (ds us front : ℕ) (k : Begun f u ds us front) where
 
     -- what `finish` stands on, in a workspace as long as it was before the verdicts
     pub fine-finish : j ≡ Fine → (t : List ℕ) (n : ℕ) (map : List ℕ) → Laid f ds t n map → (before : List ℕ) → length w ≡ length before → 400000 ≤ length before
-        → (Begun f u ds us front × Laid f ds t n map × (400000 ≤ length w)) × ((verdicts (stockFrom f ds) (sentFrom u us) ≡ done tt) × Flags (keysFrom u us) (flagArea w))
-    fine-finish x t n map laid before same big =
-        ((k, laid, subst (λ (l : ℕ). 400000 ≤ l) (sym same) big), (fine-verdicts x, a .flags x))
+        → (lim : Limits) (out : List ℕ) → Indices f ds u us lim out
+        → (Begun f u ds us front × Laid f ds t n map × (400000 ≤ length w)) × ((verdicts (stockFrom f ds) (sentFrom u us) ≡ done tt) × Flags (keysFrom u us) (flagArea w) × Indices f ds u us lim out)
+    fine-finish x t n map laid before same big lim out i =
+        ((k, laid, subst (λ (l : ℕ). 400000 ≤ l) (sym same) big), (fine-verdicts x, a .flags x, i))
 
-    pub wrong-acted : (n m i t : ℕ) → j ≡ Stopped n m i t → (room size : ℕ) → 400000 ≤ size → (o o′ : List ℕ) (b : Answer) → b ≡ refusing n 2 m → Acted f u ds us front room size b o o′
-    wrong-acted n m i t x room size big o o′ b s =
+    pub wrong-acted : (n m i t : ℕ) → j ≡ Stopped n m i t → (room size : ℕ) → 400000 ≤ size → (o : List ℕ) (b : Answer) → b ≡ refusing n 2 m → Acted f u ds us front room size b o
+    wrong-acted n m i t x room size big o b s =
         let (file, e) = judged-stopped (verdicts (stockFrom f ds) (sentFrom u us)) n m i t (sym x ∙ a .came) in
         let same : file ≡ 2 = verdict-file (stockFrom f ds) (sentFrom u us) file m (fault n i t) e in
-        acted-as f u ds us front room size b (refusing n 2 m) o o′ s (acted-wrong f u ds us front k room size big m (fault n i t) (e ∙ ap (λ (z : ℕ). refused z m (fault n i t)) same) o o′)
+        acted-as f u ds us front room size b (refusing n 2 m) o s (acted-wrong f u ds us front k room size big m (fault n i t) (e ∙ ap (λ (z : ℕ). refused z m (fault n i t)) same) o)
 
   -- ---- the result's records
 
   module _ (size : ℕ) (big : 400000 ≤ size) (fine : verdicts (stockFrom f ds) (sentFrom u us) ≡ done tt) (o o′ : List ℕ) (r : Composed)
       (c : ComposedBy (stockFrom f ds) (sentFrom u us) front o r o′) where
-    pub loose-acted : (n : ℕ) → r ≡ Loose n → (a : Answer) → a ≡ refusing 11 3 n → Acted f u ds us front (length o) size a o o′
+    pub loose-acted : (n : ℕ) → r ≡ Loose n → (a : Answer) → a ≡ refusing 11 3 n → Acted f u ds us front (length o) size a o′
     loose-acted n x b s =
         let (y, z, e) = c .loose n x in
-        let a = acted-loose f u ds us front k (length o) size big fine n y e o o′ in
-        acted-as f u ds us front (length o) size b (refusing 11 3 n) o o′ s (rw z at a)
+        let a = acted-loose f u ds us front k (length o) size big fine n y e o′ in
+        acted-as f u ds us front (length o) size b (refusing 11 3 n) o′ s (rw z at a)
 
     module _ (len n : ℕ) (x : r ≡ Whole len n) where
-      pub long-acted : 16777216 < len → (a : Answer) → a ≡ refusing 14 3 0 → Acted f u ds us front (length o) size a o o′
-      long-acted h b s = acted-as f u ds us front (length o) size b (refusing 14 3 0) o o′ s (acted-long f u ds us front k (length o) size big fine (c .linked len n x) len (c .long len n x) h o o′)
+      pub long-acted : 16777216 < len → (a : Answer) → a ≡ refusing 14 3 0 → Acted f u ds us front (length o) size a o′
+      long-acted h b s = acted-as f u ds us front (length o) size b (refusing 14 3 0) o′ s (acted-long f u ds us front k (length o) size big fine (c .linked len n x) len (c .long len n x) h o′)
 
-      pub short-acted : len ≤ 16777216 → length o < len → (a : Answer) → a ≡ refusing 13 3 0 → Acted f u ds us front (length o) size a o o′
-      short-acted h g b s = acted-as f u ds us front (length o) size b (refusing 13 3 0) o o′ s (acted-short f u ds us front k (length o) size big fine (c .linked len n x) len (c .long len n x) h g o o′)
+      pub short-acted : len ≤ 16777216 → length o < len → (a : Answer) → a ≡ refusing 13 3 0 → Acted f u ds us front (length o) size a o′
+      short-acted h g b s = acted-as f u ds us front (length o) size b (refusing 13 3 0) o′ s (acted-short f u ds us front k (length o) size big fine (c .linked len n x) len (c .long len n x) h g o′)
 
       pub count-word : len ≤ 16777216 → 3 + n < 2 ^ 64
       count-word h = omega (arith, behind-count f u ds us front k, c .counted len n x, c .long len n x)
 
       pub done-acted : len ≤ 16777216 → len ≤ length o
-          → Acted f u ds us front (length o) size (record { number = 0; file = 0; rec = 0; length = len; count = 3 + n }) o o′
+          → Acted f u ds us front (length o) size (record { number = 0; file = 0; rec = 0; length = len; count = 3 + n }) o′
       done-acted h g =
           acted-done f u ds us front k (length o) size big fine (c .linked len n x) len (c .long len n x) h o o′ refl g n (c .counted len n x) (c .stands len n x g)
 

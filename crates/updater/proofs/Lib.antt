@@ -1,3 +1,4 @@
+pub mod TiedLaws
 pub mod OpensLaws
 pub mod StageLaws
 pub mod ActLaws

@@ -3,7 +3,7 @@ use Prim.Native.Nat.{ℕ, _+_, _-_, _≤_, _<_}
 use mathlib.Core.Path.{_≡_, refl, sym, ap, _∙_}
 use mathlib.Core.List.{List, [], _∷_}
 use native.Mathlib.Omega.{arith}
-use lib.ListN.{length, getD}
+use lib.ListN.{length, getD, drop}
 use Rattle.base.specs.Walk.{Got, before}
 use Rattle.skeleton.specs.File.{Field, recordsFrom, recordsOf}
 use Rattle.skeleton.specs.Place.{between, fieldsAt}
@@ -26,6 +26,7 @@ use Rattle.opening.proofs.OpeningLaws.{Over, carried-over, fromFourth, opened}
 use Rattle.keys.proofs.ReferenceLaws.{taken-reads, reads-sound}
 use Rattle.stock.proofs.StockLaws.{taken-stock}
 use Rattle.incoming.specs.Fitting.{Fitting}
+use Rattle.updater.proofs.TiedLaws.{references-tied}
 use Rattle.updater.specs.Pieces.{There, Cut, Lies, fieldsIn, Run}
 use Rattle.updater.specs.Stages.{sentGeneral, Opens}
 use Rattle.updater.specs.declared.front.Piece.{Piece}
@@ -82,6 +83,9 @@ dataset-opens f d e =
     let t = thrice f ds front in
     let i = thrice-items f ds t in
     let stock = taken-stock f ds recs later in
+    let reads = taken-reads f ds recs later in
+    let named : references 1 recs ((recordsFrom f ds) .items) ≡ done tt
+    = ap (references 1 recs) (sym (ap (drop 3) i)) ∙ ap (λ (z : Stored). references 1 ((z .dataset) .records) (z .sent)) (done-inj _ s y) ∙ p in
     let general : d .general ≡ fieldsAt (between f (t .second) (t .second + t .two .long)) (t .two .shape) 24
     = ap (λ (z : Dataset). z .general) k ∙ ap (λ (l : List (List Field)). getD l 1 []) i in (
       ds,
@@ -95,7 +99,8 @@ dataset-opens f d e =
         inside = t .inside;
         stock = stock .0;
         records = ap (λ (z : Dataset). z .records) k ∙ stock .1;
-        sound = λ short. reads-sound f ds recs (taken-reads f ds recs later) short (t .inside);
+        sound = λ short. reads-sound f ds recs reads short (t .inside);
+        tied = references-tied f ds recs (reads .numbered) named;
       },
     )
 

@@ -19,6 +19,7 @@ use Rattle.updates.specs.Streamed.{headLength}
 use Rattle.keys.specs.Look.{Sound}
 use Rattle.stock.specs.Stock.{Stock, stockFrom}
 use Rattle.incoming.specs.Fitting.{Fitting}
+use Rattle.composing.specs.Tied.{TiedFrom}
 use Rattle.updater.specs.Pieces.{Run}
 use Rattle.result.specs.Rest.{restBytes}
 
@@ -42,6 +43,7 @@ pub record Opens (f : List ℕ) (d : Dataset) (ds : ℕ) : Type 0 where
   pub stock : Stock f ds
   pub records : d .records ≡ stockFrom f ds
   pub sound : length f ≤ 16777216 → Sound f ds
+  pub tied : TiedFrom f ds ds
 
 -- a dataset that the reader reads
 pub record Legible (f : List ℕ) : Type 0 where
@@ -66,11 +68,12 @@ pub record Begun (f u : List ℕ) (ds us front : ℕ) : Type 0 where
   pub long : front ≡ headLength (fits .dataset) (merged ((fits .dataset) .general) (sentGeneral u))
   pub small : front ≤ 299997
 
--- the answer r is that of the rules; where it is done, the result's records behind the third stand in o′, which was o, from `front` on
-pub record Acted (f u : List ℕ) (ds us front room size : ℕ) (r : Answer) (o o′ : List ℕ) : Type 0 where
+-- the answer r is that of the rules; where it is done, the result's records behind the third stand in o from `front` on, over what was `before`
+pub record Acted (f u : List ℕ) (ds us front room size : ℕ) (r : Answer) (o : List ℕ) : Type 0 where
   pub said : r ≡ (update f u room size) .answer
-  pub fits : r .number ≡ 0 → front + length (restBytes (stockFrom f ds) (sentFrom u us)) ≤ length o
-  pub stands : r .number ≡ 0 → o′ ≡ put front (restBytes (stockFrom f ds) (sentFrom u us)) o
+  pub before : List ℕ
+  pub fits : r .number ≡ 0 → front + length (restBytes (stockFrom f ds) (sentFrom u us)) ≤ length before
+  pub stands : r .number ≡ 0 → o ≡ put front (restBytes (stockFrom f ds) (sentFrom u us)) before
 
 -- the answer r is that of the rules; where it is done, the result stands at the front of o
 pub record Built (f u : List ℕ) (room size : ℕ) (r : Answer) (o : List ℕ) : Type 0 where

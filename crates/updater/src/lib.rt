@@ -10,6 +10,7 @@ use history::judging::Judged;
 use history::judging::judge;
 use incoming::walk::Came;
 use incoming::walk::check_update;
+use keys::order::ordered;
 use keys::table::spread;
 use memory::clearing::zero;
 use memory::clearing::zero_from;
@@ -17,6 +18,8 @@ use reader::read;
 use result::Composed;
 use result::compose;
 use rules::Answer;
+use sorting::limits::Limits;
+use sorting::limits::lay_both;
 use writer::Measured;
 use writer::measure;
 ghost use mathlib.Core.Path.{_≡_};
@@ -28,6 +31,7 @@ ghost use Rattle.updates.specs.Streamed.{verdicts};
 ghost use Rattle.keys.specs.Listed.{keysFrom};
 ghost use Rattle.keys.specs.Table.{Laid};
 ghost use Rattle.stock.specs.Stock.{stockFrom};
+ghost use Rattle.sorting.specs.Indices.{Indices};
 ghost use Rattle.updater.specs.Stages.{sentFrom, Legible, Fits, Begun, Acted, Built};
 ghost use Rattle.version.specs.Areas.{flagArea};
 ghost use Rattle.history.specs.Flags.{Flags};
@@ -57,12 +61,13 @@ fn finish(
     front: usize,
     out: &mut [u8],
     work: &mut [u8],
+    lim: Limits,
 ) -> Answer
     requires { ⌜ Begun (now f) (now u) ds us front × Laid (now f) ds (now t) n (now map) × (400000 ≤ length (now work)) ⌝ }
-    requires { ⌜ (verdicts (stockFrom (now f) ds) (sentFrom (now u) us) ≡ done tt) × Flags (keysFrom (now u) us) (flagArea (now work)) ⌝ }
-    ensures { λ r. ⌜ Acted (now (f .entry)) (now (u .entry)) ds us front (length (now (out .entry))) (length (now (work .entry))) r (now (out .entry)) (now (out .exit)) ⌝ }
+    requires { ⌜ (verdicts (stockFrom (now f) ds) (sentFrom (now u) us) ≡ done tt) × Flags (keysFrom (now u) us) (flagArea (now work)) × Indices (now f) ds (now u) us lim (now out) ⌝ }
+    ensures { λ r. ⌜ Acted (now (f .entry)) (now (u .entry)) ds us front (length (now (out .entry))) (length (now (work .entry))) r (now (out .exit)) ⌝ }
 {
-    match compose(f, ds, t, n, map, u, us, work, out, front) {
+    match compose(f, ds, t, n, map, u, us, work, out, front, lim) {
         Composed::Loose(k) => refuse(11, 3, k),
         Composed::Whole { length, count } => {
             if 16777216 < length {
@@ -83,7 +88,7 @@ fn finish(
     }
 }
 
-// The verdicts on the update's records, and then the result's records behind the third.
+// The verdicts on the update's records, and then the result's records behind the third. Until these reach it, the output's end holds indices to find records by.
 fn act(
     f: &[u8],
     ds: usize,
@@ -94,14 +99,16 @@ fn act(
     work: &mut [u8],
 ) -> Answer
     requires { ⌜ Begun (now f) (now u) ds us front × (400000 ≤ length (now work)) ⌝ }
-    ensures { λ r. ⌜ Acted (now (f .entry)) (now (u .entry)) ds us front (length (now (out .entry))) (length (now (work .entry))) r (now (out .entry)) (now (out .exit)) ⌝ }
+    ensures { λ r. ⌜ Acted (now (f .entry)) (now (u .entry)) ds us front (length (now (out .entry))) (length (now (work .entry))) r (now (out .exit)) ⌝ }
 {
     let mut table = [ds as u32; 4096];
     let mut map = [0u8; 32769];
     let stride = (f.len() - ds) / 131072 + 1;
     let n = spread(f, ds, stride, &mut table, &mut map);
-    match judge(f, ds, &table, n, &map, u, us, work) {
-        Judged::Fine => finish(f, ds, &table, n, &map, u, us, front, out, work),
+    let ascend = ordered(&map);
+    let lim = lay_both(f, ds, ascend, u, us, out);
+    match judge(f, ds, &table, n, &map, u, us, out, lim, work) {
+        Judged::Fine => finish(f, ds, &table, n, &map, u, us, front, out, work, lim),
         Judged::Stopped(k, m, _, _) => refuse(k, 2, m),
     }
 }

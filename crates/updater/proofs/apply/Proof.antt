@@ -32,7 +32,7 @@ act-requires : tie.Need-act-requires
 act-requires c κs = let s = c .before .before .before .before .before .before .before .before .before .before .before .before .before .before .before .before in (front-begun _ _ _ (s .pre .0) _ (c .before .before .before .before .before .before .before .before .before .before .before .found .ensures) _ (c .before .before .before .before .before .before .before .before .before .before .found2 .ensures) _ (c .before .before .before .before .before .before .before .before .before .found3 .ensures) _ (c .before .before .before .before .before .before .before .before .found4 .ensures) _ (c .before .before .before .before .before .before .before .found5 .ensures) _ (c .before .before .before .before .before .before .general .ensures) _ (c .before .before .before .before .n .given .1) _ (c .before .before .front-length .ensures), s .pre .1)
 
 put-front-requires : tie.Need-put-front-requires
-put-front-requires c κs = let s = c .before .before .before .before .before .before .before .before .before .before .before .before .before .before .before .before .before .before .before .before .before .before .before .before in front-stands _ _ _ (s .pre .0) _ (c .before .before .before .before .before .before .before .before .before .before .before .before .before .before .before .before .before .before .before .found .ensures) _ (c .before .before .before .before .before .before .before .before .before .before .before .before .before .before .before .before .before .before .found2 .ensures) _ (c .before .before .before .before .before .before .before .before .before .before .before .before .before .before .before .before .before .found3 .ensures) _ (c .before .before .before .before .before .before .before .before .before .before .before .before .before .before .before .before .found4 .ensures) _ (c .before .before .before .before .before .before .before .before .before .before .before .before .before .before .before .found5 .ensures) _ (c .before .before .before .before .before .before .before .before .before .before .before .before .before .before .general .ensures) _ (c .before .before .before .before .before .before .before .before .before .before .before .before .n .given .1) _ (c .before .before .before .before .before .before .before .before .before .before .front-length .ensures) _ _ (s .pre .1) _ _ _ (c .before .before .before .before .before .before .before .act .ensures) (c .before .if1 .taken) (c .before .before .before .before .before .before .before .act .kept .1 .1 .1 .1 .1 .0)
+put-front-requires c κs = let s = c .before .before .before .before .before .before .before .before .before .before .before .before .before .before .before .before .before .before .before .before .before .before .before .before in front-stands _ _ _ (s .pre .0) _ (c .before .before .before .before .before .before .before .before .before .before .before .before .before .before .before .before .before .before .before .found .ensures) _ (c .before .before .before .before .before .before .before .before .before .before .before .before .before .before .before .before .before .before .found2 .ensures) _ (c .before .before .before .before .before .before .before .before .before .before .before .before .before .before .before .before .before .found3 .ensures) _ (c .before .before .before .before .before .before .before .before .before .before .before .before .before .before .before .before .found4 .ensures) _ (c .before .before .before .before .before .before .before .before .before .before .before .before .before .before .before .found5 .ensures) _ (c .before .before .before .before .before .before .before .before .before .before .before .before .before .before .general .ensures) _ (c .before .before .before .before .before .before .before .before .before .before .before .before .n .given .1) _ (c .before .before .before .before .before .before .before .before .before .before .front-length .ensures) _ _ (s .pre .1) _ _ (c .before .before .before .before .before .before .before .act .ensures) (c .before .if1 .taken)
 
 enum-known-k : tie.Need-enum-known-k
 enum-known-k c = search needs
@@ -47,7 +47,7 @@ same-length-2 : tie.Need-same-length-2
 same-length-2 c = search needs
 
 returns : tie.Need-returns
-returns c = let s = c .before .before .before .before .before .before .before .before .before .before .before .before .before .before .before .before .before .before .before .before .before .before .before .before .before .before .before in front-whole _ _ _ (s .pre .0) _ (c .before .before .before .before .before .before .before .before .before .before .before .before .before .before .before .before .before .before .before .before .before .before .found .ensures) _ (c .before .before .before .before .before .before .before .before .before .before .before .before .before .before .before .before .before .before .before .before .before .found2 .ensures) _ (c .before .before .before .before .before .before .before .before .before .before .before .before .before .before .before .before .before .before .before .before .found3 .ensures) _ (c .before .before .before .before .before .before .before .before .before .before .before .before .before .before .before .before .before .before .before .found4 .ensures) _ (c .before .before .before .before .before .before .before .before .before .before .before .before .before .before .before .before .before .before .found5 .ensures) _ (c .before .before .before .before .before .before .before .before .before .before .before .before .before .before .before .before .before .general .ensures) _ (c .before .before .before .before .before .before .before .before .before .before .before .before .before .before .before .n .given .1) _ (c .before .before .before .before .before .before .before .before .before .before .before .before .before .front-length .ensures) _ _ (s .pre .1) _ _ _ (c .before .before .before .before .before .before .before .before .before .before .act .ensures) (c .before .before .before .before .if1 .taken) _ _ (c .before .before .put-front .ensures)
+returns c = let s = c .before .before .before .before .before .before .before .before .before .before .before .before .before .before .before .before .before .before .before .before .before .before .before .before .before .before .before in front-whole _ _ _ (s .pre .0) _ (c .before .before .before .before .before .before .before .before .before .before .before .before .before .before .before .before .before .before .before .before .before .before .found .ensures) _ (c .before .before .before .before .before .before .before .before .before .before .before .before .before .before .before .before .before .before .before .before .before .found2 .ensures) _ (c .before .before .before .before .before .before .before .before .before .before .before .before .before .before .before .before .before .before .before .before .found3 .ensures) _ (c .before .before .before .before .before .before .before .before .before .before .before .before .before .before .before .before .before .before .before .found4 .ensures) _ (c .before .before .before .before .before .before .before .before .before .before .before .before .before .before .before .before .before .before .found5 .ensures) _ (c .before .before .before .before .before .before .before .before .before .before .before .before .before .before .before .before .before .general .ensures) _ (c .before .before .before .before .before .before .before .before .before .before .before .before .before .before .before .n .given .1) _ (c .before .before .before .before .before .before .before .before .before .before .before .before .before .front-length .ensures) _ _ (s .pre .1) _ _ (c .before .before .before .before .before .before .before .before .before .before .act .ensures) (c .before .before .before .before .if1 .taken) _ _ (c .before .before .put-front .ensures)
 
 same-length-3 : tie.Need-same-length-3
 same-length-3 c = search needs
@@ -56,7 +56,7 @@ same-length-4 : tie.Need-same-length-4
 same-length-4 c = search needs
 
 returns-2 : tie.Need-returns-2
-returns-2 c = let s = c .before .before .before .before .before .before .before .before .before .before .before .before .before .before .before .before .before .before .before .before .before .before .before in front-not _ _ _ (s .pre .0) _ (c .before .before .before .before .before .before .before .before .before .before .before .before .before .before .before .before .before .before .found .ensures) _ (c .before .before .before .before .before .before .before .before .before .before .before .before .before .before .before .before .before .found2 .ensures) _ (c .before .before .before .before .before .before .before .before .before .before .before .before .before .before .before .before .found3 .ensures) _ (c .before .before .before .before .before .before .before .before .before .before .before .before .before .before .before .found4 .ensures) _ (c .before .before .before .before .before .before .before .before .before .before .before .before .before .before .found5 .ensures) _ (c .before .before .before .before .before .before .before .before .before .before .before .before .before .general .ensures) _ (c .before .before .before .before .before .before .before .before .before .before .before .n .given .1) _ (c .before .before .before .before .before .before .before .before .before .front-length .ensures) _ _ (s .pre .1) _ _ _ (c .before .before .before .before .before .before .act .ensures) (c .if1 .left)
+returns-2 c = let s = c .before .before .before .before .before .before .before .before .before .before .before .before .before .before .before .before .before .before .before .before .before .before .before in front-not _ _ _ (s .pre .0) _ (c .before .before .before .before .before .before .before .before .before .before .before .before .before .before .before .before .before .before .found .ensures) _ (c .before .before .before .before .before .before .before .before .before .before .before .before .before .before .before .before .before .found2 .ensures) _ (c .before .before .before .before .before .before .before .before .before .before .before .before .before .before .before .before .found3 .ensures) _ (c .before .before .before .before .before .before .before .before .before .before .before .before .before .before .before .found4 .ensures) _ (c .before .before .before .before .before .before .before .before .before .before .before .before .before .before .found5 .ensures) _ (c .before .before .before .before .before .before .before .before .before .before .before .before .before .general .ensures) _ (c .before .before .before .before .before .before .before .before .before .before .before .n .given .1) _ (c .before .before .before .before .before .before .before .before .before .front-length .ensures) _ _ (s .pre .1) _ _ (c .before .before .before .before .before .before .act .ensures) (c .if1 .left)
 
 returns-3 : tie.Need-returns-3
 returns-3 c = let s = c .before .before .before .before .before .before .before .before .before .before .before .before .before .before in general-refused _ _ _ (s .pre .0) _ (c .before .before .before .before .before .before .before .before .before .found .ensures) _ (c .before .before .before .before .before .before .before .before .found2 .ensures) _ (c .before .before .before .before .before .before .before .found3 .ensures) _ (c .before .before .before .before .before .before .found4 .ensures) _ (c .before .before .before .before .before .found5 .ensures) _ (c .before .before .before .before .general .ensures) _ (c .before .before .k .given .1) _ _ (s .pre .1) _ _ (c .refuse .ensures)

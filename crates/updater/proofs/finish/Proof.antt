@@ -1,4 +1,4 @@
-use Rattle.updater.proofs.EntryLaws.{begun-ready, begun-small, begun-records, begun-ordered, finish-ways, short-acted, done-acted}
+use Rattle.updater.proofs.EntryLaws.{begun-ready, begun-small, begun-records, begun-ordered, begun-tied, finish-ways, short-acted, done-acted}
 use borrow.Author.Needs.{needs}
 use native.Mathlib.Omega.{arith}
 use Rattle.updater.proofs.finish.Statement.{statement}
@@ -8,7 +8,7 @@ compose-requires : tie.Need-compose-requires
 compose-requires c κs =
     let s = c .before .before .before .before .before .before .before .before in
     let k = s .pre .0 .0 in
-    ((begun-ready _ _ _ _ _ k, s .pre .0 .1, s .pre .0 .2, begun-small _ _ _ _ _ k, begun-records _ _ _ _ _ k (λ i. omega (arith, c .before .before .before .before .before .before .before .shared-slice-known .given i)), begun-ordered _ _ _ _ _ k), s .pre .1)
+    ((begun-ready _ _ _ _ _ k, s .pre .0 .1, s .pre .0 .2, begun-small _ _ _ _ _ k, begun-records _ _ _ _ _ k (λ i. omega (arith, c .before .before .before .before .before .before .before .shared-slice-known .given i)), begun-ordered _ _ _ _ _ k), (s .pre .1 .0, s .pre .1 .1, s .pre .1 .2, begun-tied _ _ _ _ _ k))
 
 enum-known-k : tie.Need-enum-known-k
 enum-known-k c = search needs
