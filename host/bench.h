@@ -9,4 +9,7 @@ int bench_read(word mebibytes);
 int bench_write(word mebibytes);
 int bench_update(word mebibytes);
 
+/* Measures shapes that try to be slow, over a quarter, a half and all of so many MiB. A status of the tool. */
+int bench_worst(word mebibytes);
+
 #endif

@@ -6,7 +6,7 @@
 #include "words.h"
 
 static int usage(void) {
-    return trouble("usage", "read FILE | list FILE | fields FILE RECORD | write FILE OUT | update FILE UPDATE OUT | demo .. | batch CASES | bench read|write|update [MIB]");
+    return trouble("usage", "read FILE | list FILE | fields FILE RECORD | write FILE OUT | update FILE UPDATE OUT | demo .. | batch CASES | bench read|write|update|worst [MIB]");
 }
 
 /* The largest dataset of a measurement in MiB: 16 where nothing is said, 0 where it is no number from 1 to 16. */
@@ -26,6 +26,7 @@ static int measured(int count, char **words) {
     if (mebibytes > 0 && is(words[2], "read")) return bench_read(mebibytes);
     if (mebibytes > 0 && is(words[2], "write")) return bench_write(mebibytes);
     if (mebibytes > 0 && is(words[2], "update")) return bench_update(mebibytes);
+    if (mebibytes > 0 && is(words[2], "worst")) return bench_worst(mebibytes);
     return usage();
 }
 

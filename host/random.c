@@ -19,3 +19,27 @@ void shuffled(word *state, word *numbers, word count) {
         numbers[other] = kept;
     }
 }
+
+word strewn(word i) {
+    word x = i & 0xffffffff;
+    x = ((x ^ (x >> 16)) * 0x85ebca6b) & 0xffffffff;
+    x = ((x ^ (x >> 13)) * 0xc2b2ae35) & 0xffffffff;
+    return x ^ (x >> 16);
+}
+
+/* Another of the numbers below a power of two, which is one more than the mask; different for different ones. */
+static word turned(word x, word mask) {
+    for (word round = 0; round < 3; round++) {
+        x = (x * 0x9e3779b1 + 0x7f4a7c15) & mask;
+        x ^= (x >> 3) ^ (x >> 7);
+    }
+    return x;
+}
+
+word mixed(word i, word count) {
+    word mask = 1;
+    while (mask + 1 < count) mask = 2 * mask + 1;
+    do i = turned(i, mask);
+    while (i >= count);
+    return i;
+}

@@ -13,4 +13,10 @@ word below(word *state, word limit);
 /* Puts numbers into another order. */
 void shuffled(word *state, word *numbers, word count);
 
+/* A number of 32 bits, another for each i below two to the 32nd: 1, 2, 3 .. give RCIDs in no order, the first million of them in range. */
+word strewn(word i);
+
+/* Which of 0 to count - 1 stands at place i of them in random order. */
+word mixed(word i, word count);
+
 #endif

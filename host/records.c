@@ -10,9 +10,14 @@ static void digits(byte *at, word width, word value) {
     }
 }
 
+void record_begin(struct record *r) {
+    r->a = r->b = 5;
+    r->fields = r->body = 0;
+}
+
 void field_begin(struct record *r, const char *tag) {
-    memcpy(r->directory + r->fields * ENTRY, tag, 4);
-    r->start = r->body;
+    memcpy(r->directory[r->fields].tag, tag, 4);
+    r->directory[r->fields].start = (unsigned)r->body;
 }
 
 void field_number(struct record *r, word value, word width) {
@@ -25,25 +30,45 @@ void field_text(struct record *r, const char *letters) {
 }
 
 void field_end(struct record *r) {
-    byte *entry = r->directory + r->fields * ENTRY;
+    struct entry *entry = r->directory + r->fields++;
     r->bytes[r->body++] = 0x1e;
-    digits(entry + 4, 5, r->body - r->start);
-    digits(entry + 9, 5, r->start);
-    r->fields++;
+    entry->length = (unsigned)r->body - entry->start;
+}
+
+/* Where the fields begin in a record of so many. */
+static word base_of(const struct record *r, word fields) {
+    return LEADER + fields * (4 + r->a + r->b) + 1;
 }
 
 word record_length(const struct record *r) {
-    return LEADER + r->fields * ENTRY + 1 + r->body;
+    return base_of(r, r->fields) + r->body;
+}
+
+word record_length_begun(const struct record *r) {
+    return base_of(r, r->fields + 1) + r->body + 1;
+}
+
+/* The entries of the directory, and the 1E behind them. */
+static void put_directory(byte *at, const struct record *r) {
+    for (const struct entry *entry = r->directory; entry < r->directory + r->fields; entry++) {
+        memcpy(at, entry->tag, 4);
+        digits(at + 4, r->a, entry->length);
+        digits(at + 4 + r->a, r->b, entry->start);
+        at += 4 + r->a + r->b;
+    }
+    *at = 0x1e;
 }
 
 word put_record(byte *at, const struct record *r, int first) {
-    word base = LEADER + r->fields * ENTRY + 1, length = record_length(r);
+    word base = base_of(r, r->fields), length = record_length(r);
     digits(at, 5, length);
     memcpy(at + 5, first ? "3LE1 09" : " D     ", 7);
     digits(at + 12, 5, base);
-    memcpy(at + 17, first ? " ! 5504" : "   5504", 7);
-    memcpy(at + LEADER, r->directory, r->fields * ENTRY);
-    at[base - 1] = 0x1e;
+    memcpy(at + 17, first ? " ! " : "   ", 3);
+    digits(at + 20, 1, r->a);
+    digits(at + 21, 1, r->b);
+    memcpy(at + 22, "04", 2);
+    put_directory(at + LEADER, r);
     memcpy(at + base, r->bytes, r->body);
     return length;
 }

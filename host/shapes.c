@@ -4,13 +4,8 @@ static const word RCNM[KINDS] = {150, 110, 115, 100};
 static const char *const TAG[KINDS] = {"IRID", "PRID", "MRID", "FRID"};
 static const word NO_LIMIT = 0xffffffff;
 
-/* A record of no fields yet. */
-static void anew(struct record *r) {
-    r->fields = r->body = 0;
-}
-
 void descriptive_record(struct record *r, word filling) {
-    anew(r);
+    record_begin(r);
     field_begin(r, "0000");
     for (word i = 0; i < filling; i++) field_number(r, ' ', 1);
     field_end(r);
@@ -18,7 +13,7 @@ void descriptive_record(struct record *r, word filling) {
 
 void general_record(struct record *r, word update_number) {
     static const char *const TEXTS[6] = {"S-100 Part 10a", "1.0", "INT.EZDURVASH.BENCH", "1.0", "1", "EZBENCH"};
-    anew(r);
+    record_begin(r);
     field_begin(r, "DSID");
     field_number(r, 10, 1);
     field_number(r, 1, 4);
@@ -30,7 +25,7 @@ void general_record(struct record *r, word update_number) {
 }
 
 void systems_record(struct record *r) {
-    anew(r);
+    record_begin(r);
     field_begin(r, "CSID");
     field_number(r, 15, 1);
     field_number(r, 1, 4);
@@ -39,7 +34,7 @@ void systems_record(struct record *r) {
 }
 
 void identified_record(struct record *r, int kind, word rcid, word version, word instruction) {
-    anew(r);
+    record_begin(r);
     field_begin(r, TAG[kind]);
     field_number(r, RCNM[kind], 1);
     field_number(r, rcid, 4);
@@ -57,25 +52,33 @@ void attribute_tuple(struct record *r, word code, word index, word parent, word 
     field_text(r, value);
 }
 
-void association_field(struct record *r, word rcid) {
+void association_head(struct record *r, word rcid, word code, word role, word instruction) {
     field_begin(r, "INAS");
     field_number(r, RCNM[INFORMATION], 1);
     field_number(r, rcid, 4);
-    field_number(r, 3, 2);
-    field_number(r, 4, 2);
-    field_number(r, INSERT, 1);
+    field_number(r, code, 2);
+    field_number(r, role, 2);
+    field_number(r, instruction, 1);
+}
+
+void association_field(struct record *r, word rcid) {
+    association_head(r, rcid, 3, 4, INSERT);
     attribute_tuple(r, 21, 1, 0, INSERT, "yearly");
     field_end(r);
 }
 
-void spatial_field(struct record *r, int kind, word rcid) {
-    field_begin(r, "SPAS");
+void spatial_tuple(struct record *r, int kind, word rcid, word instruction) {
     field_number(r, RCNM[kind], 1);
     field_number(r, rcid, 4);
     field_number(r, 255, 1);
     field_number(r, 0, 4);
     field_number(r, NO_LIMIT, 4);
-    field_number(r, INSERT, 1);
+    field_number(r, instruction, 1);
+}
+
+void spatial_field(struct record *r, int kind, word rcid) {
+    field_begin(r, "SPAS");
+    spatial_tuple(r, kind, rcid, INSERT);
     field_end(r);
 }
 
@@ -84,6 +87,14 @@ void object_field(struct record *r, word number) {
     field_number(r, 40, 2);
     field_number(r, number, 4);
     field_number(r, 1, 2);
+    field_end(r);
+}
+
+void control_field(struct record *r, word instruction, word place, word count) {
+    field_begin(r, "COCC");
+    field_number(r, instruction, 1);
+    field_number(r, place, 2);
+    field_number(r, count, 2);
     field_end(r);
 }
 

@@ -13,11 +13,16 @@ void general_record(struct record *r, word update_number);
 void systems_record(struct record *r);
 void identified_record(struct record *r, int kind, word rcid, word version, word instruction);
 
-/* Each of these adds a field, but for a tuple, which goes into a field that is begun. */
+/* A tuple goes into a field that is begun; the head of an INAS field begins it. */
 void attribute_tuple(struct record *r, word code, word index, word parent, word instruction, const char *value);
+void association_head(struct record *r, word rcid, word code, word role, word instruction);
+void spatial_tuple(struct record *r, int kind, word rcid, word instruction);
+
+/* Each of these adds a field. */
 void association_field(struct record *r, word rcid);
 void spatial_field(struct record *r, int kind, word rcid);
 void object_field(struct record *r, word number);
+void control_field(struct record *r, word instruction, word place, word count);
 void coordinates_field(struct record *r, const char *tag, word number, word count);
 
 #endif

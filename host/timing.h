@@ -4,13 +4,16 @@
 
 #include "system.h"
 
-enum { RUNS = 15 };
+enum { RUNS = 15, FEW = 3 };
 
 typedef void job(void *desk);
 
 /* The shortest processor times of several runs of each job in nanoseconds, at least 1. The jobs take turns, so that what slows the
    machine for a while slows all of them. Where they take long, there are fewer runs. */
 void best(job *const *jobs, word count, void *desk, word *shortest);
+
+/* The shortest of few runs of one job; of one run where that takes more than half a second. */
+word best_of_few(job *work, void *desk);
 
 double milliseconds(word nanoseconds);
 

@@ -1,0 +1,172 @@
+#include "worst.h"
+#include "random.h"
+
+/* The record that is put together. */
+static struct record r;
+
+/* A record is modified so often at most: its RVER goes from 1 to 65,534. */
+enum { MOST_MODIFIES = 65533 };
+
+static void modified_rising(struct pile *d, struct pile *u) {
+    word n = filled_with_points(d, rising, 0);
+    for (word i = 0; i < n && pile_point(u, 1 + i, 2, MODIFY); i++);
+}
+
+static void modified_falling(struct pile *d, struct pile *u) {
+    word n = filled_with_points(d, rising, 0);
+    for (word i = 0; i < n && pile_point(u, n - i, 2, MODIFY); i++);
+}
+
+static void modified_mixed(struct pile *d, struct pile *u) {
+    word n = filled_with_points(d, rising, 0);
+    for (word i = 0; i < n && pile_point(u, 1 + mixed(i, n), 2, MODIFY); i++);
+}
+
+/* Shortest modifies of so many points in turn; where their versions are used up, of as many others. */
+static void in_turn(struct pile *d, struct pile *u, word keys) {
+    word i = 0, all = keys * MOST_MODIFIES;
+    filled_with_points(d, rising, 0);
+    while (pile_bare(u, POINT, 1 + i / all * keys + i % keys, 2 + i % all / keys, MODIFY)) i++;
+}
+
+static void one_modified(struct pile *d, struct pile *u) {
+    in_turn(d, u, 1);
+}
+
+static void two_modified(struct pile *d, struct pile *u) {
+    in_turn(d, u, 2);
+}
+
+static void thousand_modified(struct pile *d, struct pile *u) {
+    in_turn(d, u, 1000);
+}
+
+/* One key comes and goes, record after record. */
+static void come_and_gone(struct pile *d, struct pile *u) {
+    word i = 0;
+    filled_with_points(d, rising, 0);
+    while (pile_bare(u, MULTI, 1, 1 + i % 2, i % 2 == 0 ? INSERT : DELETE)) i++;
+}
+
+/* All come, and then all go, in another order. */
+static void all_come_all_gone(struct pile *d, struct pile *u) {
+    word count = left(u) / (2 * BARE_LENGTH);
+    filled_with_points(d, rising, 0);
+    for (word i = 0; i < count; i++) pile_bare(u, MULTI, 1 + mixed(i, count), 1, INSERT);
+    for (word i = 0; i < count; i++) pile_bare(u, MULTI, 1 + i, 2, DELETE);
+}
+
+static void inserted_falling(struct pile *d, struct pile *u) {
+    word n = filled_with_points(d, rising, 0), count = left(u) / POINT_LENGTH;
+    for (word i = 0; i < count; i++) pile_point(u, n + count - i, 1, INSERT);
+}
+
+/* Strewn keys that a dataset of rising ones has not. */
+static void inserted_strewn(struct pile *d, struct pile *u) {
+    word n = filled_with_points(d, rising, 0);
+    for (word i = 1; left(u) >= POINT_LENGTH; i++)
+        if (strewn(i) > n) pile_point(u, strewn(i), 1, INSERT);
+}
+
+/* The dataset's keys are strewn too. */
+static void inserted_among_strewn(struct pile *d, struct pile *u) {
+    word i = 1 + filled_with_points(d, strewn, 0);
+    while (pile_point(u, strewn(i), 1, INSERT)) i++;
+}
+
+static void deleted_rising(struct pile *d, struct pile *u) {
+    word n = filled_with_bare(d, rising, 0);
+    for (word i = 0; i < n && pile_bare(u, MULTI, 1 + i, 2, DELETE); i++);
+}
+
+static void deleted_mixed(struct pile *d, struct pile *u) {
+    word n = filled_with_bare(d, rising, 0);
+    for (word i = 0; i < n && pile_bare(u, MULTI, 1 + mixed(i, n), 2, DELETE); i++);
+}
+
+/* Dataset and update name strewn keys, each in an order of its own. */
+static void strewn_mixed(struct pile *d, struct pile *u) {
+    word n = filled_with_points(d, strewn, 0);
+    for (word i = 0; i < n && pile_point(u, strewn(1 + mixed(i, n)), 2, MODIFY); i++);
+}
+
+static void shortest_strewn_mixed(struct pile *d, struct pile *u) {
+    word n = filled_with_bare(d, strewn, 0);
+    for (word i = 0; i < n && pile_bare(u, MULTI, strewn(1 + mixed(i, n)), 2, MODIFY); i++);
+}
+
+/* RCIDs whose keys share a flag of the update's 111,997; those of multi points, a few thousand at a time. */
+static word sharing_a_flag(word i) {
+    return 1 + (i * 111997) % 4294967000;
+}
+
+static void one_flag(struct pile *d, struct pile *u) {
+    word n = filled_with_bare(d, sharing_a_flag, left(d) > 38000 * BARE_LENGTH ? left(d) - 38000 * BARE_LENGTH : 0);
+    for (word i = 0; i < n && pile_bare(u, MULTI, sharing_a_flag(1 + mixed(i, n)), 2, MODIFY); i++);
+}
+
+/* A feature of this RCID that names so many of the dataset's strewn multi points, from place n of another order on. */
+static int naming(struct pile *u, word rcid, word n, word count, word most) {
+    identified_record(&r, FEATURE, rcid, 1, INSERT);
+    object_field(&r, rcid);
+    field_begin(&r, "SPAS");
+    for (word i = 0; i < most && i < count && spare(u, &r) >= 15; i++)
+        spatial_tuple(&r, MULTI, strewn(1 + mixed((n + i) % count, count)), INSERT);
+    field_end(&r);
+    return piled(u, &r);
+}
+
+static void inserted_lists(struct pile *d, struct pile *u) {
+    word count = filled_with_bare(d, strewn, 0);
+    for (word i = 0; left(u) > 200 && naming(u, 1 + i, i * 6000, count, 6000); i++);
+}
+
+/* As many features with one reference each. */
+static void inserted_single(struct pile *d, struct pile *u) {
+    word count = filled_with_bare(d, strewn, 0);
+    for (word i = 0; naming(u, 1 + i, i, count, 1); i++);
+}
+
+/* Half of the dataset names the other half; all that is named is modified. */
+static void named_modified(struct pile *d, struct pile *u) {
+    word count = filled_with_bare(d, strewn, left(d) / 2);
+    for (word i = 0; left(d) > 200 && naming(d, 1 + i, i * 6000, count, 6000); i++);
+    for (word i = 0; i < count && pile_bare(u, MULTI, strewn(1 + mixed(i, count)), 2, MODIFY); i++);
+}
+
+/* The same; the last bytes of the update delete what names and put it there again, so that all references are looked at. */
+static void named_replaced(struct pile *d, struct pile *u) {
+    word count = filled_with_bare(d, strewn, left(d) / 2), i;
+    for (i = 0; left(d) > 200 && naming(d, 1 + i, i * 6000, count, 6000); i++);
+    for (word n = 0; n < i; n++) pile_bare(u, FEATURE, 1 + n, 2, DELETE);
+    for (word n = 0; n < i; n++) naming(u, 1 + n, n * 6000 + 3000, count, 6000);
+    for (word n = 0; n < count && pile_bare(u, MULTI, strewn(1 + mixed(n, count)), 2, MODIFY); n++);
+}
+
+const struct shape SHAPES_OF_UPDATES[] = {
+    {"points modified, keys rising", UPDATES, POOL, 0, modified_rising},
+    {"points modified, keys falling", UPDATES, POOL, 0, modified_falling},
+    {"points modified, keys in random order", UPDATES, POOL, 0, modified_mixed},
+    {"one key modified over and over", UPDATES, POOL, 0, one_modified},
+    {"two keys modified in turn", UPDATES, POOL, 0, two_modified},
+    {"a thousand keys modified in turn", UPDATES, POOL, 0, thousand_modified},
+    {"one key inserted and deleted in turn", UPDATES, POOL, 0, come_and_gone},
+    {"many keys inserted, then deleted", UPDATES, POOL, 0, all_come_all_gone},
+    {"inserts, keys falling", UPDATES, POOL, 0, inserted_falling},
+    {"inserts, keys strewn", UPDATES, POOL, 0, inserted_strewn},
+    {"inserts, the dataset's keys strewn too", UPDATES, POOL, 0, inserted_among_strewn},
+    {"deletes, keys rising", UPDATES, POOL, 0, deleted_rising},
+    {"deletes, keys in random order", UPDATES, POOL, 0, deleted_mixed},
+    {"keys strewn, two random orders", UPDATES, POOL, 0, strewn_mixed},
+    {"the same, shortest records", UPDATES, POOL, 0, shortest_strewn_mixed},
+    {"keys that share one flag", UPDATES, POOL, 0, one_flag},
+    {"inserted features, 6,000 strewn references each", UPDATES, POOL, 0, inserted_lists},
+    {"inserted features, one strewn reference each", UPDATES, POOL, 0, inserted_single},
+    {"strewn records that are named, all modified", UPDATES, POOL, 0, named_modified},
+    {"what names strewn records replaced, they modified", UPDATES, POOL, 0, named_replaced},
+    {"random order, out exactly as long as the result", UPDATES, EXACT, 0, modified_mixed},
+    {"random order, out a byte too short", UPDATES, SHORT, 0, modified_mixed},
+    {"random order, out of no bytes", UPDATES, NONE, 0, modified_mixed},
+    {"two keys in turn, out of no bytes", UPDATES, NONE, 0, two_modified},
+    {0, 0, 0, 0, 0},
+};
