@@ -9,7 +9,8 @@ int bench_read(word mebibytes);
 int bench_write(word mebibytes);
 int bench_update(word mebibytes);
 
-/* Measures shapes that try to be slow, over a quarter, a half and all of so many MiB. A status of the tool. */
-int bench_worst(word mebibytes);
+/* Measures shapes that try to be slow, over a quarter, a half and all of so many bytes, at least 262,144. A status of the tool; TROUBLE
+   where one is answered otherwise than meant. */
+int bench_worst(word bytes);
 
 #endif

@@ -4,10 +4,10 @@
 #include "words.h"
 #include "worst.h"
 
-enum { MEBIBYTE = 1048576, PARTS = 3, LINES = 128 };
+enum { PARTS = 3, LINES = 128 };
 
-/* What is wanted of every shape: so many times the ordinary read, so many milliseconds for each MiB, so much growth for twice the bytes. */
-static const double MOST_TIMES = 30, MOST_MILLISECONDS = 1000.0 / 16, MOST_GROWTH = 2.3;
+/* What is wanted of every shape: so many times the ordinary read, so many milliseconds for the longest file, so much growth for twice the bytes. */
+static const double MOST_TIMES = 30, MOST_MILLISECONDS = 1000, MOST_GROWTH = 2.3;
 
 /* No larger part is tried where this one took so many nanoseconds. */
 static const word LONG = 6000000000;
@@ -92,14 +92,23 @@ static double growth(const struct fared *f) {
     return times(f->took[2], f->took[1]);
 }
 
-/* Whether a shape is above what is wanted. */
-static int above(const struct fared *f, word mebibytes) {
-    return f->took[2] == 0 || f->most_times > MOST_TIMES || milliseconds(f->took[2]) > MOST_MILLISECONDS * (double)mebibytes ||
-           growth(f) > MOST_GROWTH;
+/* How many milliseconds are wanted for so many bytes. */
+static double most_milliseconds(word bytes) {
+    return MOST_MILLISECONDS * (double)bytes / EZDURVASH_LONGEST;
+}
+
+/* Whether a shape over so many bytes is above what is wanted. */
+static int above(const struct fared *f, word bytes) {
+    return f->took[2] == 0 || f->most_times > MOST_TIMES || milliseconds(f->took[2]) > most_milliseconds(bytes) || growth(f) > MOST_GROWTH;
+}
+
+/* How many of the bytes a part has: a quarter, a half, all. */
+static word part_of(word bytes, int part) {
+    return bytes >> (PARTS - 1 - part);
 }
 
 /* One line of the table; 0 where a shape is answered otherwise than meant. */
-static int worst_line(struct fared *f, word mebibytes, const word ordinary[PARTS]) {
+static int worst_line(struct fared *f, word bytes, const word ordinary[PARTS]) {
     struct desk desk = {.shape = f->shape};
     double many = 0;
     f->most_times = 0;
@@ -110,7 +119,7 @@ static int worst_line(struct fared *f, word mebibytes, const word ordinary[PARTS
             printf(" %12s", "not tried");
             continue;
         }
-        f->took[part] = tried(&desk, mebibytes * MEBIBYTE >> (2 - part), ordinary[part], &many);
+        f->took[part] = tried(&desk, part_of(bytes, part), ordinary[part], &many);
         if (f->took[part] == 0) return 0;
         if (many > f->most_times) f->most_times = many;
         printf(" %9.1f ms", milliseconds(f->took[part]));
@@ -118,19 +127,19 @@ static int worst_line(struct fared *f, word mebibytes, const word ordinary[PARTS
     }
     printf(" %8.1f", f->most_times);
     if (f->took[2] > 0) printf(" %8.2f", growth(f));
-    printf("%s\n", above(f, mebibytes) ? "  *" : "");
+    printf("%s\n", above(f, bytes) ? "  *" : "");
     fflush(0);
     return 1;
 }
 
 /* The lines of all shapes; how many there are goes into `count`. 0 where one is answered otherwise than meant. */
-static int worst_lines(struct fared *all, word *count, word mebibytes, const word ordinary[PARTS]) {
+static int worst_lines(struct fared *all, word *count, word bytes, const word ordinary[PARTS]) {
     static const struct shape *const LISTS[] = {SHAPES_OF_DATASETS, SHAPES_OF_UPDATES, SHAPES_OF_EDITS};
     *count = 0;
     for (word list = 0; list < sizeof LISTS / sizeof *LISTS; list++) {
         for (const struct shape *shape = LISTS[list]; shape->name; shape++) {
             all[*count].shape = shape;
-            if (!worst_line(all + (*count)++, mebibytes, ordinary)) return 0;
+            if (!worst_line(all + (*count)++, bytes, ordinary)) return 0;
         }
     }
     return 1;
@@ -142,12 +151,12 @@ static void reads(void *at) {
 }
 
 /* The ordinary read of a quarter, a half and all of the bytes; 0 for trouble. */
-static int ordinary_line(word mebibytes, word ordinary[PARTS]) {
+static int ordinary_line(word bytes, word ordinary[PARTS]) {
     static job *const JOBS[] = {reads};
     struct desk desk;
     printf("%-57s", "read   a sorted dataset: the ordinary read");
     for (int part = 0; part < PARTS; part++) {
-        struct invented sorted = invented(mebibytes * MEBIBYTE >> (2 - part), 0);
+        struct invented sorted = invented(part_of(bytes, part), 0);
         if (!sorted.bytes) return 0;
         memcpy(dataset, sorted.bytes, sorted.length);
         desk.dataset.length = sorted.length;
@@ -161,28 +170,28 @@ static int ordinary_line(word mebibytes, word ordinary[PARTS]) {
 }
 
 /* What is wanted, and which lines are above it. */
-static void summed_up(const struct fared *all, word count, word mebibytes) {
+static void summed_up(const struct fared *all, word count, word bytes) {
     word many = 0;
     printf("\nwanted: at most %.0f times the ordinary read of as many bytes, at most %.0f ms for all of them, growth from half to all at most %.1f\n",
-           MOST_TIMES, MOST_MILLISECONDS * (double)mebibytes, MOST_GROWTH);
+           MOST_TIMES, most_milliseconds(bytes), MOST_GROWTH);
     for (word i = 0; i < count; i++) {
-        if (!above(all + i, mebibytes)) continue;
+        if (!above(all + i, bytes)) continue;
         if (many++ == 0) printf("above that:\n");
         printf("  %s: %s\n", CALLS[all[i].shape->call], all[i].shape->name);
     }
     printf(many ? "%lu of %lu shapes are above that\n" : "none of them is above that, of %2$lu shapes\n", many, count);
 }
 
-int bench_worst(word mebibytes) {
+int bench_worst(word bytes) {
     static struct fared all[LINES];
     word ordinary[PARTS], count;
-    char bytes[PARTS][DIGITS];
+    char digits[DIGITS];
     printf("shapes that try to be slow, processor time, best of %d runs, one where it takes long; bytes are those of dataset and update\n\n", FEW);
     printf("%-57s", "call   shape");
-    for (int part = 0; part < PARTS; part++) printf(" %12s", counted(mebibytes * MEBIBYTE >> (2 - part), bytes[part]));
+    for (int part = 0; part < PARTS; part++) printf(" %12s", counted(part_of(bytes, part), digits));
     printf("    times   growth\n");
-    if (!ordinary_line(mebibytes, ordinary)) return trouble("bench", "the ordinary dataset is not to be had");
-    if (!worst_lines(all, &count, mebibytes, ordinary)) return TROUBLE;
-    summed_up(all, count, mebibytes);
+    if (!ordinary_line(bytes, ordinary)) return trouble("bench", "the ordinary dataset is not to be had");
+    if (!worst_lines(all, &count, bytes, ordinary)) return TROUBLE;
+    summed_up(all, count, bytes);
     return DONE;
 }

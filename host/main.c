@@ -5,28 +5,31 @@
 #include "demo.h"
 #include "words.h"
 
-static int usage(void) {
-    return trouble("usage", "read FILE | list FILE | fields FILE RECORD | write FILE OUT | update FILE UPDATE OUT | demo .. | batch CASES | bench read|write|update|worst [MIB]");
-}
+enum { KIBIBYTE = 1024, MEBIBYTE = 1048576 };
 
-/* The largest dataset of a measurement in MiB: 16 where nothing is said, 0 where it is no number from 1 to 16. */
-static word size(int count, char **words) {
-    if (count < 4) return 16;
-    char *behind;
-    word mebibytes = strtoul(words[3], &behind, 10);
-    return *behind == 0 && mebibytes <= 16 ? mebibytes : 0;
+static int usage(void) {
+    return trouble("usage", "read FILE | list FILE | fields FILE RECORD | write FILE OUT | update FILE UPDATE OUT | demo .. | batch CASES | bench read|write|update [MIB] | bench worst [MIB|KIBK]");
 }
 
 static int is(const char *given, const char *wanted) {
     return strcmp(given, wanted) == 0;
 }
 
+/* The bytes of a measurement: 16 MiB where nothing is said; so many MiB, or KiB where a K stands behind them; 0 where it is no number up to 16 MiB. */
+static word size(int count, char **words) {
+    if (count < 4) return EZDURVASH_LONGEST;
+    char *behind;
+    word number = strtoul(words[3], &behind, 10);
+    if (is(behind, "K")) return number <= EZDURVASH_LONGEST / KIBIBYTE ? number * KIBIBYTE : 0;
+    return *behind == 0 && number <= EZDURVASH_LONGEST / MEBIBYTE ? number * MEBIBYTE : 0;
+}
+
 static int measured(int count, char **words) {
-    word mebibytes = size(count, words);
+    word bytes = size(count, words), mebibytes = bytes % MEBIBYTE == 0 ? bytes / MEBIBYTE : 0;
     if (mebibytes > 0 && is(words[2], "read")) return bench_read(mebibytes);
     if (mebibytes > 0 && is(words[2], "write")) return bench_write(mebibytes);
     if (mebibytes > 0 && is(words[2], "update")) return bench_update(mebibytes);
-    if (mebibytes > 0 && is(words[2], "worst")) return bench_worst(mebibytes);
+    if (bytes >= 256 * KIBIBYTE && is(words[2], "worst")) return bench_worst(bytes);
     return usage();
 }
 

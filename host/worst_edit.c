@@ -267,12 +267,25 @@ static void association_edits(struct pile *d, struct pile *u) {
     }
 }
 
+/* Multi points that are inserted with as many information associations as fit. */
+static void inserted_associations(struct pile *d, struct pile *u) {
+    pile_bare(d, INFORMATION, 1, 1, INSERT);
+    filled_with_points(d, rising, 0);
+    for (word rcid = 1; left(u) > 200; rcid++) {
+        identified_record(&r, MULTI, rcid, 1, INSERT);
+        for (word i = 1; i <= ASSOCIATIONS && spare(u, &r) >= 10; i++) {
+            association_head(&r, 1, 7, i, INSERT);
+            field_end(&r);
+        }
+        if (!piled(u, &r)) return;
+    }
+}
+
 const struct shape SHAPES_OF_EDITS[] = {
     {"attributes inserted and deleted at the front", UPDATES, POOL, 0, front_edits},
     {"attributes inserted and deleted at the end", UPDATES, POOL, 0, end_edits},
     {"attributes of many codes inserted and deleted", UPDATES, POOL, 0, code_edits},
     {"attributes inserted one in the other, and deleted", UPDATES, POOL, 0, deep_edits},
-    {"large records modified in turn", UPDATES, POOL, 0, large_in_turn},
     {"large records modified, one after the other", UPDATES, POOL, 0, large_one_by_one},
     {"the last of many values set by each modify", UPDATES, POOL, 0, last_value_set},
     {"the last of many values set by each tuple", UPDATES, POOL, 0, last_value_set_often},
@@ -283,5 +296,7 @@ const struct shape SHAPES_OF_EDITS[] = {
     {"12,000 coordinates inserted and deleted", UPDATES, POOL, 0, coordinate_edits},
     {"one of 12,000 coordinates inserted and deleted", UPDATES, POOL, 0, coordinate_single_edits},
     {"3,900 INAS inserted and deleted", UPDATES, POOL, 0, association_edits},
+    {"records inserted with 3,900 INAS each", UPDATES, POOL, 0, inserted_associations},
+    {"large records modified in turn", UPDATES, POOL, 0, large_in_turn},
     {0, 0, 0, 0, 0},
 };

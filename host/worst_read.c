@@ -70,13 +70,13 @@ static word strewn_elsewhere(word i) {
 
 static void strewn_lists(struct pile *d) {
     points_named = filled_with_points(d, strewn, d->room / 100 * 66);
-    lists(d, POINT, strewn_elsewhere, points_named, points_named);
+    lists(d, POINT, strewn_elsewhere, points_named, 100);
 }
 
 /* Half of the bytes shortest records, half references to them, where their product is largest. */
 static void shortest_lists(struct pile *d) {
     points_named = filled_with_bare(d, strewn, d->room / 2);
-    lists(d, MULTI, strewn_elsewhere, points_named, points_named);
+    lists(d, MULTI, strewn_elsewhere, points_named, 100);
 }
 
 static word named_last;
@@ -101,6 +101,18 @@ static void falling_lists(struct pile *d) {
 
 static void mixed_lists(struct pile *d) {
     full_lists(d, in_random_order);
+}
+
+/* As many SPAS fields as fit, a tuple in each, keys falling. */
+static void single_lists(struct pile *d) {
+    named_last = named_by_a_list(d);
+    for (word i = 1; i <= named_last; i++) pile_bare(d, MULTI, i, 1, INSERT);
+    for (word rcid = 1; left(d) > 200; rcid++) {
+        feature_begun(rcid);
+        r.a = 2;
+        for (word i = 1; i <= named_last && spare(d, &r) >= 15; i++) spatial_field(&r, MULTI, from_the_last(i));
+        if (!piled(d, &r)) return;
+    }
 }
 
 /* As many associations as fit in one record after the other, all different: one information type under many codes. */
@@ -148,6 +160,11 @@ static void sibling_of_another_code(word i) {
     attribute_tuple(&r, mixed(i - 1, 16384), 1, 0, INSERT, "");
 }
 
+static void sibling_behind_a_larger(word i) {
+    if (i == 1) attribute_tuple(&r, 2, 1, 0, INSERT, "");
+    else attribute_tuple(&r, 1, i - 1, 0, INSERT, "");
+}
+
 /* 4,000 entries one in the other, and then a second child for each of them, from the innermost on. */
 static void comb(word i) {
     word place = i % 8000, start = i - place;
@@ -171,6 +188,10 @@ static void broad_trees(struct pile *d) {
 
 static void motley_trees(struct pile *d) {
     trees(d, sibling_of_another_code);
+}
+
+static void behind_larger_trees(struct pile *d) {
+    trees(d, sibling_behind_a_larger);
 }
 
 static void combs(struct pile *d) {
@@ -256,10 +277,12 @@ const struct shape SHAPES_OF_DATASETS[] = {
     {"shortest records, one half references to them", READS, POOL, shortest_lists, 0},
     {"full SPAS lists, keys falling", READS, POOL, falling_lists, 0},
     {"full SPAS lists, keys in random order", READS, POOL, mixed_lists, 0},
+    {"as many SPAS fields as fit, keys falling", READS, POOL, single_lists, 0},
     {"as many INAS fields as fit", READS, POOL, associations, 0},
     {"attributes one in the other", READS, POOL, deep_trees, 0},
     {"attributes side by side, one code", READS, POOL, broad_trees, 0},
     {"attributes side by side, different codes", READS, POOL, motley_trees, 0},
+    {"attributes side by side, one code behind a larger", READS, POOL, behind_larger_trees, 0},
     {"attributes as combs", READS, POOL, combs, 0},
     {"attributes side by side in the innermost of 6,000", READS, POOL, broad_below_deep_trees, 0},
     {"directories of nine digits", READS, POOL, wide_directories, 0},

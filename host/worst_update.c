@@ -22,10 +22,9 @@ static void modified_mixed(struct pile *d, struct pile *u) {
     for (word i = 0; i < n && pile_point(u, 1 + mixed(i, n), 2, MODIFY); i++);
 }
 
-/* Shortest modifies of so many points in turn; where their versions are used up, of as many others. */
-static void in_turn(struct pile *d, struct pile *u, word keys) {
-    word i = 0, all = keys * MOST_MODIFIES;
-    filled_with_points(d, rising, 0);
+/* Shortest modifies of so many points in turn, if there are so many; where their versions are used up, of as many others. */
+static void in_turn(struct pile *d, struct pile *u, word most) {
+    word i = 0, n = filled_with_points(d, rising, 0), keys = most < n ? most : n, all = keys * MOST_MODIFIES;
     while (pile_bare(u, POINT, 1 + i / all * keys + i % keys, 2 + i % all / keys, MODIFY)) i++;
 }
 
@@ -95,6 +94,36 @@ static void shortest_strewn_mixed(struct pile *d, struct pile *u) {
     for (word i = 0; i < n && pile_bare(u, MULTI, strewn(1 + mixed(i, n)), 2, MODIFY); i++);
 }
 
+static word falling(word i) {
+    return 500000 - i;
+}
+
+/* Keys that have their place in every map, but do not ascend in the dataset. */
+static void modified_in_falling(struct pile *d, struct pile *u) {
+    word n = filled_with_points(d, falling, 0);
+    for (word i = 0; i < n && pile_point(u, falling(n - i), 2, MODIFY); i++);
+}
+
+/* The dataset's keys ascend, but for the first two. */
+static word all_but_the_first(word i) {
+    return i == 1 ? 2 : i == 2 ? 1 : i;
+}
+
+static void inserted_among_rising(struct pile *d, struct pile *u) {
+    word n = filled_with_points(d, all_but_the_first, 0);
+    for (word i = 1; left(u) >= POINT_LENGTH; i++)
+        if (strewn(i) > n) pile_point(u, strewn(i), 1, INSERT);
+}
+
+/* The dataset's records are deleted and put in again. */
+static void replaced(struct pile *d, struct pile *u) {
+    word n = filled_with_bare(d, rising, 0);
+    for (word i = 0; i < n; i++) {
+        word rcid = 1 + mixed(i, n);
+        if (!pile_bare(u, MULTI, rcid, 2, DELETE) || !pile_bare(u, MULTI, rcid, 1, INSERT)) return;
+    }
+}
+
 /* RCIDs whose keys share a flag of the update's 111,997; those of multi points, a few thousand at a time. */
 static word sharing_a_flag(word i) {
     return 1 + (i * 111997) % 4294967000;
@@ -159,12 +188,16 @@ const struct shape SHAPES_OF_UPDATES[] = {
     {"deletes, keys in random order", UPDATES, POOL, 0, deleted_mixed},
     {"keys strewn, two random orders", UPDATES, POOL, 0, strewn_mixed},
     {"the same, shortest records", UPDATES, POOL, 0, shortest_strewn_mixed},
+    {"the dataset's keys falling, modified rising", UPDATES, POOL, 0, modified_in_falling},
+    {"inserts, the dataset's keys rising but for two", UPDATES, POOL, 0, inserted_among_rising},
+    {"records deleted and put in again", UPDATES, POOL, 0, replaced},
     {"keys that share one flag", UPDATES, POOL, 0, one_flag},
     {"inserted features, 6,000 strewn references each", UPDATES, POOL, 0, inserted_lists},
     {"inserted features, one strewn reference each", UPDATES, POOL, 0, inserted_single},
     {"strewn records that are named, all modified", UPDATES, POOL, 0, named_modified},
     {"what names strewn records replaced, they modified", UPDATES, POOL, 0, named_replaced},
     {"random order, out exactly as long as the result", UPDATES, EXACT, 0, modified_mixed},
+    {"inserts, out exactly as long as the result", UPDATES, EXACT, 0, inserted_strewn},
     {"random order, out a byte too short", UPDATES, SHORT, 0, modified_mixed},
     {"random order, out of no bytes", UPDATES, NONE, 0, modified_mixed},
     {"two keys in turn, out of no bytes", UPDATES, NONE, 0, two_modified},
