@@ -198,23 +198,30 @@ static void spatial_edits(struct pile *d, struct pile *u) {
     }
 }
 
-/* Modifies of a feature with a full list that put in one more, and take it out again. */
-static void spatial_single_edits(struct pile *d, struct pile *u) {
-    word count = least(SPATIALS, left(d) / 120), i = 0;
-    filled_with_points(d, rising, count * (BARE_LENGTH + 15) + 200);
-    for (word n = 1; n <= count; n++) pile_bare(d, MULTI, n, 1, INSERT);
-    identified_record(&r, FEATURE, 1, 1, INSERT);
-    object_field(&r, 1);
-    field_begin(&r, "SPAS");
-    for (word n = 1; n < count; n++) spatial_tuple(&r, MULTI, n, INSERT);
-    field_end(&r);
-    piled(d, &r);
+/* Feature rcid with a list of so many multi points, and as many such features as fit. */
+static word listed_dataset(struct pile *d, word count) {
+    word records = 0;
+    for (word i = 1; i <= count + 1; i++) pile_bare(d, MULTI, i, 1, INSERT);
     do {
-        modify(FEATURE, 1, i);
+        identified_record(&r, FEATURE, records + 1, 1, INSERT);
+        object_field(&r, records + 1);
         field_begin(&r, "SPAS");
-        spatial_tuple(&r, MULTI, count, i % 2 ? DELETE : INSERT);
+        for (word i = 1; i <= count; i++) spatial_tuple(&r, MULTI, i, INSERT);
         field_end(&r);
-    } while (++i < 65000 && piled(u, &r));
+    } while (piled(d, &r) && ++records);
+    return records;
+}
+
+/* Modifies of features with full lists that put in one more, and take it out again, in one feature after the other. */
+static void spatial_single_edits(struct pile *d, struct pile *u) {
+    word count = least(SPATIALS, left(d) / 120), records = listed_dataset(d, count), i = 0, each = left(u) / 75 / records + 2;
+    do {
+        modify(FEATURE, 1 + i / each, i % each);
+        field_begin(&r, "SPAS");
+        spatial_tuple(&r, MULTI, count + 1, i % each % 2 ? DELETE : INSERT);
+        field_end(&r);
+        i++;
+    } while (piled(u, &r));
 }
 
 /* Modifies of an empty multi point that put in as many coordinate tuples as fit before the first, and take them out again. */

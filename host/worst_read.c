@@ -8,10 +8,11 @@ static word falling(word i) {
     return 1000000 - i;
 }
 
-/* How many records a list may name: as many as have room in one, and no more than a quarter of the bytes in the shortest form. */
-static word named_by_a_list(const struct pile *d) {
-    word most = d->room / (4 * BARE_LENGTH);
-    return most < 6660 ? most : 6660;
+/* The points that a list names: as many as have room in one, and no more than a quarter of the bytes. */
+static word points_for_a_list(struct pile *d) {
+    word room = d->room / (4 * POINT_LENGTH), most = room < 6660 ? room : 6660;
+    for (word i = 1; i <= most; i++) pile_point(d, i, 1, INSERT);
+    return most;
 }
 
 static void feature_begun(word rcid) {
@@ -90,9 +91,8 @@ static word in_random_order(word i) {
 
 /* Lists of as many tuples as fit, each naming the same records. */
 static void full_lists(struct pile *d, word (*order)(word)) {
-    named_last = named_by_a_list(d);
-    for (word i = 1; i <= named_last; i++) pile_bare(d, MULTI, i, 1, INSERT);
-    lists(d, MULTI, order, named_last, named_last);
+    named_last = points_for_a_list(d);
+    lists(d, POINT, order, named_last, named_last);
 }
 
 static void falling_lists(struct pile *d) {
@@ -105,12 +105,11 @@ static void mixed_lists(struct pile *d) {
 
 /* As many SPAS fields as fit, a tuple in each, keys falling. */
 static void single_lists(struct pile *d) {
-    named_last = named_by_a_list(d);
-    for (word i = 1; i <= named_last; i++) pile_bare(d, MULTI, i, 1, INSERT);
+    named_last = points_for_a_list(d);
     for (word rcid = 1; left(d) > 200; rcid++) {
         feature_begun(rcid);
         r.a = 2;
-        for (word i = 1; i <= named_last && spare(d, &r) >= 15; i++) spatial_field(&r, MULTI, from_the_last(i));
+        for (word i = 1; i <= named_last && spare(d, &r) >= 15; i++) spatial_field(&r, POINT, from_the_last(i));
         if (!piled(d, &r)) return;
     }
 }

@@ -134,42 +134,42 @@ static void one_flag(struct pile *d, struct pile *u) {
     for (word i = 0; i < n && pile_bare(u, MULTI, sharing_a_flag(1 + mixed(i, n)), 2, MODIFY); i++);
 }
 
-/* A feature of this RCID that names so many of the dataset's strewn multi points, from place n of another order on. */
+/* A feature of this RCID that names so many of the dataset's strewn points, from place n of another order on. */
 static int naming(struct pile *u, word rcid, word n, word count, word most) {
     identified_record(&r, FEATURE, rcid, 1, INSERT);
     object_field(&r, rcid);
     field_begin(&r, "SPAS");
     for (word i = 0; i < most && i < count && spare(u, &r) >= 15; i++)
-        spatial_tuple(&r, MULTI, strewn(1 + mixed((n + i) % count, count)), INSERT);
+        spatial_tuple(&r, POINT, strewn(1 + mixed((n + i) % count, count)), INSERT);
     field_end(&r);
     return piled(u, &r);
 }
 
 static void inserted_lists(struct pile *d, struct pile *u) {
-    word count = filled_with_bare(d, strewn, 0);
+    word count = filled_with_points(d, strewn, 0);
     for (word i = 0; left(u) > 200 && naming(u, 1 + i, i * 6000, count, 6000); i++);
 }
 
 /* As many features with one reference each. */
 static void inserted_single(struct pile *d, struct pile *u) {
-    word count = filled_with_bare(d, strewn, 0);
+    word count = filled_with_points(d, strewn, 0);
     for (word i = 0; naming(u, 1 + i, i, count, 1); i++);
 }
 
 /* Half of the dataset names the other half; all that is named is modified. */
 static void named_modified(struct pile *d, struct pile *u) {
-    word count = filled_with_bare(d, strewn, left(d) / 2);
+    word count = filled_with_points(d, strewn, left(d) / 2);
     for (word i = 0; left(d) > 200 && naming(d, 1 + i, i * 6000, count, 6000); i++);
-    for (word i = 0; i < count && pile_bare(u, MULTI, strewn(1 + mixed(i, count)), 2, MODIFY); i++);
+    for (word i = 0; i < count && pile_bare(u, POINT, strewn(1 + mixed(i, count)), 2, MODIFY); i++);
 }
 
 /* The same; the last bytes of the update delete what names and put it there again, so that all references are looked at. */
 static void named_replaced(struct pile *d, struct pile *u) {
-    word count = filled_with_bare(d, strewn, left(d) / 2), i;
+    word count = filled_with_points(d, strewn, left(d) / 2), i;
     for (i = 0; left(d) > 200 && naming(d, 1 + i, i * 6000, count, 6000); i++);
     for (word n = 0; n < i; n++) pile_bare(u, FEATURE, 1 + n, 2, DELETE);
     for (word n = 0; n < i; n++) naming(u, 1 + n, n * 6000 + 3000, count, 6000);
-    for (word n = 0; n < count && pile_bare(u, MULTI, strewn(1 + mixed(n, count)), 2, MODIFY); n++);
+    for (word n = 0; n < count && pile_bare(u, POINT, strewn(1 + mixed(n, count)), 2, MODIFY); n++);
 }
 
 const struct shape SHAPES_OF_UPDATES[] = {
