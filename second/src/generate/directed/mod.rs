@@ -7,6 +7,7 @@ mod fields;
 mod files;
 mod keys;
 mod listings;
+mod many;
 mod order;
 mod sizes;
 mod skeleton;
@@ -74,6 +75,7 @@ fn small_table() -> Table {
     order::rows(&mut table);
     sizes::rows(&mut table);
     listings::rows(&mut table);
+    many::rows(&mut table);
     table
 }
 
