@@ -112,7 +112,7 @@ static int worst_line(struct fared *f, word bytes, const word ordinary[PARTS]) {
     struct desk desk = {.shape = f->shape};
     double many = 0;
     f->most_times = 0;
-    printf("%-6s %-50s", CALLS[f->shape->call], f->shape->name);
+    printf("%-6s %-54s", CALLS[f->shape->call], f->shape->name);
     for (int part = 0; part < PARTS; part++) {
         f->took[part] = 0;
         if (part > 0 && (f->took[part - 1] == 0 || f->took[part - 1] > LONG)) {
@@ -154,7 +154,7 @@ static void reads(void *at) {
 static int ordinary_line(word bytes, word ordinary[PARTS]) {
     static job *const JOBS[] = {reads};
     struct desk desk;
-    printf("%-57s", "read   a sorted dataset: the ordinary read");
+    printf("%-61s", "read   a sorted dataset: the ordinary read");
     for (int part = 0; part < PARTS; part++) {
         struct invented sorted = invented(part_of(bytes, part), 0);
         if (!sorted.bytes) return 0;
@@ -187,7 +187,7 @@ int bench_worst(word bytes) {
     word ordinary[PARTS], count;
     char digits[DIGITS];
     printf("shapes that try to be slow, processor time, best of %d runs, one where it takes long; bytes are those of dataset and update\n\n", FEW);
-    printf("%-57s", "call   shape");
+    printf("%-61s", "call   shape");
     for (int part = 0; part < PARTS; part++) printf(" %12s", counted(part_of(bytes, part), digits));
     printf("    times   growth\n");
     if (!ordinary_line(bytes, ordinary)) return trouble("bench", "the ordinary dataset is not to be had");

@@ -274,6 +274,37 @@ static void association_edits(struct pile *d, struct pile *u) {
     }
 }
 
+/* Modifies of feature 1 with as many empty SPAS fields as fit. */
+static void empty_fields(struct pile *d, struct pile *u) {
+    one_feature(d, 1);
+    for (word i = 0; left(u) > 200; i++) {
+        modify(FEATURE, 1, i);
+        r.a = 2;
+        while (spare(u, &r) > 0) {
+            field_begin(&r, "SPAS");
+            field_end(&r);
+        }
+        if (!piled(u, &r)) return;
+    }
+}
+
+/* Multi points of as many fields as fit, a tuple in each, all of them modified over and over by moving all of their tuples. */
+static void many_fields_moved(struct pile *d, struct pile *u) {
+    word count = least(4900, left(d) / 24), records = 0;
+    do {
+        identified_record(&r, MULTI, records + 1, 1, INSERT);
+        r.a = 1;
+        for (word i = 0; i < count; i++) coordinates_field(&r, "C2IL", i, 1);
+    } while (piled(d, &r) && ++records);
+    for (word i = 0;; i++) {
+        modify(MULTI, 1 + i % records, i / records);
+        r.a = 1;
+        control_field(&r, MODIFY, 1, count);
+        for (word n = 0; n < count; n++) coordinates_field(&r, "C2IL", n, 1);
+        if (!piled(u, &r)) return;
+    }
+}
+
 /* Multi points that are inserted with as many information associations as fit. */
 static void inserted_associations(struct pile *d, struct pile *u) {
     pile_bare(d, INFORMATION, 1, 1, INSERT);
@@ -304,6 +335,8 @@ const struct shape SHAPES_OF_EDITS[] = {
     {"one of 12,000 coordinates inserted and deleted", UPDATES, POOL, 0, coordinate_single_edits},
     {"3,900 INAS inserted and deleted", UPDATES, POOL, 0, association_edits},
     {"records inserted with 3,900 INAS each", UPDATES, POOL, 0, inserted_associations},
+    {"modifies of as many empty fields as fit", UPDATES, POOL, 0, empty_fields},
+    {"multi points of 4,900 fields, all tuples moved", UPDATES, POOL, 0, many_fields_moved},
     {"large records modified in turn", UPDATES, POOL, 0, large_in_turn},
     {0, 0, 0, 0, 0},
 };

@@ -163,7 +163,36 @@ static void named_modified(struct pile *d, struct pile *u) {
     for (word i = 0; i < count && pile_bare(u, POINT, strewn(1 + mixed(i, count)), 2, MODIFY); i++);
 }
 
-/* The same; the last bytes of the update delete what names and put it there again, so that all references are looked at. */
+/* Features that all name the same four points. */
+static void named_by_all(struct pile *d) {
+    word i = 0;
+    for (word rcid = 1; rcid <= 4; rcid++) pile_point(d, rcid, 1, INSERT);
+    do {
+        identified_record(&r, FEATURE, ++i, 1, INSERT);
+        object_field(&r, i);
+        field_begin(&r, "SPAS");
+        for (word rcid = 1; rcid <= 4; rcid++) spatial_tuple(&r, POINT, rcid, INSERT);
+        field_end(&r);
+    } while (piled(d, &r));
+}
+
+/* What all features name is modified over and over, as often as versions allow. */
+static void named_by_all_modified(struct pile *d, struct pile *u) {
+    word i = 0;
+    named_by_all(d);
+    while (pile_bare(u, POINT, 1 + i / MOST_MODIFIES, 2 + i % MOST_MODIFIES, MODIFY)) i++;
+}
+
+/* The first of what all features name comes and goes, and comes in the end. */
+static void named_by_all_come_and_gone(struct pile *d, struct pile *u) {
+    named_by_all(d);
+    while (left(u) >= BARE_LENGTH + POINT_LENGTH) {
+        pile_bare(u, POINT, 1, 2, DELETE);
+        pile_point(u, 1, 1, INSERT);
+    }
+}
+
+/* What names is deleted and put in again in another order, so that all its references are looked at, and what is named is modified. */
 static void named_replaced(struct pile *d, struct pile *u) {
     word count = filled_with_points(d, strewn, left(d) / 2), i;
     for (i = 0; left(d) > 200 && naming(d, 1 + i, i * 6000, count, 6000); i++);
@@ -196,6 +225,8 @@ const struct shape SHAPES_OF_UPDATES[] = {
     {"inserted features, one strewn reference each", UPDATES, POOL, 0, inserted_single},
     {"strewn records that are named, all modified", UPDATES, POOL, 0, named_modified},
     {"what names strewn records replaced, they modified", UPDATES, POOL, 0, named_replaced},
+    {"points that all features name, modified over and over", UPDATES, POOL, 0, named_by_all_modified},
+    {"a point that all features name, deleted and inserted", UPDATES, POOL, 0, named_by_all_come_and_gone},
     {"random order, out exactly as long as the result", UPDATES, EXACT, 0, modified_mixed},
     {"inserts, out exactly as long as the result", UPDATES, EXACT, 0, inserted_strewn},
     {"random order, out a byte too short", UPDATES, SHORT, 0, modified_mixed},
