@@ -4,7 +4,7 @@ use mathlib.Core.Path.{_≡_, refl, sym, ap, _∙_}
 use mathlib.Core.Bool.{Bool, true, false, not}
 use mathlib.Core.List.{List, [], _∷_, _++_}
 use native.Mathlib.Omega.{arith}
-use borrow.Author.Tests.{ne-eqb}
+use borrow.Author.Tests.{eq-eqb, ne-eqb}
 use lib.ListN.{length}
 use lib.Dec.{eqb}
 use Rattle.base.specs.Choice.{pick, both, either}
@@ -20,8 +20,8 @@ use Rattle.keys.specs.Listed.{keyOf, listed}
 use Rattle.keys.specs.Look.{lookAt, Sound}
 use Rattle.keys.specs.declared.look.Look.the-variants.{At}
 use Rattle.keys.proofs.ListLaws.{not-first, not-later}
-use Rattle.sorting.specs.Places.{Leads, here, over, Skips, Next}
-use Rattle.sorting.proofs.PlaceLaws.{leads-then, next-leads, next-up}
+use Rattle.sorting.specs.Places.{Leads, here, over, Names, Skips, Next, Late, at-start, at-one}
+use Rattle.sorting.proofs.PlaceLaws.{Mid, Front, front-of, leads-mid, leads-sound, leads-then, next-leads, next-up}
 use Rattle.composing.specs.Acts.{ruinWith, fateOf, deletedOf, fateFrom, deletedFrom}
 use Rattle.composing.proofs.ActsLaws.{turn-sound, turn-falls, fate-on, deleted-on}
 
@@ -54,8 +54,34 @@ pub record Going (u : List ℕ) (us key : ℕ) (before : Bool) (p : ℕ) (stands
   pub leads : Leads u us p
   pub answer : fateFrom u p key stands ≡ fateFrom u us key before
 
-pub going-start : (u : List ℕ) (us key r : ℕ) (before : Bool) → Next u key us r → Going u us key before r before
-going-start u us key r before n = record { sound = n .sound; leads = n .leads; answer = sym (fate-skip u key us r before (n .skips)) }
+-- what stood before a record that names the key does not matter
+fate-set : (key : ℕ) (xs : List (List Field)) (y : List Field) (ys : List (List Field)) (b c : Bool) → keyOf y ≡ key → fateOf key (xs ++ (y ∷ ys)) b ≡ fateOf key (y ∷ ys) c
+unfolding fateOf
+fate-set key [] y ys b c e =
+    let own : (t : Bool) → fateOf key (y ∷ ys) t ≡ fateOf key ys (not (eqb (ruinWith key y) 2))
+    = λ t. ap (λ (h : Bool). fateOf key ys (pick h (not (eqb (ruinWith key y) 2)) t)) (eq-eqb (keyOf y) key e) in
+    own b ∙ sym (own c)
+fate-set key (x ∷ xs) y ys b c e = fate-set key xs y ys (pick (eqb (keyOf x) key) (not (eqb (ruinWith key x) 2)) b) c e
+
+fate-late : (u : List ℕ) (us key p : ℕ) (b : Bool) → Sound u us → Late u us key p → fateFrom u us key b ≡ fateFrom u p key b
+unfolding fateFrom
+fate-late u us key p b s at-start = refl
+fate-late u us key p b s (at-one n) =
+    let m = leads-mid s (n .leads) in
+    let f = front-of u p (n .len) key (leads-sound (n .leads) s) (n .look) in
+    ap (λ (l : List (List Field)). fateOf key l b) (m .split ∙ ap (λ (l : List (List Field)). m .mid ++ l) (f .split))
+    ∙ fate-set key (m .mid) (f .fields) ((recordsFrom u (p + n .len)) .items) b b (f .key-of) ∙ ap (λ (l : List (List Field)). fateOf key l b) (sym (f .split))
+
+pub late-leads : {u : List ℕ} {us key p : ℕ} → Late u us key p → Leads u us p
+late-leads at-start = here
+late-leads (at-one n) = n .leads
+
+pub going-start : (u : List ℕ) (us key from r : ℕ) (before : Bool) → Sound u us → Late u us key from → Next u key from r → Going u us key before r before
+going-start u us key from r before s t n = record {
+  sound = n .sound;
+  leads = next-leads (late-leads t) n;
+  answer = sym (fate-late u us key from before s t ∙ fate-skip u key from r before (n .skips));
+}
 
 module _ (u : List ℕ) (us key : ℕ) (before : Bool) (p : ℕ) (stands : Bool) (a : Going u us key before p stands) (l : p < length u) (h : Head) (eh : h ≡ statedAt u p)
     (len base s b : ℕ) (x : h ≡ Good len base s b) where

@@ -7,6 +7,7 @@ use skeleton::file::stated_at;
 use skeleton::leader::Head;
 use skeleton::place::Place;
 use skeleton::place::place_at;
+use sorting::index::late;
 use sorting::index::next;
 ghost use mathlib.Core.Path.{_≡_};
 ghost use mathlib.Core.Bool.{not};
@@ -84,12 +85,14 @@ pub fn deleted_from(u: &[u8], us: usize, index: &[u8], from: usize, key: u64) ->
     gone
 }
 
-// Whether a record stands under the key after the update records from us on, found by an index of them; before: whether one stood.
+// Whether a record stands under the key after the update records from us on, found by an index of them; before: whether one stood. The last that names it
+// decides alone.
 pub fn fate(u: &[u8], us: usize, index: &[u8], key: u64, before: bool) -> bool
     requires { ⌜ Sound (now u) us × Indexed (now u) us (now index) ⌝ }
     ensures { λ b. ⌜ b ≡ fateFrom (now (u .entry)) us key before ⌝ }
 {
-    let mut p = next(u, us, index, us, key);
+    let from = late(u, us, index, key);
+    let mut p = next(u, us, index, from, key);
     let mut stands = before;
     while p < u.len() {
         match stated_at(u, p) {

@@ -21,7 +21,7 @@ use Rattle.keys.proofs.ListLaws.{listed-here, listed-later, listed-none, not-fi
 use Rattle.keys.proofs.LookLaws.{Found}
 use Rattle.keys.proofs.SoundLaws.{Next as Follows, sound-nothing}
 use Rattle.sorting.specs.Places.{Leads, here, over, Names, Skips, Next}
-use Rattle.sorting.proofs.PlaceLaws.{follows, same-look, leads-sound, leads-up, leads-on}
+use Rattle.sorting.proofs.PlaceLaws.{Mid, leads-mid, follows, same-look, leads-sound, leads-up, leads-on}
 use Rattle.history.specs.Here.{recordHere, recordsUpTo}
 use Rattle.history.proofs.HereLaws.{here-keyed}
 
@@ -61,10 +61,6 @@ sound-first u q s h = go (lookAt u q) refl
     go Nothing x = absurd (sound-nothing u q s Nothing x h refl)
     go (At len key) x = here-keyed u q key (keysFrom u (q + len)) (follows u q len key s (sym x) .found .keys) .0
 
-record Mid (u : List ℕ) (p q : ℕ) : Type 0 where
-  mid : List (List Field)
-  split : (recordsFrom u p) .items ≡ mid ++ (recordsFrom u q) .items
-
 -- a record, its key, and those behind it
 one-over : (u : List ℕ) (p len key : ℕ) → Sound u p → lookAt u p ≡ At len key
     → ((recordsFrom u p) .items ≡ recordHere u p ∷ (recordsFrom u (p + len)) .items) × (keyOf (recordHere u p) ≡ key)
@@ -72,12 +68,6 @@ one-over u p len key s e =
     let f = follows u p len key s e .found in
     let h = here-keyed u p key (keysFrom u (p + len)) (f .keys) in
     (h .0 ∙ ap (λ (l : List (List Field)). recordHere u p ∷ l) (f .later), h .1)
-
-leads-mid : {u : List ℕ} {p q : ℕ} → Sound u p → Leads u p q → Mid u p q
-leads-mid s here = record { mid = []; split = refl }
-leads-mid {u} {p} {q} s (over {len} {key} e l) =
-    let m = leads-mid (follows u p len key s e .sound) l in
-    record { mid = recordHere u p ∷ m .mid; split = one-over u p len key s e .0 ∙ ap (λ (l : List (List Field)). recordHere u p ∷ l) (m .split) }
 
 -- a place that is behind a record is not before the record's end
 pub leads-past : {u : List ℕ} {p q len key : ℕ} → Sound u p → lookAt u p ≡ At len key → Leads u p q → p < q → Leads u (p + len) q

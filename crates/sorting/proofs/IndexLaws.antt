@@ -14,7 +14,7 @@ use Rattle.keys.specs.declared.look.Look.the-variants.{At, Nothing}
 use Rattle.keys.proofs.LookLaws.{Found}
 use Rattle.keys.proofs.SoundLaws.{Next as Follows, sound-nothing, sound-bounds}
 use Rattle.sorting.specs.Numbers.{numberAt, Stored, Has, Mixed, Ascends, Parted}
-use Rattle.sorting.specs.Places.{Leads, here, over, Names, Skips, Next, weightOf, Entry, Filled, Sorted, Indexed}
+use Rattle.sorting.specs.Places.{Leads, here, over, Names, Skips, Next, Late, at-start, at-one, weightOf, Entry, Filled, Sorted, Indexed}
 use Rattle.sorting.proofs.NumberLaws.{weak}
 use Rattle.sorting.proofs.PlaceLaws.{follows, same-look, leads-sound, leads-up, leads-then, leads-on, leads-end, skips-none, skips-over, skips-to}
 
@@ -301,3 +301,22 @@ module _ (u : List ℕ) (us n : ℕ) (s : List ℕ) (o : Sound u us) (x : Sorted
 
 pub index-place : (u : List ℕ) (us p : ℕ) → Sound u us → Leads u us p → (Sound u p) × (p ≤ 16777216)
 index-place u us p o l = let s = leads-sound l o in let i = s .inside in let m = s .small in (s, omega arith)
+
+-- ---- `late`
+
+pub late-found : (u : List ℕ) (us n : ℕ) (s : List ℕ) → Sound u us → Sorted u us n s → (key low i : ℕ) → low ≡ weightOf key 0 → Parted n s (low + 16777216) i → 0 < i
+    → (w : ℕ) → w ≡ numberAt s (i - 1) → low ≤ w → Late u us key (w - low)
+late-found u us n s o x key low i is-low b h w is-w l =
+    let inside = b .inside in
+    let below = b .below (i - 1) (omega arith) in
+    let entry = x .filled .each-one w (record { place = i - 1; inside = omega arith; is = sym is-w }) in
+    let in-u = names-inside o (entry .names) in
+    let small = o .small in
+    let is = entry .is in
+    let k : entry .key ≡ key = omega arith in
+    let p : entry .place ≡ w - low = omega arith in
+    at-one (record {
+      leads = subst (Leads u us) p (entry .names .leads);
+      len = entry .names .len;
+      look = ap (lookAt u) (sym p) ∙ entry .names .look ∙ ap (At (entry .names .len)) k;
+    })

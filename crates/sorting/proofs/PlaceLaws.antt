@@ -81,6 +81,31 @@ to-end u (suc n) p h s = one-further u p s (λ len l t. to-end u n (p + len) (om
 pub leads-end : (u : List ℕ) (p : ℕ) → Sound u p → Leads u p (length u)
 leads-end u p s = to-end u (length u) p (omega arith) s
 
+-- what lies between two places
+pub record Mid (u : List ℕ) (p q : ℕ) : Type 0 where
+  pub mid : List (List Field)
+  pub split : (recordsFrom u p) .items ≡ mid ++ (recordsFrom u q) .items
+
+-- a record with its key, and those behind it
+pub record Front (u : List ℕ) (p len key : ℕ) : Type 0 where
+  pub fields : List Field
+  pub split : (recordsFrom u p) .items ≡ fields ∷ (recordsFrom u (p + len)) .items
+  pub key-of : keyOf fields ≡ key
+
+pub front-of : (u : List ℕ) (p len key : ℕ) → Sound u p → lookAt u p ≡ At len key → Front u p len key
+unfolding keysFrom
+front-of u p len key s e =
+    let f = follows u p len key s e .found in
+    let i = first-of key (keysFrom u (p + len)) ((recordsFrom u p) .items) (f .keys) in
+    record { fields = i .fields; split = i .split ∙ ap (λ (l : List (List Field)). i .fields ∷ l) (f .later); key-of = i .key }
+
+pub leads-mid : {u : List ℕ} {p q : ℕ} → Sound u p → Leads u p q → Mid u p q
+leads-mid s here = record { mid = []; split = refl }
+leads-mid {u} {p} {q} s (over {len} {key} e l) =
+    let f = front-of u p len key s e in
+    let m = leads-mid (follows u p len key s e .sound) l in
+    record { mid = f .fields ∷ m .mid; split = f .split ∙ ap (λ (l : List (List Field)). f .fields ∷ l) (m .split) }
+
 -- ---- what is skipped
 
 pub skips-none : (u : List ℕ) (key p : ℕ) → Skips u key p p

@@ -36,6 +36,11 @@ pub record Next (u : List ℕ) (key p r : ℕ) : Type 0 where
   pub skips : Skips u key p r
   pub names : r < length u → Names u p key r
 
+-- p is the place of one of the records from us on that names the key, or the first place of all
+pub data Late (u : List ℕ) (us key : ℕ) : ℕ → Type 0 where
+  at-start : Late u us key us
+  at-one : {p : ℕ} → Names u us key p → Late u us key p
+
 -- ---- the index
 
 -- the number of a record in the index: by its key, and then by its place

@@ -11,7 +11,7 @@ ghost use mathlib.Core.Bool.{true};
 ghost use Prim.Native.Nat.{ℕ, _*_, _≤_, _<_};
 ghost use lib.ListN.{length, drop};
 ghost use Rattle.keys.specs.Look.{Sound};
-ghost use Rattle.sorting.specs.Places.{Leads, Next, weightOf, Filled, Sorted, Indexed};
+ghost use Rattle.sorting.specs.Places.{Leads, Next, Late, weightOf, Filled, Sorted, Indexed};
 
 // The number of the record at p, which names the key.
 fn weight(key: u64, p: usize) -> usize
@@ -144,6 +144,30 @@ pub fn next(u: &[u8], us: usize, index: &[u8], p: usize, key: u64) -> usize
     let x = number_at(index, i);
     if low + 16777216 <= x {
         return u.len();
+    }
+    x - low
+}
+
+// One of the records from us on that names the key, by an index the last of them; us where there is no index or none is found.
+pub fn late(u: &[u8], us: usize, index: &[u8], key: u64) -> usize
+    requires { ⌜ Sound (now u) us × Indexed (now u) us (now index) ⌝ }
+    ensures { λ p. ⌜ Late (now (u .entry)) us key p ⌝ }
+{
+    let n = index.len() / 8;
+    if n == 0 {
+        return us;
+    }
+    if 549755813888 <= key {
+        return us;
+    }
+    let low = weight(key, 0);
+    let i = first_from(index, n, low + 16777216);
+    if i == 0 {
+        return us;
+    }
+    let x = number_at(index, i - 1);
+    if x < low {
+        return us;
     }
     x - low
 }

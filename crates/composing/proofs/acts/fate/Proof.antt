@@ -1,6 +1,5 @@
 use Rattle.composing.proofs.ActsLaws.{acts-turn, fate-over}
-use Rattle.composing.proofs.NextLaws.{Going, going-start, going-leads, going-falls, going-more}
-use Rattle.sorting.specs.Places.{here}
+use Rattle.composing.proofs.NextLaws.{Going, late-leads, going-start, going-leads, going-falls, going-more}
 use lib.ListN.{length}
 use Prim.Native.Nat.{_-_}
 use borrow.Author.Needs.{needs}
@@ -8,16 +7,19 @@ use Rattle.composing.proofs.acts.fate.Statement.{statement}
 use Rattle.composing.proofs.acts.fate.Tie as tie
 
 abbrev Inv-loop : tie.InvT-loop
-Inv-loop u us index key before p₀ stands₀ p stands = Going u us key before p stands
+Inv-loop u us index key before from p₀ stands₀ p stands = Going u us key before p stands
 
 abbrev μ-loop : tie.MeasureT-loop
-μ-loop u us index key before p₀ stands₀ p stands = length u - p
+μ-loop u us index key before from p₀ stands₀ p stands = length u - p
+
+late-requires : tie.Need-late-requires Inv-loop μ-loop
+late-requires c κs = search needs
 
 next-requires : tie.Need-next-requires Inv-loop μ-loop
-next-requires c κs = (c .before .before .pre .0, here, c .before .before .pre .1)
+next-requires c κs = (c .before .before .before .pre .0, late-leads (c .late .ensures), c .before .before .before .pre .1)
 
 loop-holds : tie.Need-loop-holds Inv-loop μ-loop
-loop-holds c = going-start _ _ _ _ _ (c .next .ensures)
+loop-holds c = going-start _ _ _ _ _ _ (c .before .before .before .before .pre .0) (c .before .late .ensures) (c .next .ensures)
 
 stated-at-requires : tie.Need-stated-at-requires Inv-loop μ-loop
 stated-at-requires c κs = search acts-turn
@@ -50,7 +52,7 @@ add-next : tie.Need-add-next Inv-loop μ-loop
 add-next c = search acts-turn
 
 next-requires-2 : tie.Need-next-requires-2 Inv-loop μ-loop
-next-requires-2 c κs = (c .before .before .before .before .before .before .before .before .before .before .before .before .pre .0, going-leads _ _ _ _ _ _ (c .before .before .before .before .before .before .before .before .loop .inv) (c .before .before .before .before .before .before .before .loop-test .taken) _ (c .before .before .before .before .before .before .stated-at .ensures) _ _ _ _ (c .before .before .before .before .len .given .1), c .before .before .before .before .before .before .before .before .before .before .before .before .pre .1)
+next-requires-2 c κs = (c .before .before .before .before .before .before .before .before .before .before .before .before .before .pre .0, going-leads _ _ _ _ _ _ (c .before .before .before .before .before .before .before .before .loop .inv) (c .before .before .before .before .before .before .before .loop-test .taken) _ (c .before .before .before .before .before .before .stated-at .ensures) _ _ _ _ (c .before .before .before .before .len .given .1), c .before .before .before .before .before .before .before .before .before .before .before .before .before .pre .1)
 
 loop-less : tie.Need-loop-less Inv-loop μ-loop
 loop-less c = going-falls _ _ _ _ _ _ (c .before .before .before .before .before .before .before .before .before .loop .inv) (c .before .before .before .before .before .before .before .before .loop-test .taken) _ (c .before .before .before .before .before .before .before .stated-at .ensures) _ _ _ _ (c .before .before .before .before .before .len .given .1) _ (c .next2 .ensures)
@@ -73,6 +75,7 @@ fate-spec =
     (tie.spec
     Inv-loop
     μ-loop
+    late-requires
     next-requires
     loop-holds
     stated-at-requires
