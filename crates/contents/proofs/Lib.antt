@@ -16,3 +16,5 @@ pub mod NewLaws
 pub mod SpasLaws
 pub mod OnceLaws
 pub mod SevenLaws
+pub mod CodeLaws
+pub mod ApartLaws

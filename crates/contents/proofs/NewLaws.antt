@@ -23,7 +23,7 @@ use Rattle.rules.specs.Content.{inasFormat}
 use Rattle.rules.specs.Associations.{inasKey, spasKey, keysOnce, spasKeys, fieldKeys}
 use Rattle.contents.specs.Keys.{listOf, inasKeyAt, keysIn, hasFrom, seenFrom, seenBefore, topWith, told, inasOnce}
 use Rattle.contents.specs.declared.earlier.Key.{Key}
-use Rattle.contents.specs.declared.keys.Keys.the-variants.{Once, Twice}
+use Rattle.contents.specs.declared.associations.Keys.the-variants.{Once, Twice}
 use Rattle.contents.proofs.KeyLaws.{among-append, above-new, four-new}
 use Rattle.contents.proofs.EarlierLaws.{inas-listed}
 

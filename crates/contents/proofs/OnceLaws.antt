@@ -29,8 +29,8 @@ use Rattle.rules.specs.Associations.{fieldMarks, marks, keysOnce, fieldKeys}
 use Rattle.rules.proofs.MarkLaws.{field-marked}
 use Rattle.contents.specs.Fit.{allFit}
 use Rattle.contents.specs.Keys.{keysIn, seenBefore, topWith, told, spasFrom, inasOnce, fieldOnce, onceFrom}
-use Rattle.contents.specs.declared.keys.Keys.{Keys}
-use Rattle.contents.specs.declared.keys.Keys.the-variants.{Once, Twice}
+use Rattle.contents.specs.declared.associations.Keys.{Keys}
+use Rattle.contents.specs.declared.associations.Keys.the-variants.{Once, Twice}
 use Rattle.contents.proofs.StepLaws.{step-bounds}
 use Rattle.contents.proofs.FitLaws.{fit-here, fit-next}
 use Rattle.contents.proofs.KeyLaws.{once-apart, field-fault, top-append}

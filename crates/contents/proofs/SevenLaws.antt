@@ -1,5 +1,5 @@
 -- Number 7 of a record, and the first field of one that number 4 passes. Assumes nothing.
-use mathlib.Core.Path.{_≡_, refl, ap, _∙_}
+use mathlib.Core.Path.{_≡_, refl, sym, ap, _∙_}
 use mathlib.Core.Bool.{Bool, true, false}
 use mathlib.Core.Option.{Option, some, none}
 use mathlib.Core.List.{List, [], _∷_}
@@ -12,6 +12,7 @@ use Rattle.base.specs.Lists.{gather}
 use Rattle.base.proofs.CheckLaws.{bind-inv, ok-inj}
 use Rattle.base.specs.Verdict.{verdictOf}
 use Rattle.base.specs.declared.Verdict.{Verdict}
+use Rattle.base.specs.declared.Verdict.the-variants.{Passed as Passes}
 use Rattle.skeleton.specs.File.{Field}
 use Rattle.skeleton.specs.Place.{fieldsAt}
 use Rattle.skeleton.specs.RightFrom.{RightFrom}
@@ -69,7 +70,11 @@ module _ (r : List ℕ) (h : Shape) (m : Mode) (k : Kind) (five : number5 m k (f
       let t : f .tag ≡ tagOf k = rw (parted .1) at first in
       rw (parted .1) (rw (ident-marks k f t) y)
 
-pub ruleset seven-ways = (seven-right, seven-fit, seven-rest)
+  -- where a test is sure that each key stands once
+  pub seven-sure : (t : Bool) → (t ≡ true → onceFrom r h (28 + h .a + h .b) 0 ≡ Passes) → t ≡ true → Passes ≡ verdictOf (number7 (fieldsAt r h 24))
+  seven-sure t sure e = seven-rest Passes (sym (sure e))
+
+pub ruleset seven-ways = (seven-right, seven-fit, seven-rest, seven-sure)
 
 -- ---- for callers
 

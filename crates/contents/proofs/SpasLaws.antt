@@ -21,8 +21,8 @@ use Rattle.skeleton.specs.Place.{fieldsAt}
 use Rattle.skeleton.specs.declared.directory.Shape.{Shape}
 use Rattle.rules.specs.Associations.{spasKey, spasMarks, keysOnce, spasKeys}
 use Rattle.contents.specs.Keys.{keysIn, seenBefore, numberOf, topWith, told, spasFrom}
-use Rattle.contents.specs.declared.keys.Keys.{Keys}
-use Rattle.contents.specs.declared.keys.Keys.the-variants.{Once, Twice}
+use Rattle.contents.specs.declared.associations.Keys.{Keys}
+use Rattle.contents.specs.declared.associations.Keys.the-variants.{Once, Twice}
 use Rattle.contents.proofs.KeyLaws.{among-last, once-same, top-append}
 use Rattle.contents.proofs.SpatialLaws.{spas-at, spas-next, spas-key}
 use Rattle.contents.proofs.ListLaws.{one-taken}

@@ -20,8 +20,8 @@ use Rattle.skeleton.specs.declared.directory.Shape.{Shape}
 use Rattle.rules.specs.Associations.{inasKey, spasKeys, fieldKeys, spasMarks, fieldMarks, marks, keysOnce}
 use Rattle.contents.specs.declared.earlier.Key.{Key}
 use Rattle.contents.specs.declared.earlier.Key.the-variants.{Information, Spatial}
-use Rattle.contents.specs.declared.keys.Keys.{Keys}
-use Rattle.contents.specs.declared.keys.Keys.the-variants.{Once, Twice}
+use Rattle.contents.specs.declared.associations.Keys.{Keys}
+use Rattle.contents.specs.declared.associations.Keys.the-variants.{Once, Twice}
 
 -- ---- keys
 

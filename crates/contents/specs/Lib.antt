@@ -1,3 +1,4 @@
 pub mod Fit
 pub mod Answers
 pub mod Keys
+pub mod Codes

@@ -3,7 +3,7 @@ use crate::record::four_to_six;
 use base::Verdict;
 use book::once::larger;
 use book::once::repeats;
-use contents::keys::check_keys;
+use contents::associations::check_keys;
 use keys::look::key_at;
 use memory::clearing::zero;
 use records::grammar::Tags;

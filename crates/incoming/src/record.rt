@@ -1,7 +1,7 @@
 // One record of an update on its own: numbers 4 to 6, and 7 within it where it is inserted.
 use base::Verdict;
+use contents::associations::check_keys;
 use contents::identifier::is_stored;
-use contents::keys::check_keys;
 use dataset::record::four_to_six;
 use records::grammar::Tags;
 use rules::Kind;

@@ -1,7 +1,7 @@
 use Rattle.contents.proofs.NewLaws.{new-ways}
 use borrow.Author.Needs.{needs}
-use Rattle.contents.proofs.keys.is_new.Statement.{statement}
-use Rattle.contents.proofs.keys.is_new.Tie as tie
+use Rattle.contents.proofs.associations.is_new.Statement.{statement}
+use Rattle.contents.proofs.associations.is_new.Tie as tie
 
 key-number-requires : tie.Need-key-number-requires
 key-number-requires c κs = search needs

@@ -5,8 +5,8 @@ use mathlib.Core.Path.{_≡_, refl}
 use Rattle.contents.proofs.SpasLaws.{spas-turn}
 use borrow.Author.Needs.{needs}
 use native.Mathlib.Omega.{arith}
-use Rattle.contents.proofs.keys.spas_once.Statement.{statement}
-use Rattle.contents.proofs.keys.spas_once.Tie as tie
+use Rattle.contents.proofs.associations.spas_once.Statement.{statement}
+use Rattle.contents.proofs.associations.spas_once.Tie as tie
 
 abbrev Inv-loop : tie.InvT-loop
 Inv-loop r h p n b largest j₀ at₀ top₀ j at top = (at ≡ 15 * j) × (at ≤ length b) × (top ≡ topWith 0 (seenBefore r h p n b j)) × (spasFrom r h p n b j top ≡ spasFrom r h p n b 0 largest)

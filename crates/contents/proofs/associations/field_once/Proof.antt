@@ -1,7 +1,7 @@
 use Rattle.contents.proofs.OnceLaws.{field-once-ways}
 use borrow.Author.Needs.{needs}
-use Rattle.contents.proofs.keys.field_once.Statement.{statement}
-use Rattle.contents.proofs.keys.field_once.Tie as tie
+use Rattle.contents.proofs.associations.field_once.Statement.{statement}
+use Rattle.contents.proofs.associations.field_once.Tie as tie
 
 inas-once-requires : tie.Need-inas-once-requires
 inas-once-requires c κs = (search needs, search needs, search field-once-ways, search needs)

@@ -1,7 +1,7 @@
 use Rattle.contents.proofs.NewLaws.{inas-once-ways}
 use borrow.Author.Needs.{needs}
-use Rattle.contents.proofs.keys.inas_once.Statement.{statement}
-use Rattle.contents.proofs.keys.inas_once.Tie as tie
+use Rattle.contents.proofs.associations.inas_once.Statement.{statement}
+use Rattle.contents.proofs.associations.inas_once.Tie as tie
 
 returns : tie.Need-returns
 returns c = search inas-once-ways

@@ -1,7 +1,7 @@
 use Rattle.contents.proofs.OnceLaws.{entry-ways}
 use borrow.Author.Needs.{needs}
-use Rattle.contents.proofs.keys.entry_once.Statement.{statement}
-use Rattle.contents.proofs.keys.entry_once.Tie as tie
+use Rattle.contents.proofs.associations.entry_once.Statement.{statement}
+use Rattle.contents.proofs.associations.entry_once.Tie as tie
 
 returns : tie.Need-returns
 returns c = search entry-ways

@@ -11,8 +11,8 @@ use mathlib.Core.Bool.{true, false}
 use mathlib.Core.Path.{_≡_, refl}
 use borrow.Author.Needs.{needs}
 use native.Mathlib.Omega.{arith}
-use Rattle.contents.proofs.keys.keys_once.Statement.{statement}
-use Rattle.contents.proofs.keys.keys_once.Tie as tie
+use Rattle.contents.proofs.associations.keys_once.Statement.{statement}
+use Rattle.contents.proofs.associations.keys_once.Tie as tie
 
 abbrev Inv-loop : tie.InvT-loop
 Inv-loop r h p q₀ n₀ top₀ informed₀ q n top informed = (n + 2 ≤ q) × (drop n (fieldsAt r h p) ≡ fieldsAt r h q) × (allFit false (fieldsAt r h q) ≡ true) × (top ≡ topWith 0 (keysIn (take n (fieldsAt r h p)))) × (informed ≡ has INAS (take n (fieldsAt r h p))) × RightFrom r h q × (onceFrom r h p n ≡ onceFrom r h p 0)
