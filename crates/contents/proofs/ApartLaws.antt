@@ -9,7 +9,7 @@ use lib.ListN.{length, getD, take, drop, length-drop}
 use lib.Seq.{drop-cons, drop-drop}
 use lib.Dec.{eqb, ltb, leb}
 use Rattle.base.specs.Choice.{pick, either}
-use Rattle.base.specs.Check.{no, fault, Passed, pass}
+use Rattle.base.specs.Check.{no, fault, pass}
 use Rattle.base.specs.Keys.{same, among}
 use Rattle.base.specs.Lists.{each, gather}
 use Rattle.base.specs.Verdict.{verdictOf}
@@ -21,12 +21,12 @@ use Rattle.memory.specs.Hold.{zeros}
 use Rattle.skeleton.specs.File.{Field}
 use Rattle.skeleton.specs.Place.{fieldsAt}
 use Rattle.skeleton.specs.declared.directory.Shape.{Shape}
-use Rattle.rules.specs.Associations.{Mark, fieldKeys, fieldMarks, marks, keysOnce}
+use Rattle.rules.specs.Associations.{Mark, fieldMarks, marks, keysOnce}
 use Rattle.rules.proofs.MarkLaws.{markKey, field-marked}
 use Rattle.keys.specs.Bits.{flagOf, raised}
 use Rattle.keys.specs.Listed.{listed}
 use Rattle.keys.proofs.ListLaws.{listed-more, split-room, split-drop, split-take}
-use Rattle.book.specs.Book.{pageOf, Met, entered}
+use Rattle.book.specs.Book.{pageOf, Met}
 use Rattle.book.proofs.BookLaws.{met-none, met-more, met-says, enter-written, enter-not}
 use Rattle.contents.specs.Fit.{allFit}
 use Rattle.contents.specs.Keys.{keysIn, onceFrom}

@@ -1,11 +1,11 @@
 -- Laws of a walk over the keys of a record's associations. Assumes nothing.
 use mathlib.Core.Path.{_≡_, refl, sym, ap, _∙_}
 use mathlib.Core.List.{List, [], _∷_, _++_}
-use mathlib.Core.Bool.{Bool, true, false}
+use mathlib.Core.Bool.{true, false}
 use Prim.Native.Nat.{ℕ, _+_, _-_, _*_, _^_, _≤_, _<_}
 use native.Mathlib.Omega.{arith}
 use borrow.Author.Tests.{eq-eqb, ne-eqb}
-use lib.ListN.{length, take, drop, length-take, length-drop}
+use lib.ListN.{length, drop, length-take, length-drop}
 use Rattle.base.specs.Lists.{each, gather}
 use Rattle.base.specs.Walk.{Got}
 use Rattle.base.proofs.ListLaws.{each-append}
@@ -25,7 +25,7 @@ use Rattle.skeleton.proofs.BetweenLaws.{length-between}
 use Rattle.skeleton.proofs.PlaceLaws.{fields-more, fields-done, place-falls, place-runs, place-in}
 use Rattle.rules.specs.Content.{inasFormat}
 use Rattle.rules.specs.Associations.{spasKey, spasKeys, inasKey, fieldKeys}
-use Rattle.contents.specs.Fit.{allFit, fits}
+use Rattle.contents.specs.Fit.{allFit}
 use Rattle.contents.specs.Keys.{listOf, inasKeyAt, keysIn}
 use Rattle.contents.specs.declared.earlier.Key.{Key}
 use Rattle.contents.specs.declared.earlier.Key.the-variants.{Information, Spatial}

@@ -16,5 +16,6 @@ pub mod NewLaws
 pub mod SpasLaws
 pub mod OnceLaws
 pub mod SevenLaws
+pub mod StrayLaws
 pub mod CodeLaws
 pub mod ApartLaws

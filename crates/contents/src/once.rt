@@ -4,7 +4,7 @@ use crate::codes::Step;
 use crate::codes::Walk;
 use crate::codes::advance;
 use crate::codes::begin;
-use crate::strays::are_many;
+use crate::strays::count_strays;
 use book::book::page;
 use book::book::sort;
 use keys::bits::flag;
@@ -144,16 +144,21 @@ fn all_once(r: &[u8], h: Shape, p: usize) -> bool
     once_by(r, h, p, &mut b, &mut t)
 }
 
-// The same, asked for where that may spare time: in a long record with many keys that would have to be searched for.
+// The same, asked for where that may spare time, in a long record: where each key is above all earlier ones, that is enough, and where many are not,
+// the book tells.
 pub fn surely_once(r: &[u8], h: Shape, p: usize) -> bool
-    requires { ⌜ Bounded h × (allFit false (fieldsAt (now r) h p) ≡ true) × RightFrom (now r) h p ⌝ }
+    requires { ⌜ Bounded h × (2 ≤ p) × (allFit false (fieldsAt (now r) h p) ≡ true) × RightFrom (now r) h p ⌝ }
     ensures { λ v. ⌜ (v ≡ true → onceFrom (now (r .entry)) h p 0 ≡ Passed) ⌝ }
 {
     if r.len() < 1024 {
         return false;
     }
-    if are_many(r, h, p) {
-        return all_once(r, h, p);
+    let strays = count_strays(r, h, p);
+    if strays == 0 {
+        return true;
     }
-    false
+    if strays < 16 {
+        return false;
+    }
+    all_once(r, h, p)
 }

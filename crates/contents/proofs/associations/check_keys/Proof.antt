@@ -11,7 +11,7 @@ add-second-2 : tie.Need-add-second-2
 add-second-2 c = search needs
 
 surely-once-requires : tie.Need-surely-once-requires
-surely-once-requires c κs = (search needs, search seven-ways, search seven-ways)
+surely-once-requires c κs = (search needs, omega arith, search seven-ways, search seven-ways)
 
 returns : tie.Need-returns
 returns c = search seven-ways

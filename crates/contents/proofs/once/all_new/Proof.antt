@@ -1,7 +1,7 @@
 use Prim.Native.Nat.{_-_, _≤_}
 use mathlib.Core.Path.{_≡_, refl, sym}
 use mathlib.Core.Bool.{true≢false}
-use lib.ListN.{length, take, drop}
+use lib.ListN.{length, take}
 use Rattle.skeleton.specs.Place.{fieldsAt}
 use Rattle.book.specs.Book.{Met}
 use Rattle.contents.specs.Codes.{codesIn, Apart, Behind}
