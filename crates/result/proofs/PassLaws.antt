@@ -91,7 +91,7 @@ unfolding Sparing
 sparing-then g g2 o o2 o3 a (Loose k) b = tt
 sparing-then g g2 o o2 o3 a (Went g3) b = let x = a .0 in let y = b .0 in (omega arith, beyond-then (g2 .to) (g3 .to) o o2 o3 y (a .1) (b .1))
 
--- the indices that they are
+-- so are the indices that stand there
 pub sparing-spared : (d : List ℕ) (ds : ℕ) (u : List ℕ) (us : ℕ) (lim : Limits) (g h : Progress) (o o2 : List ℕ) → Sparing g o o2 (Went h)
     → Spared d ds u us lim (g .to) o → Spared d ds u us lim (h .to) o2
 unfolding Sparing

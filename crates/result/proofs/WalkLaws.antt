@@ -57,7 +57,7 @@ module _ (f : List ℕ) (p : ℕ) (s : Sound f p) (l : p < length f) (h : Head) 
   found : h ≡ recordAt f p
   found = again f p (records-some f p l (s .clean)) h eh
 
-  -- the records before the one behind it
+  -- the records that lead to it lead on to what is behind it
   further : (start len base a b : ℕ) → h ≡ Good len base a b → Leads f start p → Leads f start (p + len)
   further start len base a b x g = leads-then g (over (sym (look-good f p h eh len base a b x (keyAt f (p + base)) refl)) here)
 
