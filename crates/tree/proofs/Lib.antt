@@ -3,6 +3,7 @@ pub mod KnownLaws
 pub mod WalkLaws
 pub mod TestLaws
 pub mod TurnLaws
+pub mod DueLaws
 pub mod TupleShape
 pub mod FieldRule
 pub mod AttrRules

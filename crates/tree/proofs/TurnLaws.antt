@@ -51,14 +51,14 @@ going-start b whole at p k shut i f = record { same = refl; known = i; reached =
 
 -- at an entry of the run, with its code and the index that is due to it
 module _ {b : List ℕ} {whole : Bool} {at p k : ℕ} {shut : Bool} {a q top many : ℕ} (go : Going b whole at p k shut a q top many) (n code due : ℕ)
-    (inside : a < length b) (parent : n ≡ two b (a + 4)) (mine : n ≡ p) (coded : code ≡ two b a) (dued : whole ≡ true → due ≡ count b 0 a code p + 1) where
+    (inside : a < length b) (parent : n ≡ two b (a + 4)) (mine : n ≡ p) (coded : code ≡ two b a) (dued : whole ≡ true → due ≡ count b 0 a (two b a) p + 1) where
   -- its parent is the run's
   own : two b (a + 4) ≡ p
   own = sym parent ∙ mine
 
   -- what the entry asks for
   pub turn-asks : Known b (two b (a + 4)) a q × (a < length b) × (whole ≡ true → due ≡ count b 0 a (two b a) (two b (a + 4)) + 1)
-  turn-asks = (rw own (go .known), inside, λ x. rw (own, ← coded) (dued x))
+  turn-asks = (rw own (go .known), inside, λ x. rw own (dued x))
 
   module _ (w : Walk) (went : w ≡ entryAt b whole a q shut) where
     -- a tuple that breaks the rule
@@ -78,5 +78,5 @@ module _ {b : List ℕ} {whole : Bool} {at p k : ℕ} {shut : Bool} {a q top man
           same = run-go b whole a p q shut inside own x y step ∙ go .same;
           known = entry-known b whole a p q shut inside own x y step (go .known);
           reached = entry-reach b whole a p q shut inside own x y step at (go .reached);
-          seen = λ o. rw (f, g) (seen-next b p a x code due top many (entry-count b whole a p q shut inside own x y step (go .known)) (sym coded) own (dued o) (go .seen o));
+          seen = λ o. rw (f, g) (seen-next b p a x code due top many (entry-count b whole a p q shut inside own x y step (go .known)) (sym coded) own (rw coded (dued o)) (go .seen o));
         }

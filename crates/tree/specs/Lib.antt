@@ -1,3 +1,4 @@
 pub mod Source
 pub mod Known
+pub mod Due
 pub mod Verdict

@@ -6,8 +6,9 @@ ghost use Prim.Native.Nat.{_+_, _≤_, _<_};
 ghost use lib.ListN.{length};
 ghost use lib.Dec.{ltb};
 ghost use Rattle.base.specs.Choice.{pick};
-ghost use Rattle.tree.specs.Source.{hit, count};
+ghost use Rattle.tree.specs.Source.{two, hit, count};
 ghost use Rattle.tree.specs.Known.{Whole, Reach, Fresh, Seen};
+ghost use Rattle.tree.specs.Due.{AllDue};
 
 // 1 where the tuple has this code and parent, else 0.
 pub fn twin(b: &[u8], at: usize, code: usize, parent: usize) -> usize
@@ -39,7 +40,7 @@ pub fn twins(b: &[u8], start: usize, end: usize, code: usize, parent: usize) -> 
 
 // The index due at `at` in the run of this parent from `start` on, where no earlier entry of the run has a code above `top`, and `many` have
 // that one: so only a code that comes after a larger one is searched for. No index is due where only parents are asked for.
-pub fn due_index(
+fn counted_index(
     b: &[u8],
     start: usize,
     at: usize,
@@ -62,6 +63,28 @@ pub fn due_index(
         return many + 1;
     }
     twins(b, start, at, code, parent) + 1
+}
+
+// The same of the tuple at `at`, whose parent this is; sure: each tuple of the field has its due index, so that this one's own is it.
+pub fn due_index(
+    b: &[u8],
+    start: usize,
+    at: usize,
+    parent: usize,
+    top: usize,
+    many: usize,
+    whole: bool,
+    sure: bool,
+) -> usize
+    requires { ⌜ (Whole (now b) start) × (Reach (now b) 0 start) × (start ≤ at) × (at < length (now b)) × (Fresh (now b) start parent) × (whole ≡ true → Seen (now b) parent at top many) ⌝ }
+    requires { ⌜ (Whole (now b) at) × (Reach (now b) 0 at) × (two (now b) (at + 4) ≡ parent) × (sure ≡ true → AllDue (now b) (length (now b))) ⌝ }
+    ensures { λ r. ⌜ (whole ≡ true → r ≡ count (now (b .entry)) 0 at (two (now (b .entry)) at) parent + 1) ⌝ }
+{
+    if sure {
+        return tuple::number(b, at + 2);
+    }
+    let code = tuple::number(b, at);
+    counted_index(b, start, at, code, parent, top, many, whole)
 }
 
 // The larger code.

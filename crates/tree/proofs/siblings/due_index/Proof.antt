@@ -1,33 +1,34 @@
-use Rattle.tree.proofs.TestLaws.{asked, unasked}
-use Rattle.tree.proofs.KnownLaws.{due-new, due-top, due-counted}
-use Rattle.tree.proofs.CountLaws.{count-within}
+use Rattle.tree.proofs.DueLaws.{code-within, tuple-within, own-due}
 use native.Mathlib.Omega.{arith}
 use borrow.Author.Needs.{needs}
 use Rattle.tree.proofs.siblings.due_index.Statement.{statement}
 use Rattle.tree.proofs.siblings.due_index.Tie as tie
 
+add-number : tie.Need-add-number
+add-number c = search needs
+
+number-requires : tie.Need-number-requires
+number-requires c κs = let s = c .before .before in omega (arith, tuple-within (s .args .b .now) (s .args .at) (s .pre .1 .0) (s .pre .0 .3))
+
 returns : tie.Need-returns
-returns c = λ w. unasked _ (c .if1 .taken) w
+returns c = λ w. let s = c .before .before .before in own-due _ _ _ _ (s .pre .1 .1) (s .pre .0 .3) (s .pre .1 .2) (s .pre .1 .3 (c .before .if1 .taken)) (c .number .ensures)
+
+number-requires-2 : tie.Need-number-requires-2
+number-requires-2 c κs = let s = c .before .before in code-within (s .args .b .now) (s .args .at) (s .pre .1 .0) (s .pre .0 .3)
+
+counted-index-requires : tie.Need-counted-index-requires
+counted-index-requires c κs = search needs
 
 returns-2 : tie.Need-returns-2
-returns-2 c = λ w. due-new _ _ _ _ _ _ (c .before .before .before .pre .5 w) (c .if2 .taken)
-
-add-result : tie.Need-add-result
-add-result c = let s = c .before .before .before .before in omega (arith, s .pre .3, (s .pre .5 (asked _ (c .before .before .if1 .left))) .some, count-within (s .args .b .now) 0 (s .args .at) (s .args .top) (s .args .parent))
-
-returns-3 : tie.Need-returns-3
-returns-3 c = λ w. due-top _ _ _ _ _ _ (c .before .before .before .before .pre .5 w) (c .if3 .taken)
-
-twins-requires : tie.Need-twins-requires
-twins-requires c κs = search needs
-
-add-result-2 : tie.Need-add-result-2
-add-result-2 c = search needs
-
-returns-4 : tie.Need-returns-4
-returns-4 c = λ w. due-counted _ _ _ _ _ _ (c .twins .ensures .0) (c .before .before .before .before .before .pre .1) (c .before .before .before .before .before .pre .2) (c .before .before .before .before .before .pre .4)
+returns-2 c = λ w. rw (c .before .number2 .ensures) at (c .counted-index .ensures w)
 
 pub due-index-spec : {M : Type 1} → statement M
 due-index-spec =
     tie.close
-    (tie.spec returns returns-2 add-result returns-3 twins-requires add-result-2 returns-4)
+    (tie.spec
+    add-number
+    number-requires
+    returns
+    number-requires-2
+    counted-index-requires
+    returns-2)

@@ -114,7 +114,7 @@ entry-run-requires : (t : ℕ) → entry-lts.Need-run-requires (
   run-below t,
   run.Post,
 ) (entry-at t) entry.Post
-entry-run-requires t c κs = let s = c .before .before .before .before .before in let e = c .before .before .before .behind .ensures in let above = past-above (s .args .b .now) (s .args .at) in (omega (arith, above, e, s .pre .1 .1), (rw e (known-into _ _ _ _ (s .pre .1 .1) refl (s .pre .1 .0)), rw e (fresh-into _ _ _ _ refl (s .pre .1 .0))))
+entry-run-requires t c κs = let s = c .before .before .before .before .before in let e = c .before .before .before .behind .ensures in let above = past-above (s .args .b .now) (s .args .at) in (omega (arith, above, e, s .pre .1 .1), (rw e (known-into _ _ _ _ (s .pre .1 .1) refl (s .pre .1 .0)), rw e (fresh-into _ _ _ _ refl (s .pre .1 .0)), s .pre .1 .3))
 
 entry-returns-2 : (t : ℕ) → entry-lts.Need-returns-2 (
   behind-reads.Asked,
@@ -129,10 +129,10 @@ entry-returns-2 : (t : ℕ) → entry-lts.Need-returns-2 (
 entry-returns-2 t c = entry-goes _ _ _ _ _ _ _ (c .before .before .before .breaks .ensures) (c .before .before .before .before .before .before .pre .1 .2) _ _ _ (c .before .before .if1 .left) (c .before .before .before .before .behind .ensures) (c .before .is-closed .ensures) (c .run .ensures)
 
 abbrev run-Inv-loop : run-lts.InvT-loop
-run-Inv-loop b at parent place shut whole a₀ q₀ top₀ many₀ a q top many = Going b whole at parent place shut a q top many
+run-Inv-loop b at parent place shut whole sure a₀ q₀ top₀ many₀ a q top many = Going b whole at parent place shut a q top many
 
 abbrev run-μ-loop : run-lts.MeasureT-loop
-run-μ-loop b at parent place shut whole a₀ q₀ top₀ many₀ a q top many = length b - a
+run-μ-loop b at parent place shut whole sure a₀ q₀ top₀ many₀ a q top many = length b - a
 
 run-loop-holds : (t : ℕ) → run-lts.Need-loop-holds (
   number-reads.Asked,
@@ -216,7 +216,7 @@ run-due-index-requires : (t : ℕ) → run-lts.Need-due-index-requires (
   top-with-reads.Asked,
   top-with-reads.Learnt,
 ) (run-at t) run.Post run-Inv-loop run-μ-loop
-run-due-index-requires t c κs = let s = c .before .before .before .before .before .before in let l = c .before .before .before .before .loop in (s .pre .1 .0 .whole, s .pre .1 .0 .reached, reach-on _ _ _ (l .inv .reached), c .before .before .before .loop-test .taken, s .pre .1 .1, l .inv .seen)
+run-due-index-requires t c κs = let s = c .before .before .before .before .before .before in let l = c .before .before .before .before .loop in ((s .pre .1 .0 .whole, s .pre .1 .0 .reached, reach-on _ _ _ (l .inv .reached), c .before .before .before .loop-test .taken, s .pre .1 .1, l .inv .seen), (l .inv .known .whole, l .inv .known .reached, sym (c .before .before .number .ensures) ∙ c .before .if1 .left, s .pre .1 .2))
 
 run-entry-requires : (t : ℕ) → run-lts.Need-entry-requires (
   number-reads.Asked,
@@ -230,7 +230,7 @@ run-entry-requires : (t : ℕ) → run-lts.Need-entry-requires (
   top-with-reads.Asked,
   top-with-reads.Learnt,
 ) (run-at t) run.Post run-Inv-loop run-μ-loop
-run-entry-requires t c κs = (omega (arith, reach-on (c .before .before .before .before .before .before .before .args .b .now) (c .before .before .before .before .before .before .before .args .at) (c .before .before .before .before .before .loop .a) (c .before .before .before .before .before .loop .inv .reached), c .before .before .before .before .loop-test .taken), turn-asks (c .before .before .before .before .before .loop .inv) _ _ _ (c .before .before .before .before .loop-test .taken) (c .before .before .before .number .ensures) (c .before .before .if1 .left) (c .before .number2 .ensures) (c .due-index .ensures))
+run-entry-requires t c κs = let s = c .before .before .before .before .before .before .before in let l = c .before .before .before .before .before .loop in let a = turn-asks (l .inv) _ _ _ (c .before .before .before .before .loop-test .taken) (c .before .before .before .number .ensures) (c .before .before .if1 .left) (c .before .number2 .ensures) (c .due-index .ensures) in (omega (arith, reach-on (s .args .b .now) (s .args .at) (l .a) (l .inv .reached), c .before .before .before .before .loop-test .taken), (a .0, a .1, a .2, s .pre .1 .2))
 
 run-enum-known-head : (t : ℕ) → run-lts.Need-enum-known-head (
   number-reads.Asked,

@@ -6,8 +6,11 @@ use borrow.Author.Needs.{needs}
 use Rattle.tree.proofs.walk.check.Statement.{statement}
 use Rattle.tree.proofs.walk.check.Tie as tie
 
+surely-due-requires : tie.Need-surely-due-requires
+surely-due-requires c κs = search needs
+
 run-requires : tie.Need-run-requires
-run-requires c κs = (known-first _ (c .before .pre), λ k. count-none _ 0 0 k 0 (omega arith))
+run-requires c κs = (known-first _ (c .before .before .pre), λ k. count-none _ 0 0 k 0 (omega arith), c .surely-due .ensures)
 
 enum-known-top : tie.Need-enum-known-top
 enum-known-top c = search needs
@@ -26,4 +29,4 @@ returns-3 c = remains-none _ _ _ _ _ (c .before .before .top2 .given .1) (c .bef
 
 pub check-spec : {M : Type 1} → statement M
 check-spec =
-    tie.close (tie.spec run-requires enum-known-top enum-known-top-2 returns returns-2 returns-3)
+    tie.close (tie.spec surely-due-requires run-requires enum-known-top enum-known-top-2 returns returns-2 returns-3)
