@@ -228,7 +228,8 @@ fn foresee(f: &[u8], start: usize) -> usize
     first_repeat(f, start, m, &mut b, &mut t)
 }
 
-// Whether the key k of the record after the first m from start on stood earlier: the first times by a plain walk, and then by w, which says it of all records.
+// Whether the key k of the record after the first m from start on stood earlier. What was found is kept in w from call to call: below 8 it counts the plain
+// walks that were taken; after the seventh, the first repeat of all records is found once and for all, and w is 8 more than its number.
 pub fn stood_by(f: &[u8], start: usize, m: usize, k: u64, w: &mut usize) -> bool
     requires { ⌜ (length (now f) ≤ 16777216) × (start ≤ length (now f)) × Known (now f) start m × Comes (now f) start m k × Ahead (now f) start m (now w) ⌝ }
     ensures { λ b. ⌜ (b ≡ seenFrom (now (f .entry)) start m k) × Sees (now (f .entry)) start (now (w .exit)) ⌝ }
