@@ -6,7 +6,9 @@ use Prim.Native.Nat.{ℕ, _+_, _-_, _*_, _/_, _^_, _≤_, _<_}
 use native.Mathlib.Omega.{arith}
 use borrow.Author.Tests.{ltb-true, ltb-false, eqb-true}
 use lib.ListN.{length, take, drop, length-take, length-drop}
-use lib.Seq.{drop-at, drop-length}
+use lib.Seq.{drop-at, drop-length, drop-drop}
+use Rattle.memory.specs.Put.{part}
+use Rattle.memory.specs.Digits.{fromLittleEndian}
 use lib.Dec.{eqb, ltb}
 use Rattle.keys.specs.Look.{lookAt, Sound}
 use Rattle.keys.specs.declared.look.Look.{Look}
@@ -77,22 +79,28 @@ pub ruleset skipping-turn = (skipping-start, skipping-sound, skipping-over, skip
 
 -- ---- `fill`
 
--- the n numbers in s are those of the records from us up to q
+-- the n numbers in s are those of the records from us up to q, and 0
 pub record Filling (u : List ℕ) (us q n : ℕ) (s : List ℕ) : Type 0 where
   pub sound : Sound u q
   pub leads : Leads u us q
   pub room : 8 * n ≤ length s
-  pub counted : n ≤ q
-  pub each-one : (x : ℕ) → Has n s x → Entry u us x
+  pub counted : n ≤ q + 1
+  pub each-one : (x : ℕ) → Has n s x → 0 < x → Entry u us x
   pub all : (key p : ℕ) → Names u us key p → p < q → Has n s (weightOf key p)
 
-pub filling-start : (u : List ℕ) (us : ℕ) (s : List ℕ) → Sound u us → Filling u us us 0 s
-filling-start u us s o = record {
+pub filling-start : (u : List ℕ) (us : ℕ) (s t : List ℕ) → Sound u us → 8 ≤ length s → Stored s 0 0 t → Filling u us us 1 t
+filling-start u us s t o l b = record {
   sound = o;
   leads = here;
-  room = omega arith;
+  room = (let k = b .long in omega arith);
   counted = omega arith;
-  each-one = λ x h. absurd (let i = h .inside in omega arith);
+  each-one = λ x h g.
+      let i = h .inside in
+      let z : h .place ≡ 0 = omega arith in
+      let e = ap (numberAt t) z in
+      let k = b .here in
+      let m = h .is in
+      absurd (omega arith);
   all = λ key p n h. absurd (let i = leads-up (n .leads) o in omega arith);
 }
 
@@ -103,7 +111,7 @@ module _ (u : List ℕ) (us q n : ℕ) (s : List ℕ) (o : Sound u us) (a : Fill
   pub filling-place : q ≤ 16777216
   filling-place = let i = a .sound .inside in let l = a .sound .small in omega arith
 
-  pub filling-count : n ≤ 16777216
+  pub filling-count : n ≤ 16777217
   filling-count = let i = filling-place in let c = a .counted in omega arith
 
   pub filling-all : length u ≤ q → 8 * n ≡ length s → (m : ℕ) × Filled u us m s
@@ -126,13 +134,13 @@ module _ (u : List ℕ) (us q n : ℕ) (s : List ℕ) (o : Sound u us) (a : Fill
           let i = h .inside in
           record { place = h .place; inside = omega arith; is = b .others (h .place) (λ z. omega arith) ∙ h .is }
 
-      one : (y : ℕ) → Has (n + 1) t y → Entry u us y
-      one y h = go (ltb (h .place) n) refl
+      one : (y : ℕ) → Has (n + 1) t y → 0 < y → Entry u us y
+      one y h some = go (ltb (h .place) n) refl
         where
           go : (c : Bool) → ltb (h .place) n ≡ c → Entry u us y
           go true l =
               let i = ltb-true (h .place) n l in
-              a .each-one y (record { place = h .place; inside = i; is = sym (b .others (h .place) (λ z. omega arith)) ∙ h .is })
+              a .each-one y (record { place = h .place; inside = i; is = sym (b .others (h .place) (λ z. omega arith)) ∙ h .is }) some
           go false l =
               let i = ltb-false (h .place) n l in
               let j = h .inside in
@@ -185,18 +193,16 @@ filled-mixed u us n s t f m = record {
   all = λ key p a. m .forth (weightOf key p) (f .all key p a);
 }
 
+filled-sorted : (u : List ℕ) (us n : ℕ) (s : List ℕ) → Filled u us n s → Ascends n s → Sorted u us n s
+filled-sorted u us n s f a = record { long = f .long; each-one = f .each-one; all = λ key p m h. f .all key p m; up = a }
+
 pub built : (u : List ℕ) (us : ℕ) (s : List ℕ) → (m : ℕ) × Filled u us m s → Ascends (length s / 8) s → (n : ℕ) × Sorted u us n s
-built u us s (m, f) a = (m, record { filled = f; up = subst (λ (n : ℕ). Ascends n s) (filled-count u us m s f) a })
+built u us s (m, f) a = (m, filled-sorted u us m s f (subst (λ (n : ℕ). Ascends n s) (filled-count u us m s f) a))
 
 pub built-mixed : (u : List ℕ) (us : ℕ) (s t : List ℕ) → (m : ℕ) × Filled u us m s → Mixed (length s / 8) s t → Ascends (length s / 8) t → (n : ℕ) × Sorted u us n t
 built-mixed u us s t (m, f) x a =
-    let e = filled-count u us m s f in (
-      m,
-      record {
-        filled = filled-mixed u us m s t f (subst (λ (n : ℕ). Mixed n s t) e x);
-        up = subst (λ (n : ℕ). Ascends n t) e a;
-      },
-    )
+    let e = filled-count u us m s f in
+    (m, filled-sorted u us m t (filled-mixed u us m s t f (subst (λ (n : ℕ). Mixed n s t) e x)) (subst (λ (n : ℕ). Ascends n t) e a))
 
 -- ---- `lay`
 
@@ -224,18 +230,20 @@ module _ (u : List ℕ) (us : ℕ) (s : List ℕ) (o : Sound u us) (x : Indexed 
   unfolding Indexed
   index-is h =
       let i = x (omega arith) in
-      subst (λ (m : ℕ). Sorted u us m s) (sym (filled-count u us (i .0) s (i .1 .filled)) ∙ sym en) (i .1)
+      let l = i .1 .long in
+      let e : i .0 ≡ n = omega arith in
+      subst (λ (m : ℕ). Sorted u us m s) e (i .1)
 
 module _ (u : List ℕ) (us n : ℕ) (s : List ℕ) (o : Sound u us) (x : Sorted u us n s) (p : ℕ) (l : Leads u us p) (key low i : ℕ)
-    (is-low : low ≡ weightOf key 0) (b : Parted n s (low + p) i) where
+    (is-low : low ≡ weightOf key 0) (whole : numberAt s 0 ≤ low + p) (b : Parted n s (low + p) i) where
   here-sound : Sound u p
   here-sound = leads-sound l o
 
   -- a later record that names the key stands in the index from i on
   stands : (q : ℕ) → Names u p key q → (h : Has n s (weightOf key q)) × (i ≤ h .place) × (q < 16777216)
   stands q m =
-      let h = x .filled .all key q (record { leads = leads-then l (m .leads); len = m .len; look = m .look }) in
       let up = leads-up (m .leads) here-sound in
+      let h = x .all key q (record { leads = leads-then l (m .leads); len = m .len; look = m .look }) (omega arith) in
       let in-u = names-inside here-sound m in
       let small = o .small in
       (h, not-below h up, omega arith)
@@ -272,9 +280,9 @@ module _ (u : List ℕ) (us n : ℕ) (s : List ℕ) (o : Sound u us) (x : Sorted
     pub next-far : low + 16777216 ≤ w → Next u key p (length u)
     next-far f = ended (λ q m. let g = at-most q m in omega arith)
 
-    module _ (near : w < low + 16777216) where
+    module _ (some : 0 < key) (near : w < low + 16777216) where
       entry : Entry u us w
-      entry = x .filled .each-one w (record { place = i; inside = h; is = sym is-w })
+      entry = x .each-one w (record { place = i; inside = h; is = sym is-w }) (let g = not-less in omega arith)
 
       in-u : entry .place < length u
       in-u = names-inside o (entry .names)
@@ -304,12 +312,12 @@ index-place u us p o l = let s = leads-sound l o in let i = s .inside in let m =
 
 -- ---- `late`
 
-pub late-found : (u : List ℕ) (us n : ℕ) (s : List ℕ) → Sound u us → Sorted u us n s → (key low i : ℕ) → low ≡ weightOf key 0 → Parted n s (low + 16777216) i → 0 < i
+pub late-found : (u : List ℕ) (us n : ℕ) (s : List ℕ) → Sound u us → Sorted u us n s → (key low i : ℕ) → low ≡ weightOf key 0 → 0 < key → Parted n s (low + 16777216) i → 0 < i
     → (w : ℕ) → w ≡ numberAt s (i - 1) → low ≤ w → Late u us key (w - low)
-late-found u us n s o x key low i is-low b h w is-w l =
+late-found u us n s o x key low i is-low some b h w is-w l =
     let inside = b .inside in
     let below = b .below (i - 1) (omega arith) in
-    let entry = x .filled .each-one w (record { place = i - 1; inside = omega arith; is = sym is-w }) in
+    let entry = x .each-one w (record { place = i - 1; inside = omega arith; is = sym is-w }) (omega arith) in
     let in-u = names-inside o (entry .names) in
     let small = o .small in
     let is = entry .is in
@@ -320,3 +328,58 @@ late-found u us n s o x key low i is-low b h w is-w l =
       len = entry .names .len;
       look = ap (lookAt u) (sym p) ∙ entry .names .look ∙ ap (At (entry .names .len)) k;
     })
+
+-- ---- what is left of an index
+
+number-behind : (s : List ℕ) (k j : ℕ) → numberAt (drop (8 * k) s) j ≡ numberAt s (k + j)
+unfolding numberAt part
+number-behind s k j =
+    let e : 8 * k + 8 * j ≡ 8 * (k + j) = omega arith in
+    ap (λ (l : List ℕ). fromLittleEndian (take 8 l)) (drop-drop (8 * j) (8 * k) s ∙ ap (λ (i : ℕ). drop i s) e)
+
+module _ (u : List ℕ) (us n : ℕ) (s : List ℕ) (x : Sorted u us n s) (k : ℕ) (h : k < n) where
+  has-behind : (y : ℕ) → Has (n - k) (drop (8 * k) s) y → Has n s y
+  has-behind y a = let i = a .inside in record { place = k + a .place; inside = omega arith; is = sym (number-behind s k (a .place)) ∙ a .is }
+
+  -- a number that is not below the first that is left is left itself
+  left-behind : (y : ℕ) → numberAt (drop (8 * k) s) 0 ≤ y → Has n s y → Has (n - k) (drop (8 * k) s) y
+  unfolding Ascends
+  left-behind y l a = go (ltb (a .place) k) refl
+    where
+      go : (c : Bool) → ltb (a .place) k ≡ c → Has (n - k) (drop (8 * k) s) y
+      go true e =
+          let up = x .up (a .place) k (ltb-true (a .place) k e) h in
+          let z = number-behind s k 0 in
+          let w : k + 0 ≡ k = omega arith in
+          let v = ap (numberAt s) w in
+          let is = a .is in
+          record { place = 0; inside = omega arith; is = omega arith }
+      go false e =
+          let i = ltb-false (a .place) k e in
+          let j = a .inside in
+          let w : k + (a .place - k) ≡ a .place = omega arith in
+          record { place = a .place - k; inside = omega arith; is = number-behind s k (a .place - k) ∙ ap (numberAt s) w ∙ a .is }
+
+  sorted-behind : Sorted u us (n - k) (drop (8 * k) s)
+  unfolding Ascends
+  sorted-behind = record {
+    long = length-drop (8 * k) s ∙ (let l = x .long in omega arith);
+    each-one = λ y a. x .each-one y (has-behind y a);
+    all = λ key p m l. (let z = number-behind s k 0 in let w : k + 0 ≡ k = omega arith in let v = ap (numberAt s) w in
+        left-behind (weightOf key p) l (x .all key p m (first-least l)));
+    up = λ i j a b. (let y = x .up (k + i) (k + j) (omega arith) (omega arith) in omega (arith, number-behind s k i, number-behind s k j));
+  }
+    where
+      first-least : {y : ℕ} → numberAt (drop (8 * k) s) 0 ≤ y → numberAt s 0 ≤ y
+      first-least {y} l =
+          let g = weak n s (x .up) 0 k (omega arith) h in
+          let w : k + 0 ≡ k = omega arith in
+          omega (arith, number-behind s k 0, ap (numberAt s) w)
+
+pub indexed-behind : (u : List ℕ) (us : ℕ) (s : List ℕ) (k : ℕ) → Indexed u us s → Indexed u us (drop (8 * k) s)
+unfolding Indexed
+indexed-behind u us s k x h =
+    let l = length-drop (8 * k) s in
+    let i = x (omega arith) in
+    let m = i .1 .long in
+    (i .0 - k, sorted-behind u us (i .0) s (i .1) k (omega arith))

@@ -2,13 +2,13 @@
 use mathlib.Core.Path.{_≡_, refl, sym, ap, _∙_, subst}
 use mathlib.Core.Bool.{Bool, true, false}
 use mathlib.Core.List.{List, [], _∷_, _++_, append-nil, append-assoc}
-use Prim.Native.Nat.{ℕ, _+_, _-_, _≤_, _<_}
+use Prim.Native.Nat.{ℕ, _+_, _-_, _*_, _/_, _≤_, _<_}
 use native.Mathlib.Omega.{arith}
 use lib.ListN.{length, take, drop, length-take, length-drop, length-append}
 use lib.Seq.{take-all, take-at, drop-at, drop-drop, drop-append-le}
 use Rattle.base.specs.Lists.{each}
 use Rattle.base.specs.Walk.{Got}
-use Rattle.base.proofs.ListLaws.{each-drop}
+use Rattle.base.proofs.ListLaws.{each-drop, drop-take}
 use Rattle.skeleton.specs.File.{Field, recordsFrom}
 use Rattle.skeleton.specs.Place.{between}
 use Rattle.skeleton.proofs.FileLaws.{records-over}
@@ -17,9 +17,10 @@ use Rattle.keys.specs.Look.{Sound}
 use Rattle.keys.specs.Table.{Tail, Sits, Sited}
 use Rattle.keys.proofs.LookLaws.{Found}
 use Rattle.sorting.specs.Places.{Leads, Names, Skips, Next, Indexed}
-use Rattle.sorting.specs.Indices.{Indices, Spared, Beyond}
+use Rattle.sorting.specs.Indices.{Indices, Spared, Beyond, Past}
 use Rattle.sorting.specs.declared.limits.Limits.{Limits}
 use Rattle.sorting.proofs.PlaceLaws.{follows}
+use Rattle.sorting.proofs.IndexLaws.{indexed-behind}
 
 -- ---- no index
 
@@ -66,11 +67,23 @@ module _ (d : List ℕ) (ds : ℕ) (u : List ℕ) (us : ℕ) where
   -- ---- `spare`
 
   module _ (lim : Limits) (to : ℕ) (out : List ℕ) (s : Spared d ds u us lim to out) where
-    pub spare-all : to ≤ lim .old → Indices d ds u us lim out
-    spare-all h = record { runs = s .runs; inside = s .inside; old = s .old h; new = s .new (let r = s .runs in omega arith) }
+    pub spare-both : (old : ℕ) → Past (lim .old) to old → old ≤ lim .new → Indices d ds u us (record { old = old; new = lim .new }) out
+    spare-both old p h =
+        let e = p .is in
+        let r = p .reached in
+        let z : lim .new + 8 * 0 ≡ lim .new = omega arith in
+        record {
+          runs = h;
+          inside = s .inside;
+          old = subst (λ (i : ℕ). Indexed d ds (between out i (lim .new))) (sym e) (s .old (p .steps) (omega arith) (omega arith));
+          new = subst (λ (i : ℕ). Indexed u us (drop i out)) z (s .new 0 (omega arith) (let i = s .inside in omega arith));
+        }
 
-    pub spare-new : to ≤ lim .new → Indices d ds u us (record { old = lim .new; new = lim .new }) out
-    spare-new h = both-one out (lim .new) (s .inside) (s .new h)
+    pub spare-new : (new : ℕ) → Past (lim .new) to new → (all : ℕ) → length out ≡ all → new ≤ all → Indices d ds u us (record { old = new; new = new }) out
+    spare-new new p all l h =
+        let e = p .is in
+        let r = p .reached in
+        both-one out new (omega arith) (subst (λ (i : ℕ). Indexed u us (drop i out)) (sym e) (s .new (p .steps) (omega arith) (omega arith)))
 
     pub spare-none : (all : ℕ) → length out ≡ all → Indices d ds u us (record { old = all; new = all }) out
     spare-none all e = both-one out all (omega arith) (none-behind u us out all (omega arith))
@@ -79,16 +92,36 @@ module _ (d : List ℕ) (ds : ℕ) (u : List ℕ) (us : ℕ) where
 
   module _ (lim : Limits) where
     pub spared-start : (to : ℕ) (out : List ℕ) → Indices d ds u us lim out → Spared d ds u us lim to out
-    spared-start to out i = record { runs = i .runs; inside = i .inside; old = λ h. i .old; new = λ h. i .new }
+    spared-start to out i = record {
+      runs = i .runs;
+      inside = i .inside;
+      old = λ k h g.
+          let e : lim .new - lim .old - 8 * k ≡ lim .new - (lim .old + 8 * k) = omega arith in
+          subst (Indexed d ds)
+          (drop-take (8 * k) (lim .new - lim .old) (drop (lim .old) out)
+          ∙ ap (take (lim .new - lim .old - 8 * k)) (drop-drop (8 * k) (lim .old) out)
+          ∙ ap (λ (n : ℕ). take n (drop (lim .old + 8 * k) out)) e)
+          (indexed-behind d ds (between out (lim .old) (lim .new)) k (i .old));
+      new = λ k h g. subst (Indexed u us) (drop-drop (8 * k) (lim .new) out) (indexed-behind u us (drop (lim .new) out) k (i .new));
+    }
 
     pub spared-on : (to next : ℕ) (before out : List ℕ) → to ≤ next → Beyond next before out → Spared d ds u us lim to before → Spared d ds u us lim next out
     spared-on to next before out h b s = record {
       runs = s .runs;
       inside = (let l = b .long in let i = s .inside in omega arith);
-      old = λ g.
-          subst (Indexed d ds) (ap (take (lim .new - lim .old)) (sym (beyond-from next before out b (lim .old) g))) (s .old (omega arith));
-      new = λ g. subst (Indexed u us) (sym (beyond-from next before out b (lim .new) g)) (s .new (omega arith));
+      old = λ k g e.
+          subst (Indexed d ds) (ap (take (lim .new - (lim .old + 8 * k))) (sym (beyond-from next before out b (lim .old + 8 * k) g))) (s .old k (omega arith) e);
+      new = λ k g e.
+          subst (Indexed u us) (sym (beyond-from next before out b (lim .new + 8 * k) g)) (s .new k (omega arith) (let l = b .long in omega arith));
     }
+
+-- ---- `past`
+
+pub past-none : (at to : ℕ) → to ≤ at → Past at to at
+past-none at to h = record { steps = 0; is = omega arith; reached = h }
+
+pub past-some : (at to : ℕ) → at < to → Past at to (at + 8 * ((to - at + 7) / 8))
+past-some at to h = record { steps = (to - at + 7) / 8; is = refl; reached = omega arith }
 
 -- ---- `lay_in`
 

@@ -1,5 +1,5 @@
 -- Two indices at the end of an output: one of a dataset's records, and behind it one of an update's.
-use Prim.Native.Nat.{ℕ, _≤_}
+use Prim.Native.Nat.{ℕ, _+_, _*_, _≤_}
 use mathlib.Core.Path.{_≡_}
 use mathlib.Core.List.{List}
 use lib.ListN.{length, drop}
@@ -15,14 +15,20 @@ module _ (d : List ℕ) (ds : ℕ) (u : List ℕ) (us : ℕ) (lim : Limits) wher
     pub old : Indexed d ds (between out (lim .old) (lim .new))
     pub new : Indexed u us (drop (lim .new) out)
 
-  -- so it is with those that the bytes before `to` leave room for
+  -- so it is with what the bytes before `to` leave of them: the numbers, of 8 bytes, from some number on
   pub record Spared (to : ℕ) (out : List ℕ) : Type 0 where
     pub runs : lim .old ≤ lim .new
     pub inside : lim .new ≤ length out
-    pub old : to ≤ lim .old → Indexed d ds (between out (lim .old) (lim .new))
-    pub new : to ≤ lim .new → Indexed u us (drop (lim .new) out)
+    pub old : (k : ℕ) → to ≤ lim .old + 8 * k → lim .old + 8 * k ≤ lim .new → Indexed d ds (between out (lim .old + 8 * k) (lim .new))
+    pub new : (k : ℕ) → to ≤ lim .new + 8 * k → lim .new + 8 * k ≤ length out → Indexed u us (drop (lim .new + 8 * k) out)
 
 -- the bytes from `to` on are as they were
 pub record Beyond (to : ℕ) (before out : List ℕ) : Type 0 where
   pub long : length out ≡ length before
   pub same : drop to out ≡ drop to before
+
+-- r is so many steps of 8 from `at` on, and not before `to`; none where `at` is not
+pub record Past (at to r : ℕ) : Type 0 where
+  pub steps : ℕ
+  pub is : r ≡ at + 8 * steps
+  pub reached : to ≤ r

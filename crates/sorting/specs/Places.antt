@@ -10,7 +10,7 @@ use Rattle.skeleton.specs.File.{Field, recordsFrom}
 use Rattle.keys.specs.Listed.{keyOf, listed}
 use Rattle.keys.specs.Look.{lookAt, Sound}
 use Rattle.keys.specs.declared.look.Look.the-variants.{At}
-use Rattle.sorting.specs.Numbers.{Has, Ascends}
+use Rattle.sorting.specs.Numbers.{numberAt, Has, Ascends}
 
 -- the records from p on lead to the one at r, or they end there
 pub data Leads (u : List ℕ) : ℕ → ℕ → Type 0 where
@@ -54,17 +54,19 @@ pub record Entry (u : List ℕ) (us x : ℕ) : Type 0 where
   pub names : Names u us key place
   pub is : x ≡ weightOf key place
 
--- the n numbers in s are those of the records from us on
+-- the n numbers in s are those of the records from us on, and 0
 pub record Filled (u : List ℕ) (us n : ℕ) (s : List ℕ) : Type 0 where
   pub long : length s ≡ 8 * n
-  pub each-one : (x : ℕ) → Has n s x → Entry u us x
+  pub each-one : (x : ℕ) → Has n s x → 0 < x → Entry u us x
   pub all : (key p : ℕ) → Names u us key p → Has n s (weightOf key p)
 
--- and they ascend
+-- the n numbers in s ascend; they are numbers of the records from us on, or 0, and of those that are not below the first of them none is missing
 pub record Sorted (u : List ℕ) (us n : ℕ) (s : List ℕ) : Type 0 where
-  pub filled : Filled u us n s
+  pub long : length s ≡ 8 * n
+  pub each-one : (x : ℕ) → Has n s x → 0 < x → Entry u us x
+  pub all : (key p : ℕ) → Names u us key p → numberAt s 0 ≤ weightOf key p → Has n s (weightOf key p)
   pub up : Ascends n s
 
--- s is empty, or an index of the records from us on
+-- s is empty, or an index of the records from us on, of which a part at the front may be gone
 unfoldable pub Indexed : List ℕ → ℕ → List ℕ → Type 0
 Indexed u us s = 0 < length s → (n : ℕ) × Sorted u us n s

@@ -42,13 +42,17 @@ fn count(u: &[u8], us: usize) -> usize
     n
 }
 
-// Their numbers, which are to fill s; whether they do.
+// Their numbers behind a 0, which are to fill s; whether they do. By the 0 an index is known of which nothing at the front is gone.
 fn fill(u: &[u8], us: usize, s: &mut [u8]) -> bool
     requires { ⌜ Sound (now u) us ⌝ }
     ensures { λ b. ⌜ (b ≡ true → (n : ℕ) × Filled (now (u .entry)) us n (now (s .exit))) ⌝ }
 {
+    if s.len() < 8 {
+        return false;
+    }
+    put_number(s, 0, 0);
     let mut q = us;
-    let mut n = 0;
+    let mut n = 1;
     while q < u.len() {
         match look_at(u, q) {
             Look::At { len, key } => {
@@ -91,7 +95,7 @@ pub fn lay(u: &[u8], us: usize, out: &mut [u8]) -> usize
     requires { ⌜ Sound (now u) us ⌝ }
     ensures { λ r. ⌜ (r ≤ length (now (out .exit))) × Indexed (now (u .entry)) us (drop r (now (out .exit))) ⌝ }
 {
-    let room = 8 * count(u, us);
+    let room = 8 * count(u, us) + 8;
     if out.len() < room {
         return out.len();
     }
@@ -124,7 +128,7 @@ fn next_plain(u: &[u8], p: usize, key: u64) -> usize
     q
 }
 
-// The same by an index of the records from us on, where there is one; p is one of them.
+// The same by an index of the records from us on, where there is one; p is one of them. Numbers below its first may be gone.
 pub fn next(u: &[u8], us: usize, index: &[u8], p: usize, key: u64) -> usize
     requires { ⌜ Sound (now u) us × Leads (now u) us p × Indexed (now u) us (now index) ⌝ }
     ensures { λ r. ⌜ Next (now (u .entry)) key p r ⌝ }
@@ -133,10 +137,16 @@ pub fn next(u: &[u8], us: usize, index: &[u8], p: usize, key: u64) -> usize
     if n == 0 {
         return next_plain(u, p, key);
     }
+    if key == 0 {
+        return next_plain(u, p, key);
+    }
     if 549755813888 <= key {
         return next_plain(u, p, key);
     }
     let low = weight(key, 0);
+    if low + p < number_at(index, 0) {
+        return next_plain(u, p, key);
+    }
     let i = first_from(index, n, low + p);
     if n <= i {
         return u.len();
@@ -155,6 +165,9 @@ pub fn late(u: &[u8], us: usize, index: &[u8], key: u64) -> usize
 {
     let n = index.len() / 8;
     if n == 0 {
+        return us;
+    }
+    if key == 0 {
         return us;
     }
     if 549755813888 <= key {

@@ -7,7 +7,7 @@ ghost use lib.ListN.{length, drop};
 ghost use Rattle.skeleton.specs.Place.{between};
 ghost use Rattle.keys.specs.Look.{Sound};
 ghost use Rattle.sorting.specs.Places.{Indexed};
-ghost use Rattle.sorting.specs.Indices.{Indices, Spared};
+ghost use Rattle.sorting.specs.Indices.{Indices, Spared, Past};
 
 // Where the dataset's index begins, and where it ends and the update's begins, which goes to the output's end.
 pub struct Limits {
@@ -55,15 +55,28 @@ pub fn lay_both(d: &[u8], ds: usize, ascend: bool, u: &[u8], us: usize, out: &mu
     Limits { old, new }
 }
 
-// Those of them that an output of so many bytes, written up to `to`, still has.
+// The first place from `at` on, by steps of 8, that is not before `to`.
+fn past(at: usize, to: usize) -> usize
+    requires { ⌜ to ≤ 4611686018427387904 ⌝ }
+    ensures { λ r. ⌜ Past at to r ⌝ }
+{
+    if to <= at {
+        return at;
+    }
+    at + 8 * ((to - at + 7) / 8)
+}
+
+// What of them an output of so many bytes, written up to `to`, still has.
 pub fn spare(lim: Limits, to: usize, all: usize) -> Limits
+    requires { ⌜ to ≤ 4611686018427387904 ⌝ }
     ensures { λ l. ⌜ ((d : List ℕ) (ds : ℕ) (u : List ℕ) (us : ℕ) (out : List ℕ) → Spared d ds u us lim to out → length out ≡ all → Indices d ds u us l out) ⌝ }
 {
-    if to <= lim.old {
-        return lim;
+    let old = past(lim.old, to);
+    if old <= lim.new {
+        return Limits { old, new: lim.new };
     }
-    let new = lim.new;
-    if to <= new {
+    let new = past(lim.new, to);
+    if new <= all {
         return Limits { old: new, new };
     }
     Limits { old: all, new: all }

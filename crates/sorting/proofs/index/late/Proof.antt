@@ -17,6 +17,9 @@ returns c = at-start
 returns-2 : tie.Need-returns-2
 returns-2 c = at-start
 
+returns-3 : tie.Need-returns-3
+returns-3 c = at-start
+
 weight-requires : tie.Need-weight-requires
 weight-requires c κs = search needs
 
@@ -24,10 +27,10 @@ add-first-from : tie.Need-add-first-from
 add-first-from c = search needs
 
 first-from-requires : tie.Need-first-from-requires
-first-from-requires c κs = let k = index-is _ _ _ (c .before .before .before .before .before .pre .0) (c .before .before .before .before .before .pre .1) _ refl (c .before .before .if1 .left) in (search needs, k .up)
+first-from-requires c κs = let k = index-is _ _ _ (c .before .before .before .before .before .before .pre .0) (c .before .before .before .before .before .before .pre .1) _ refl (c .before .before .before .if1 .left) in (search needs, k .up)
 
-returns-3 : tie.Need-returns-3
-returns-3 c = at-start
+returns-4 : tie.Need-returns-4
+returns-4 c = at-start
 
 sub-number-at : tie.Need-sub-number-at
 sub-number-at c = search needs
@@ -35,11 +38,11 @@ sub-number-at c = search needs
 number-at-requires : tie.Need-number-at-requires
 number-at-requires c κs = search needs
 
-returns-4 : tie.Need-returns-4
-returns-4 c = at-start
-
 returns-5 : tie.Need-returns-5
-returns-5 c = late-found _ _ _ _ (c .before .before .before .before .before .before .before .before .before .pre .0) (index-is _ _ _ (c .before .before .before .before .before .before .before .before .before .pre .0) (c .before .before .before .before .before .before .before .before .before .pre .1) _ refl (c .before .before .before .before .before .before .if1 .left)) _ _ _ (c .before .before .before .before .weight .ensures) (c .before .before .before .first-from .ensures) (search needs) _ (c .before .number-at .ensures) (c .if4 .left)
+returns-5 c = at-start
+
+returns-6 : tie.Need-returns-6
+returns-6 c = late-found _ _ _ _ (c .before .before .before .before .before .before .before .before .before .before .pre .0) (index-is _ _ _ (c .before .before .before .before .before .before .before .before .before .before .pre .0) (c .before .before .before .before .before .before .before .before .before .before .pre .1) _ refl (c .before .before .before .before .before .before .before .if1 .left)) _ _ _ (c .before .before .before .before .weight .ensures) (omega (arith, c .before .before .before .before .before .before .if2 .left)) (c .before .before .before .first-from .ensures) (search needs) _ (c .before .number-at .ensures) (c .if5 .left)
 
 pub late-spec : {M : Type 1} → statement M
 late-spec =
@@ -47,11 +50,12 @@ late-spec =
     (tie.spec
     returns
     returns-2
+    returns-3
     weight-requires
     add-first-from
     first-from-requires
-    returns-3
+    returns-4
     sub-number-at
     number-at-requires
-    returns-4
-    returns-5)
+    returns-5
+    returns-6)

@@ -1,12 +1,8 @@
-use Prim.Native.Nat.{_-_, _*_}
+use Prim.Native.Nat.{_-_, _*_, _+_}
 use lib.ListN.{length}
-use mathlib.Core.Path.{refl}
-use mathlib.Core.Path.{_≡_}
-use Prim.Native.Nat.{ℕ}
-use borrow.Author.Tests.{not-false}
 use Rattle.sorting.proofs.IndexLaws.{indexed-none, indexed-by}
-use native.Mathlib.Omega.{arith}
 use borrow.Author.Needs.{needs}
+use native.Mathlib.Omega.{arith}
 use Rattle.sorting.proofs.index.lay.Statement.{statement}
 use Rattle.sorting.proofs.index.lay.Tie as tie
 use Rattle.sorting.proofs.index.lay.Reads as reads
@@ -19,6 +15,9 @@ count-requires c κs = search needs
 
 mul-room : tie.Need-mul-room
 mul-room c = search needs
+
+add-room : tie.Need-add-room
+add-room c = search needs
 
 returns : tie.Need-returns
 returns c = (search needs, indexed-none _ _ (c .before .before .before .before .args .out .now))
@@ -42,7 +41,7 @@ same-length : tie.Need-same-length
 same-length c = search needs
 
 returns-2 : tie.Need-returns-2
-returns-2 c = (search needs, indexed-by _ _ _ (c .before .before .before .before .before .before .before .before .before .args .out .now) (length (c .before .before .before .before .before .before .before .before .before .args .out .now) - 8 * (c .before .before .before .before .before .before .count .result)) (c .before .before .before .build .ensures (search needs)) (omega arith))
+returns-2 c = (search needs, indexed-by _ _ _ (c .before .before .before .before .before .before .before .before .before .args .out .now) (length (c .before .before .before .before .before .before .before .before .before .args .out .now) - (8 * (c .before .before .before .before .before .before .count .result) + 8)) (c .before .before .before .build .ensures (search needs)) (omega arith))
 
 same-length-2 : tie.Need-same-length-2
 same-length-2 c = search needs
@@ -56,6 +55,7 @@ lay-spec =
     (tie.spec
     count-requires
     mul-room
+    add-room
     returns
     sub-at
     sub-build

@@ -1,19 +1,26 @@
-use Rattle.sorting.proofs.IndicesLaws.{spare-all, spare-new, spare-none}
-use borrow.Author.Needs.{needs}
+use Rattle.sorting.proofs.IndicesLaws.{spare-both, spare-new, spare-none}
 use native.Mathlib.Omega.{arith}
+use borrow.Author.Needs.{needs}
 use Rattle.sorting.proofs.limits.spare.Statement.{statement}
 use Rattle.sorting.proofs.limits.spare.Tie as tie
 use Rattle.sorting.proofs.limits.spare.Reads as reads
 use Rattle.sorting.proofs.limits.spare.Lts as lts
+use Rattle.sorting.proofs.limits.past.Reads as past-reads
+
+past-requires : tie.Need-past-requires
+past-requires c κs = search needs
 
 returns : tie.Need-returns
-returns c = λ d ds u us out s e. spare-all d ds u us _ _ out s (c .if1 .taken)
+returns c = λ d ds u us out s e. spare-both d ds u us _ _ out s _ (c .before .before .past .ensures) (c .if1 .taken)
+
+past-requires-2 : tie.Need-past-requires-2
+past-requires-2 c κs = search needs
 
 returns-2 : tie.Need-returns-2
-returns-2 c = λ d ds u us out s e. spare-new d ds u us _ _ out s (c .if2 .taken)
+returns-2 c = λ d ds u us out s e. spare-new d ds u us _ _ out s _ (c .before .past2 .ensures) _ e (c .if2 .taken)
 
 returns-3 : tie.Need-returns-3
 returns-3 c = λ d ds u us out s e. spare-none d ds u us _ _ out s _ e
 
 pub spare-spec : {M : Type 1} → statement M
-spare-spec = tie.close (tie.spec returns returns-2 returns-3)
+spare-spec = tie.close (tie.spec past-requires returns past-requires-2 returns-2 returns-3)
