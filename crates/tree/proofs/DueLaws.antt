@@ -116,8 +116,6 @@ module _ (f b t : List ℕ) (at : ℕ) (reached : Reach f 0 at) (ts : Tallied f 
         let s : index ≡ getD t j 0 + 1 = omega arith in
         record { tallied = counted h index s; due = λ z. omega (arith, now, i, s) }
 
-pub ruleset join-ways = (join-stray, join-counted, arith)
-
 -- ---- no tuple counted
 
 pub clear-more : (t : List ℕ) (i : ℕ) → i < length t → ((j : ℕ) → j < i → getD t j 0 ≡ 0) → (j : ℕ) → j < i + 1 → getD (set t i 0) j 0 ≡ 0
@@ -160,6 +158,10 @@ pub ruleset gather-turn = (tuple-within, code-within, whole-past, whole-on, on-a
 
 -- ---- `held`
 
+-- an offset before one within so many bytes is within them
+pub before-end : (n at y : ℕ) → at < y → y ≤ n → at < n
+before-end n at y l h = omega arith
+
 module _ (f b t : List ℕ) (x at on : ℕ) (asked v : Bool) (e : on ≡ past f at) (told : v ≡ true → Joins f b t at (asked ≡ true)) (yes : not v ≡ false) where
   joined : Joins f b t at (asked ≡ true)
   joined = told (not-false v yes)
@@ -169,8 +171,6 @@ module _ (f b t : List ℕ) (x at on : ℕ) (asked v : Bool) (e : on ≡ past f 
 
   pub held-due : asked ≡ leb x at → Reach f 0 at → AllDue f x → AllDue f at → AllDue f on
   held-due s r d a = rw e (held-more f b t x at r d a (rw s at joined))
-
-pub ruleset held-turn = (all-due-none, all-due-less, tallied-none, tuple-within, whole-past, whole-on, reach-behind, on-less, held-tallied, held-due, arith)
 
 -- ---- `due_by`
 

@@ -1,7 +1,6 @@
-use Rattle.tree.proofs.DueLaws.{join-counted}
 use mathlib.Core.Path.{sym}
 use mathlib.Core.Bool.{true≢false}
-use Rattle.tree.proofs.DueLaws.{join-ways}
+use Rattle.tree.proofs.DueLaws.{join-stray, join-counted}
 use native.Mathlib.Omega.{arith}
 use borrow.Author.Needs.{needs}
 use Rattle.tree.proofs.due.join.Statement.{statement}
@@ -20,7 +19,7 @@ shared-slice-read-if1 : tie.Need-shared-slice-read-if1
 shared-slice-read-if1 c = search needs
 
 returns : tie.Need-returns
-returns c = λ z. search join-ways
+returns c = λ z. join-stray _ _ _ _ (c .before .before .before .before .before .before .before .pre .1) (c .before .before .before .before .before .before .before .pre .3) _ (c .before .before .before .key-at .ensures .0) (c .before .before .before .key-at .ensures .1) _ (c .before .before .page .ensures .0) _ (c .if1 .taken) z
 
 returns-2 : tie.Need-returns-2
 returns-2 c = λ z. absurd (true≢false (sym z))
