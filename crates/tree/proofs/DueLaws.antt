@@ -3,7 +3,7 @@ use mathlib.Core.Path.{_≡_, refl, sym, ap, _∙_}
 use mathlib.Core.List.{List}
 use mathlib.Core.Bool.{Bool, true, false, not}
 use mathlib.Core.Logic.{_⊎_, inl, inr, ⊎-elim}
-use Prim.Native.Nat.{ℕ, _+_, _-_, _*_, _≤_, _<_}
+use Prim.Native.Nat.{ℕ, _+_, _-_, _≤_, _<_}
 use native.Mathlib.Omega.{arith}
 use borrow.Author.Tests.{eq-eqb, eqb-true, eqb-false, le-leb}
 use lib.ListN.{length, getD, set, List·getD-eq-default}
@@ -84,15 +84,17 @@ module _ (f b t : List ℕ) (at : ℕ) (reached : Reach f 0 at) (ts : Tallied f 
       (λ (z : hit f at c p ≡ 0). omega (arith, ts c p l w, count-next f 0 at c p reached))
       (hit-ways f at c p)
 
+  -- it may stand, if its index is not asked for
   pub join-stray : (asked : Bool) → (getD b j 0 ≡ key → ⊥) → not asked ≡ true → Joins f b t at (asked ≡ true)
   join-stray asked n e = record { tallied = stray n; due = λ z. unasked asked e z }
 
   module _ (there : getD b j 0 ≡ key) where
+    -- the tally of a tuple that the book has
     now : getD t j 0 ≡ count f 0 at (two f at) (two f (at + 4))
     unfolding Tallied written
     now = rw (ej, ek) (ts (two f at) (two f (at + 4)) small (eq-eqb (getD b (pageOf b (keyed (two f at) (two f (at + 4)))) 0) (keyed (two f at) (two f (at + 4))) (rw (ej, ek) at there)))
 
-    -- one that it has
+    -- one more
     counted : j < length t → (index : ℕ) → index ≡ getD t j 0 + 1 → Tallied f b (set t j index) (past f at)
     unfolding Tallied written
     counted h index e c p l w =
@@ -110,6 +112,7 @@ module _ (f b t : List ℕ) (at : ℕ) (reached : Reach f 0 at) (ts : Tallied f 
         rw (getD-set-other t j (pageOf b (keyed c p)) index 0 other) (omega (arith, ts c p l w, count-next f 0 at c p reached)))
         (hit-ways f at c p)
 
+    -- its index is the next one
     pub join-counted : (asked : Bool) → j < length t → (index x y : ℕ) → index ≡ two f (at + 2) → x ≡ index → y ≡ getD t j 0 → x ≡ y + 1
         → Joins f b (set t j index) at (asked ≡ true)
     join-counted asked h index x y i ex ey e =
@@ -118,6 +121,7 @@ module _ (f b t : List ℕ) (at : ℕ) (reached : Reach f 0 at) (ts : Tallied f 
 
 -- ---- no tuple counted
 
+-- one tally more
 pub clear-more : (t : List ℕ) (i : ℕ) → i < length t → ((j : ℕ) → j < i → getD t j 0 ≡ 0) → (j : ℕ) → j < i + 1 → getD (set t i 0) j 0 ≡ 0
 clear-more t i h z j l =
     ⊎-elim
@@ -125,6 +129,7 @@ clear-more t i h z j l =
     (λ (m : i ≤ j). let s : j ≡ i = omega arith in rw (s, getD-set-same t i 0 0 h) refl)
     (lt-or-le j i)
 
+-- all of them
 pub clear-end : (t : List ℕ) (i : ℕ) → length t ≤ i → ((j : ℕ) → j < i → getD t j 0 ≡ 0) → (j : ℕ) → getD t j 0 ≡ 0
 clear-end t i h z j = ⊎-elim (λ (m : j < i). z j m) (λ (m : i ≤ j). List·getD-eq-default t 0 (omega arith)) (lt-or-le j i)
 
@@ -163,12 +168,15 @@ pub before-end : (n at y : ℕ) → at < y → y ≤ n → at < n
 before-end n at y l h = omega arith
 
 module _ (f b t : List ℕ) (x at on : ℕ) (asked v : Bool) (e : on ≡ past f at) (told : v ≡ true → Joins f b t at (asked ≡ true)) (yes : not v ≡ false) where
+  -- what the code learns of a tuple
   joined : Joins f b t at (asked ≡ true)
   joined = told (not-false v yes)
 
+  -- the tallies behind it
   pub held-tallied : Tallied f b t on
   held-tallied = rw e (joined .tallied)
 
+  -- the tuples up to there
   pub held-due : asked ≡ leb x at → Reach f 0 at → AllDue f x → AllDue f at → AllDue f on
   held-due s r d a = rw e (held-more f b t x at r d a (rw s at joined))
 

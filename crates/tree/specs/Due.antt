@@ -3,7 +3,7 @@ use mathlib.Core.Path.{_≡_}
 use mathlib.Core.List.{List}
 use mathlib.Core.Bool.{true}
 use Prim.Native.Nat.{ℕ, _+_, _*_, _≤_, _<_}
-use lib.ListN.{length, getD}
+use lib.ListN.{getD}
 use Rattle.book.specs.Book.{pageOf, written}
 use Rattle.tree.specs.Source.{two, past, count}
 use Rattle.tree.specs.Known.{Whole, Reach}

@@ -11,7 +11,7 @@ ghost use mathlib.Core.Path.{_≡_};
 ghost use mathlib.Core.Bool.{true};
 ghost use Prim.Native.Nat.{ℕ, _+_, _≤_, _<_};
 ghost use lib.ListN.{length, getD};
-ghost use Rattle.tree.specs.Source.{two, past};
+ghost use Rattle.tree.specs.Source.{two};
 ghost use Rattle.tree.specs.Known.{Whole, Reach};
 ghost use Rattle.tree.specs.Due.{AllDue, keyed, Tallied, Joins, Blocked};
 
@@ -70,7 +70,7 @@ fn clear(t: &mut [u16])
     }
 }
 
-// Whether each tuple up to y has its due index, where those up to x have.
+// Whether each tuple up to y has its due index, where those up to x have: all are held against the book.
 fn held(f: &[u8], x: usize, y: usize, b: &[u64], t: &mut [u16]) -> bool
     requires { ⌜ (Whole (now f) 0) × (y ≤ length (now f)) × (0 < length (now b)) × AllDue (now f) x ⌝ }
     ensures { λ v. ⌜ (v ≡ true → AllDue (now (f .entry)) y) ⌝ }
@@ -170,7 +170,8 @@ fn many_fall(f: &[u8]) -> bool
     false
 }
 
-// Whether each tuple has its due index, asked for where the whole rule is and where it may spare time: yes is certain.
+// Whether each tuple has its due index, asked for where the whole rule is and where it may spare time: yes is certain. The 127 tuples of a shorter field
+// are searched sooner than a book is made.
 pub fn surely_due(f: &[u8], whole: bool) -> bool
     requires { ⌜ Whole (now f) 0 ⌝ }
     ensures { λ v. ⌜ (v ≡ true → AllDue (now (f .entry)) (length (now (f .entry)))) ⌝ }

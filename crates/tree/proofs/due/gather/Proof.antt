@@ -1,8 +1,6 @@
-use lib.ListN.{length-set}
-use Rattle.tree.proofs.DueLaws.{on-above}
-use Rattle.tree.proofs.DueLaws.{gather-turn}
+use Rattle.tree.proofs.DueLaws.{on-above, gather-turn}
 use Rattle.tree.specs.Known.{Whole}
-use lib.ListN.{length}
+use lib.ListN.{length, length-set}
 use mathlib.Core.Path.{_≡_, refl}
 use Prim.Native.Nat.{_-_, _≤_, _<_}
 use borrow.Author.Needs.{needs}
