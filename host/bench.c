@@ -85,7 +85,7 @@ static int order_line(const char *name, word length, int wishes, word sorted) {
 
 static int orders(word length, word sorted) {
     char bytes[DIGITS];
-    printf("\nother orders, %s bytes; the last takes long               read   times sorted\n", counted(length, bytes));
+    printf("\nother orders, %s bytes                                       read   times sorted\n", counted(length, bytes));
     fflush(0);
     return order_line("references in random order", length, MIXED_REFERENCES, sorted) &&
            order_line("keys in random order", length, MIXED_KEYS, sorted) &&

@@ -179,7 +179,8 @@ static void summed_up(const struct fared *all, word count, word bytes) {
         if (many++ == 0) printf("above that:\n");
         printf("  %s: %s\n", CALLS[all[i].shape->call], all[i].shape->name);
     }
-    printf(many ? "%lu of %lu shapes are above that\n" : "none of them is above that, of %2$lu shapes\n", many, count);
+    if (many) printf("%lu of %lu shapes are above that\n", many, count);
+    if (!many) printf("none of %lu shapes is above that\n", count);
 }
 
 int bench_worst(word bytes) {
