@@ -5,11 +5,13 @@ use keys::look::look_at;
 use sorting::index::next;
 use version::Changed;
 use version::Present;
+ghost use mathlib.Core.Path.{_≡_};
 ghost use Prim.Native.Nat.{_≤_};
 ghost use lib.ListN.{length};
 ghost use Rattle.incoming.specs.Fitting.{Rest};
 ghost use Rattle.keys.specs.Look.{Sound};
 ghost use Rattle.sorting.specs.Places.{Leads, Indexed};
+ghost use Rattle.version.specs.declared.Changed.the-variants.{Now};
 ghost use Rattle.history.specs.Ready.{Short};
 ghost use Rattle.history.specs.Played.{Playing, Played, Coursed};
 
@@ -17,6 +19,16 @@ ghost use Rattle.history.specs.Played.{Playing, Played, Coursed};
 pub struct Course {
     pub at: usize,
     pub left: Changed,
+}
+
+// None is refused: they end at the update's end, with v.
+fn ended(at: usize, v: Present) -> Course
+    ensures { λ c. ⌜ c ≡ record { at = at; left = Now v } ⌝ }
+{
+    Course {
+        at,
+        left: Changed::Now(v),
+    }
 }
 
 // Those from `from` on, found by an index of those from us on.
@@ -39,10 +51,7 @@ pub fn follow(
     let mut v = p;
     while q < u.len() {
         let Look::At { len, key: _ } = look_at(u, q) else {
-            return Course {
-                at: u.len(),
-                left: Changed::Now(v),
-            };
+            return ended(u.len(), v);
         };
         match act(d, u, q, v, work) {
             Changed::Refused(n, i, j) => {
@@ -57,10 +66,7 @@ pub fn follow(
             }
         }
     }
-    Course {
-        at: q,
-        left: Changed::Now(v),
-    }
+    ended(q, v)
 }
 
 // What they leave.

@@ -1,14 +1,16 @@
 -- `follow` meets its contract. Assumes nothing.
-use Prim.Native.Nat.{_-_}
-use lib.ListN.{length}
-use mathlib.Core.Path.{_≡_, refl}
+use Rattle.history.specs.Played.{Coursed}
 use Rattle.history.proofs.CourseLaws.{Onto, onto-start, onto-over, onto-nothing, onto-act, onto-leads, onto-word, onto-falls, onto-no, onto-next}
+use mathlib.Core.Path.{_≡_, refl, sym, subst}
+use lib.ListN.{length}
+use Prim.Native.Nat.{_-_}
 use borrow.Author.Needs.{needs}
 use native.Mathlib.Omega.{arith}
 use Rattle.history.proofs.playing.follow.Statement.{statement}
 use Rattle.history.proofs.playing.follow.Tie as tie
 use Rattle.history.proofs.playing.follow.Reads as reads
 use Rattle.history.proofs.playing.follow.Lts as lts
+use Rattle.history.proofs.playing.ended.Reads as ended-reads
 use Rattle.history.proofs.single.act.Reads as act-reads
 use Rattle.keys.proofs.look.look_at.Reads as look-at-reads
 use Rattle.sorting.proofs.index.next.Reads as next-reads
@@ -34,11 +36,14 @@ enum-known-len c = search needs
 enum-told : tie.Need-enum-told Inv-loop μ-loop
 enum-told c = search needs
 
+ended-requires : tie.Need-ended-requires Inv-loop μ-loop
+ended-requires c κs = search needs
+
 same-length : tie.Need-same-length Inv-loop μ-loop
 same-length c = search needs
 
 returns : tie.Need-returns Inv-loop μ-loop
-returns c = onto-nothing _ _ _ _ _ _ _ _ _ _ (c .before .before .before .before .loop .inv .0) (c .before .before .before .before .before .before .before .before .before .before .pre .0 .0) _ (c .before .before .look-at .ensures) (c .before .before .before .loop-test .taken) (c .enum-told .given .1) _
+returns c = onto-nothing _ _ _ _ _ _ _ _ _ _ (c .before .before .before .before .before .loop .inv .0) (c .before .before .before .before .before .before .before .before .before .before .before .pre .0 .0) _ (c .before .before .before .look-at .ensures) (c .before .before .before .before .loop-test .taken) (c .before .enum-told .given .1) _
 
 act-requires : tie.Need-act-requires Inv-loop μ-loop
 act-requires c κs = ((c .before .before .before .before .before .before .before .before .before .before .before .before .pre .0 .0, c .before .before .before .before .before .before .loop .inv .0 .so-far .rest, c .before .before .before .before .before .loop-test .taken, search needs), onto-act _ _ _ _ _ _ _ _ _ _ (c .before .before .before .before .before .before .loop .inv .0) (c .before .before .before .before .before .before .before .before .before .before .before .before .pre .0 .0) _ (c .before .before .before .before .look-at .ensures) (c .before .before .before .before .before .loop-test .taken) _ _ (c .before .before .len .given .1))
@@ -67,11 +72,14 @@ loop-less c = onto-falls _ _ _ _ _ _ _ _ _ _ (c .before .before .before .before 
 loop-again : tie.Need-loop-again Inv-loop μ-loop
 loop-again c = (onto-next _ _ _ _ _ _ _ _ _ _ (c .before .before .before .before .before .before .before .before .before .before .before .before .before .loop .inv .0) (c .before .before .before .before .before .before .before .before .before .before .before .before .before .before .before .before .before .before .before .pre .0 .0) _ (c .before .before .before .before .before .before .before .before .before .before .before .look-at .ensures) (c .before .before .before .before .before .before .before .before .before .before .before .before .loop-test .taken) _ _ (c .before .before .before .before .before .before .before .before .before .len .given .1) _ _ (c .before .before .before .before .before .before .act .ensures) _ (c .before .before .made .given .1) _ (c .next2 .ensures), search needs)
 
+ended-requires-2 : tie.Need-ended-requires-2 Inv-loop μ-loop
+ended-requires-2 c κs = search needs
+
 same-length-3 : tie.Need-same-length-3 Inv-loop μ-loop
 same-length-3 c = search needs
 
 returns-3 : tie.Need-returns-3 Inv-loop μ-loop
-returns-3 c = onto-over _ _ _ _ _ _ _ _ _ _ (c .before .loop .inv .0) (c .before .before .before .before .before .before .before .pre .0 .0) (c .loop-test .left)
+returns-3 c = subst (Coursed _ _ _ _ _ _ _) (sym (c .ended2 .ensures)) (onto-over _ _ _ _ _ _ _ _ _ _ (c .before .before .loop .inv .0) (c .before .before .before .before .before .before .before .before .pre .0 .0) (c .before .loop-test .left))
 
 pub follow-spec : {M : Type 1} → statement M
 follow-spec =
@@ -84,6 +92,7 @@ follow-spec =
     look-at-requires
     enum-known-len
     enum-told
+    ended-requires
     same-length
     returns
     act-requires
@@ -95,5 +104,6 @@ follow-spec =
     next-requires-2
     loop-less
     loop-again
+    ended-requires-2
     same-length-3
     returns-3)
