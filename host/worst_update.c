@@ -229,6 +229,7 @@ const struct shape SHAPES_OF_UPDATES[] = {
     {"a point that all features name, deleted and inserted", UPDATES, POOL, 0, named_by_all_come_and_gone},
     {"random order, out exactly as long as the result", UPDATES, EXACT, 0, modified_mixed},
     {"inserts, out exactly as long as the result", UPDATES, EXACT, 0, inserted_strewn},
+    {"strewn records that are named, out exactly so long", UPDATES, EXACT, 0, named_modified},
     {"random order, out a byte too short", UPDATES, SHORT, 0, modified_mixed},
     {"random order, out of no bytes", UPDATES, NONE, 0, modified_mixed},
     {"two keys in turn, out of no bytes", UPDATES, NONE, 0, two_modified},
