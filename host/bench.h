@@ -9,8 +9,8 @@ int bench_read(word mebibytes);
 int bench_write(word mebibytes);
 int bench_update(word mebibytes);
 
-/* Measures shapes that try to be slow, over a quarter, a half and all of so many bytes, at least 262,144. A status of the tool; TROUBLE
-   where one is answered otherwise than meant. */
-int bench_worst(word bytes);
+/* Measures shapes that try to be slow, those whose names have these words, over a quarter, a half and all of so many bytes, at least
+   262,144. A status of the tool; TROUBLE where one is answered otherwise than meant, or none has such a name. */
+int bench_worst(word bytes, const char *words);
 
 #endif

@@ -132,12 +132,13 @@ static int worst_line(struct fared *f, word bytes, const word ordinary[PARTS]) {
     return 1;
 }
 
-/* The lines of all shapes; how many there are goes into `count`. 0 where one is answered otherwise than meant. */
-static int worst_lines(struct fared *all, word *count, word bytes, const word ordinary[PARTS]) {
+/* The lines of all shapes whose names have these words; how many there are goes into `count`. 0 where one is answered otherwise than meant. */
+static int worst_lines(struct fared *all, word *count, word bytes, const char *words, const word ordinary[PARTS]) {
     static const struct shape *const LISTS[] = {SHAPES_OF_DATASETS, SHAPES_OF_UPDATES, SHAPES_OF_EDITS};
     *count = 0;
     for (word list = 0; list < sizeof LISTS / sizeof *LISTS; list++) {
         for (const struct shape *shape = LISTS[list]; shape->name; shape++) {
+            if (!strstr(shape->name, words)) continue;
             all[*count].shape = shape;
             if (!worst_line(all + (*count)++, bytes, ordinary)) return 0;
         }
@@ -183,7 +184,7 @@ static void summed_up(const struct fared *all, word count, word bytes) {
     if (!many) printf("none of %lu shapes is above that\n", count);
 }
 
-int bench_worst(word bytes) {
+int bench_worst(word bytes, const char *words) {
     static struct fared all[LINES];
     word ordinary[PARTS], count;
     char digits[DIGITS];
@@ -192,7 +193,8 @@ int bench_worst(word bytes) {
     for (int part = 0; part < PARTS; part++) printf(" %12s", counted(part_of(bytes, part), digits));
     printf("    times   growth\n");
     if (!ordinary_line(bytes, ordinary)) return trouble("bench", "the ordinary dataset is not to be had");
-    if (!worst_lines(all, &count, bytes, ordinary)) return TROUBLE;
+    if (!worst_lines(all, &count, bytes, words, ordinary)) return TROUBLE;
+    if (count == 0) return trouble("bench", "no shape has such a name");
     summed_up(all, count, bytes);
     return DONE;
 }

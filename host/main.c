@@ -8,7 +8,7 @@
 enum { KIBIBYTE = 1024, MEBIBYTE = 1048576 };
 
 static int usage(void) {
-    return trouble("usage", "read FILE | list FILE | fields FILE RECORD | write FILE OUT | update FILE UPDATE OUT | demo .. | batch CASES | bench read|write|update [MIB] | bench worst [MIB|KIBK]");
+    return trouble("usage", "read FILE | list FILE | fields FILE RECORD | write FILE OUT | update FILE UPDATE OUT | demo .. | batch CASES | bench read|write|update [MIB] | bench worst [MIB|KIBK [WORDS]]");
 }
 
 static int is(const char *given, const char *wanted) {
@@ -29,7 +29,7 @@ static int measured(int count, char **words) {
     if (mebibytes > 0 && is(words[2], "read")) return bench_read(mebibytes);
     if (mebibytes > 0 && is(words[2], "write")) return bench_write(mebibytes);
     if (mebibytes > 0 && is(words[2], "update")) return bench_update(mebibytes);
-    if (bytes >= 256 * KIBIBYTE && is(words[2], "worst")) return bench_worst(bytes);
+    if (bytes >= 256 * KIBIBYTE && is(words[2], "worst")) return bench_worst(bytes, count == 5 ? words[4] : "");
     return usage();
 }
 
@@ -42,6 +42,7 @@ static int chosen(int count, char **words) {
     if (count >= 2 && is(words[1], "demo")) return demo(count - 2, words + 2);
     if (count == 3 && is(words[1], "batch")) return batch(words[2]);
     if ((count == 3 || count == 4) && is(words[1], "bench")) return measured(count, words);
+    if (count == 5 && is(words[1], "bench") && is(words[2], "worst")) return measured(count, words);
     return usage();
 }
 

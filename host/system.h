@@ -31,6 +31,7 @@ void *memset(void *, int, word);
 int memcmp(const void *, const void *, word);
 int strcmp(const char *, const char *);
 word strlen(const char *);
+char *strstr(const char *, const char *);
 word strtoul(const char *, char **, int);
 int printf(const char *, ...);
 int dprintf(int, const char *, ...);

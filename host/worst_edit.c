@@ -109,6 +109,31 @@ static word attributed_dataset(struct pile *d, int deep, word *records) {
     return count;
 }
 
+/* As many records as fit with attributes of many codes, each code twice, in another order; each is modified once. */
+static void many_codes_modified(struct pile *d, struct pile *u) {
+    word codes = least(ATTRIBUTES, left(d) / 24) / 2, records = 0;
+    do {
+        identified_record(&r, INFORMATION, records + 1, 1, INSERT);
+        field_begin(&r, "ATTR");
+        for (word i = 0; i < 2 * codes; i++) attribute_tuple(&r, 1 + mixed(i % codes, codes), 1 + i / codes, 0, INSERT, "");
+        field_end(&r);
+    } while (piled(d, &r) && ++records);
+    for (word rcid = 1; rcid <= records; rcid++) pile_bare(u, INFORMATION, rcid, 2, MODIFY);
+}
+
+/* The same with attributes side by side, but below nine others. */
+static void deep_siblings_modified(struct pile *d, struct pile *u) {
+    word count = least(ATTRIBUTES, left(d) / 24), records = 0;
+    do {
+        identified_record(&r, INFORMATION, records + 1, 1, INSERT);
+        field_begin(&r, "ATTR");
+        for (word i = 1; i <= 9; i++) attribute_tuple(&r, 1, 1, i - 1, INSERT, "");
+        for (word i = 10; i <= count; i++) attribute_tuple(&r, 1, i - 9, 9, INSERT, "");
+        field_end(&r);
+    } while (piled(d, &r) && ++records);
+    for (word rcid = 1; rcid <= records; rcid++) pile_bare(u, INFORMATION, rcid, 2, MODIFY);
+}
+
 /* Shortest modifies of large records in turn, which change nothing but their versions. */
 static void large_in_turn(struct pile *d, struct pile *u) {
     word records, i = 0;
@@ -338,5 +363,7 @@ const struct shape SHAPES_OF_EDITS[] = {
     {"modifies of as many empty fields as fit", UPDATES, POOL, 0, empty_fields},
     {"multi points of 4,900 fields, all tuples moved", UPDATES, POOL, 0, many_fields_moved},
     {"large records modified in turn", UPDATES, POOL, 0, large_in_turn},
+    {"records of many codes, each modified once", UPDATES, POOL, 0, many_codes_modified},
+    {"deep siblings, each record modified once", UPDATES, POOL, 0, deep_siblings_modified},
     {0, 0, 0, 0, 0},
 };
