@@ -12,6 +12,7 @@ use Rattle.version.specs.Held.{Held}
 use Rattle.version.specs.declared.Version.{Version}
 use Rattle.composing.specs.Emitted.{Emitted}
 use Rattle.composing.specs.Kept.{Kept, Lasts, EmitsHeld, MadeHeld}
+use Rattle.composing.specs.Made.{Surely}
 use Rattle.composing.specs.Told.{TellsHeld}
 use Rattle.composing.specs.declared.making.Made.the-variants.{Loose, Next}
 use Rattle.composing.proofs.EmittedLaws.{emitted-not, emitted-room, emitted-there, emitted-word}
@@ -41,14 +42,14 @@ module _ (d u w : List ℕ) (v : Version) where
     unfolding EmitsHeld
     kept-there h n out g r e = emitted-there (writtenFields r) to before l (el .is r e) h n out (g r e .0) (g r e .1)
 
-  module _ (ds us : ℕ) (flags : List ℕ) (to : ℕ) (before out : List ℕ) (x : Bool) (t : TellsHeld d ds u us flags w v x) where
-    pub kept-loose : not x ≡ true → MadeHeld d ds u us flags w v to before out Loose
+  module _ (ds us : ℕ) (flags : List ℕ) (sure : Bool) (to : ℕ) (before out : List ℕ) (x : Bool) (t : Surely sure (TellsHeld d ds u us flags w v x) x) where
+    pub kept-loose : not x ≡ true → MadeHeld d ds u us flags sure w v to before out Loose
     unfolding MadeHeld
-    kept-loose y r h s = held-made-loose d ds u us flags to before out w v x t r h s y
+    kept-loose y r h s = held-made-loose d ds u us flags sure to before out w v x t r h s y
 
-    pub kept-next : not x ≡ false → (n : ℕ) → EmitsHeld d u w v to before n out → MadeHeld d ds u us flags w v to before out (Next n)
+    pub kept-next : not x ≡ false → (n : ℕ) → EmitsHeld d u w v to before n out → MadeHeld d ds u us flags sure w v to before out (Next n)
     unfolding MadeHeld EmitsHeld
-    kept-next y n e r h s = held-made-next d ds u us flags to before out w v x t r h s y n (e r h)
+    kept-next y n e r h s = held-made-next d ds u us flags sure to before out w v x t r h s y n (e r h)
 
 pub ruleset lasts-ways = (kept-held, lasts-is)
 

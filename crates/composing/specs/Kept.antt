@@ -1,6 +1,7 @@
 -- A record in the workspace that can be written, and what is told of it as one of the result.
 use Prim.Native.Nat.{ℕ, _≤_}
 use mathlib.Core.Path.{_≡_}
+use mathlib.Core.Bool.{Bool}
 use mathlib.Core.List.{List}
 use Rattle.rules.specs.Record.{Rec}
 use Rattle.rules.specs.Written.{writtenFields, writtenLength}
@@ -26,5 +27,5 @@ unfoldable pub EmitsHeld : List ℕ → List ℕ → List ℕ → Version → �
 EmitsHeld d u w v to before n out = (r : Rec) → Held d u w v r → Emitted (writtenFields r) to before n out
 
 -- the same, with what it names
-unfoldable pub MadeHeld : List ℕ → ℕ → List ℕ → ℕ → List ℕ → List ℕ → Version → ℕ → List ℕ → List ℕ → Made → Type 0
-MadeHeld d ds u us flags w v to before out m = (r : Rec) → Held d u w v r → SoundRec r → MadeOf d ds u us flags r to before out m
+unfoldable pub MadeHeld : List ℕ → ℕ → List ℕ → ℕ → List ℕ → Bool → List ℕ → Version → ℕ → List ℕ → List ℕ → Made → Type 0
+MadeHeld d ds u us flags sure w v to before out m = (r : Rec) → Held d u w v r → SoundRec r → MadeOf d ds u us flags sure r to before out m

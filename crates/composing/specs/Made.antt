@@ -1,7 +1,7 @@
 -- What is told of one record of the result.
 use Prim.Native.Nat.{ℕ}
 use mathlib.Core.Path.{_≡_}
-use mathlib.Core.Bool.{true}
+use mathlib.Core.Bool.{Bool, true, false}
 use mathlib.Core.List.{List}
 use Rattle.base.specs.Check.{no, pass}
 use Rattle.base.specs.Lists.{gather}
@@ -23,12 +23,18 @@ use Rattle.composing.specs.Emitted.{Emitted}
 use Rattle.composing.specs.declared.making.Made.{Made}
 use Rattle.composing.specs.declared.making.Made.the-variants.{Loose, Next}
 
-module _ (d : List ℕ) (ds : ℕ) (u : List ℕ) (us : ℕ) (flags : List ℕ) where
-  -- number 11 refuses the record r; or it passes, and r is written from `to` on where there is room
+-- b tells whether something stands, or is true where that is known before
+pub record Surely (sure : Bool) (Told : Type 0) (b : Bool) : Type 0 where
+  pub told : sure ≡ false → Told
+  pub known : sure ≡ true → b ≡ true
+
+-- sure: it is known before that what the result's records name stands
+module _ (d : List ℕ) (ds : ℕ) (u : List ℕ) (us : ℕ) (flags : List ℕ) (sure : Bool) where
+  -- number 11 refuses the record r; or it passes, if that is not sure, and r is written from `to` on where there is room
   unfoldable pub MadeOf : Rec → ℕ → List ℕ → List ℕ → Made → Type 0
   MadeOf r to before out Loose = (recs : List Rec) → Settled recs d ds u us flags
       → (x : Fault) × (x .number ≡ 11) × (refersTo (standing chart recs ((recordsFrom u us) .items)) (marks 1 (writtenFields r)) ≡ no x)
-  MadeOf r to before out (Next n) = ((recs : List Rec) → Settled recs d ds u us flags → refersTo (standing chart recs ((recordsFrom u us) .items)) (marks 1 (writtenFields r)) ≡ pass)
+  MadeOf r to before out (Next n) = (sure ≡ false → (recs : List Rec) → Settled recs d ds u us flags → refersTo (standing chart recs ((recordsFrom u us) .items)) (marks 1 (writtenFields r)) ≡ pass)
       × Emitted (writtenFields r) to before n out
 
   -- so it is with the record that these fields are, where they are written in the house form
@@ -36,5 +42,5 @@ module _ (d : List ℕ) (ds : ℕ) (u : List ℕ) (us : ℕ) (flags : List ℕ) 
   Carries fs to before out m = (k : Kind) → SoundRec (recOf k fs) → writtenFields (recOf k fs) ≡ inHouseForm true fs → MadeOf (recOf k fs) to before out m
 
 -- so it is where the dataset has what they name
-unfoldable pub CarriesTied : List ℕ → ℕ → List ℕ → List Field → ℕ → List ℕ → List ℕ → Made → Type 0
-CarriesTied u us flags fs to before out m = (d : List ℕ) (ds : ℕ) → TiedIn d ds (gather fieldKeys fs) → Carries d ds u us flags fs to before out m
+unfoldable pub CarriesTied : List ℕ → ℕ → List ℕ → Bool → List Field → ℕ → List ℕ → List ℕ → Made → Type 0
+CarriesTied u us flags sure fs to before out m = (d : List ℕ) (ds : ℕ) → TiedIn d ds (gather fieldKeys fs) → Carries d ds u us flags sure fs to before out m

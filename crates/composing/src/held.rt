@@ -10,6 +10,7 @@ ghost use Rattle.skeleton.specs.Place.{between};
 ghost use Rattle.cells.specs.Cells.{bodyAt, bodiesOf};
 ghost use Rattle.composing.specs.Settled.{Asks};
 ghost use Rattle.composing.specs.Keys.{KeyOf};
+ghost use Rattle.composing.specs.Made.{Surely};
 ghost use Rattle.composing.specs.Told.{TellsCells, TellsHeld};
 
 // The key at the front of the body of cell i.
@@ -77,7 +78,7 @@ fn area_stands(
 }
 
 // Those that the record in the workspace names.
-pub fn version_stands(
+fn version_stands(
     d: &[u8],
     ds: usize,
     t: &[u32],
@@ -104,4 +105,28 @@ pub fn version_stands(
     let to = 386000;
     let m = v.spas;
     area_stands(d, ds, t, n, map, u, us, flags, out, lim, work, from, to, m)
+}
+
+// The same, where that is not known before.
+pub fn version_passes(
+    d: &[u8],
+    ds: usize,
+    t: &[u32],
+    n: usize,
+    map: &[u8],
+    u: &[u8],
+    us: usize,
+    flags: &[u8],
+    out: &[u8],
+    lim: Limits,
+    work: &[u8],
+    v: Version,
+) -> bool
+    requires { ⌜ Asks (now d) ds (now t) n (now map) (now u) us (now flags) lim (now out) × (400000 ≤ length (now work)) × (7 * v .inas ≤ 92000) × (7 * v .spas ≤ 94000) ⌝ }
+    ensures { λ b. ⌜ Surely (lim .sure) (TellsHeld (now (d .entry)) ds (now (u .entry)) us (now (flags .entry)) (now (work .entry)) v b) b ⌝ }
+{
+    if lim.sure {
+        return true;
+    }
+    version_stands(d, ds, t, n, map, u, us, flags, out, lim, work, v)
 }

@@ -143,10 +143,10 @@ module _ (d : List ℕ) (ds : ℕ) (t : List ℕ) (n : ℕ) (map u : List ℕ) (
   pub new-lasting : Lasts → Lasting u us p key
   new-lasting l = record { len = len; shape = h; there = o; inserts = l .0; kept = l .1 }
 
-  module _ (q to : ℕ) (before : List ℕ) where
+  module _ (sure : Bool) (q to : ℕ) (before : List ℕ) where
     -- the record is this step, and the workspace is v then
     abbrev Done : List ℕ → List ℕ → Step → Type 0
-    Done out v s = Stepped d ds u us (flagArea w) (joinedOf chart q fields later) to before out s × FlagsKept w v
+    Done out v s = Stepped d ds u us (flagArea w) sure (joinedOf chart q fields later) to before out s × FlagsKept w v
 
     pub new-other : (key / 4294967296 ≡ q → ⊥) → Done before w Nothing
     unfolding Stepped
@@ -160,9 +160,9 @@ module _ (d : List ℕ) (ds : ℕ) (t : List ℕ) (n : ℕ) (map u : List ℕ) (
     unfolding Stepped
     new-gone g eg z = ((joined-deleted chart q fields later (gone-is ∙ sym eg ∙ z), refl), refl)
 
-    pub new-joined : key / 4294967296 ≡ q → Lasts → (out : List ℕ) (s : Step) (v : List ℕ) → NewStep d ds u us w to before out p key v s → Done out v s
+    pub new-joined : key / 4294967296 ≡ q → Lasts → (out : List ℕ) (s : Step) (v : List ℕ) → NewStep d ds u us w sure to before out p key v s → Done out v s
     unfolding new-lasting
-    new-joined e l out s v y = (subst (λ (k : ℕ). Stepped d ds u us (flagArea w) (joinedOf chart k fields later) to before out s) e (y .made (new-lasting l)), y .flags)
+    new-joined e l out s v y = (subst (λ (k : ℕ). Stepped d ds u us (flagArea w) sure (joinedOf chart k fields later) to before out s) e (y .made (new-lasting l)), y .flags)
 
   -- ---- `joined`: w₂ and c are what it and the later ones made of nothing
 
@@ -188,15 +188,15 @@ module _ (d : List ℕ) (ds : ℕ) (t : List ℕ) (n : ℕ) (map u : List ℕ) (
     pub new-stays : Bytes u → length w₂ ≡ length w → Whole d ds t n map u us w₂ × Stays d u w₂ c
     new-stays b l = (whole-kept d ds t n map u us w x w₂ (y .kept) l, record { rec = ends .0; sound = sound b; came = came })
 
-    pub new-last : Bytes u → (to : ℕ) (before out : List ℕ) (s : Step) → LastStep d ds u us w₂ to before out c s
-        → Stepped d ds u us (flagArea w) (joinedOf chart (key / 4294967296) fields later) to before out s
+    pub new-last : (sure : Bool) → Bytes u → (to : ℕ) (before out : List ℕ) (s : Step) → LastStep d ds u us w₂ sure to before out c s
+        → Stepped d ds u us (flagArea w) sure (joinedOf chart (key / 4294967296) fields later) to before out s
     unfolding LastStep
-    new-last b to before out s l =
-        stepped-as d ds u us (flagArea w) to before out (ends .0 ∷ []) (joinedOf chart (key / 4294967296) fields later)
+    new-last sure b to before out s l =
+        stepped-as d ds u us (flagArea w) sure to before out (ends .0 ∷ []) (joinedOf chart (key / 4294967296) fields later)
         (joined-stays chart (key / 4294967296) fields later (ends .0) (insert-is ∙ inserts) (eq-eqb (placeOf (namedIn fields)) (key / 4294967296) placed) (gone-is ∙ kept) (ends .1))
-        s (subst (λ (f : List ℕ). Stepped d ds u us f (ends .0 ∷ []) to before out s) (flags-kept w w₂ (y .kept)) (l (ends .0) (sound b) came))
+        s (subst (λ (f : List ℕ). Stepped d ds u us f sure (ends .0 ∷ []) to before out s) (flags-kept w w₂ (y .kept)) (l (ends .0) (sound b) came))
 
-pub new-step : (d : List ℕ) (ds : ℕ) (t : List ℕ) (n : ℕ) (map u : List ℕ) (us : ℕ) (w : List ℕ) → Whole d ds t n map u us w → (to : ℕ) (before out : List ℕ) (s : Step) (p key : ℕ)
-    → (w₂ : List ℕ) (c : Changed) → Played d u p (length u) w Absent key w₂ c → Bytes u → LastStep d ds u us w₂ to before out c s → NewStep d ds u us w to before out p key w₂ s
-new-step d ds t n map u us w x to before out s p key w₂ c y b z =
-    record { made = λ l. new-last d ds t n map u us w x p (l .len) (l .shape) key (l .there) w₂ c y (l .inserts) (l .kept) b to before out s z; flags = y .kept }
+pub new-step : (d : List ℕ) (ds : ℕ) (t : List ℕ) (n : ℕ) (map u : List ℕ) (us : ℕ) (w : List ℕ) → Whole d ds t n map u us w → (sure : Bool) (to : ℕ) (before out : List ℕ) (s : Step) (p key : ℕ)
+    → (w₂ : List ℕ) (c : Changed) → Played d u p (length u) w Absent key w₂ c → Bytes u → LastStep d ds u us w₂ sure to before out c s → NewStep d ds u us w sure to before out p key w₂ s
+new-step d ds t n map u us w x sure to before out s p key w₂ c y b z =
+    record { made = λ l. new-last d ds t n map u us w x p (l .len) (l .shape) key (l .there) w₂ c y (l .inserts) (l .kept) sure b to before out s z; flags = y .kept }

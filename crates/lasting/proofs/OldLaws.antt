@@ -140,10 +140,10 @@ module _ (d : List ℕ) (ds : ℕ) (t : List ℕ) (n : ℕ) (map u : List ℕ) (
 
   -- ---- `make_old`, its ways out; q is the kind that is asked for
 
-  module _ (q to : ℕ) (before : List ℕ) where
+  module _ (sure : Bool) (q to : ℕ) (before : List ℕ) where
     -- the record is this step, and the workspace is v then
     abbrev Done : List ℕ → List ℕ → Step → Type 0
-    Done out v s = Stepped d ds u us (flagArea w) (keptOf chart q items rec) to before out s × FlagsKept w v
+    Done out v s = Stepped d ds u us (flagArea w) sure (keptOf chart q items rec) to before out s × FlagsKept w v
 
     pub old-other : (key / 4294967296 ≡ q → ⊥) → Done before w Nothing
     unfolding Stepped
@@ -154,17 +154,17 @@ module _ (d : List ℕ) (ds : ℕ) (t : List ℕ) (n : ℕ) (map u : List ℕ) (
     old-gone g eg z = ((kept-deleted chart q items rec (gone-is ∙ sym eg ∙ z), refl), refl)
 
     module _ (e : key / 4294967296 ≡ q) (out : List ℕ) (s : Step) where
-      pub old-same : (f : Bool) → f ≡ flagOf (flagArea w) (key % 111997) → not f ≡ true → SameStep d ds u us w to before out p len h s → Done out w s
+      pub old-same : (f : Bool) → f ≡ flagOf (flagArea w) (key % 111997) → not f ≡ true → SameStep d ds u us w sure to before out p len h s → Done out w s
       unfolding SameStep
       old-same f ef z y = (
-        stepped-as d ds u us (flagArea w) to before out (rec ∷ []) (keptOf chart q items rec)
+        stepped-as d ds u us (flagArea w) sure to before out (rec ∷ []) (keptOf chart q items rec)
             (kept-untouched chart q items rec (eq-eqb (placeOf (keyInRules rec)) q (placed ∙ e)) (unnamed (sym ef ∙ not-true f z)))
             s (y key o),
         refl,
       )
 
-      pub old-played : (v : List ℕ) → OldStep d ds u us w to before out p key v s → Done out v s
-      old-played v y = (subst (λ (k : ℕ). Stepped d ds u us (flagArea w) (keptOf chart k items rec) to before out s) e (y .made len h o), y .flags)
+      pub old-played : (v : List ℕ) → OldStep d ds u us w sure to before out p key v s → Done out v s
+      old-played v y = (subst (λ (k : ℕ). Stepped d ds u us (flagArea w) sure (keptOf chart k items rec) to before out s) e (y .made len h o), y .flags)
 
   -- ---- `untouched`
 
@@ -202,13 +202,13 @@ module _ (d : List ℕ) (ds : ℕ) (t : List ℕ) (n : ℕ) (map u : List ℕ) (
     pub old-short : writtenLength (inHouseForm true fields) ≤ 99999
     old-short = subst (λ (fs : List Field). writtenLength fs ≤ 99999) (ap writtenFields as-kind ∙ house) (short-record (writtenFields rec) writes)
 
-    pub old-carried : (f : List ℕ) (to : ℕ) (before out : List ℕ) (m : Made) → Carries d ds u us f fields to before out m → (s : Step) → s ≡ stepBy m
-        → Stepped d ds u us f (rec ∷ []) to before out s
+    pub old-carried : (sure : Bool) (f : List ℕ) (to : ℕ) (before out : List ℕ) (m : Made) → Carries d ds u us f sure fields to before out m → (s : Step) → s ≡ stepBy m
+        → Stepped d ds u us f sure (rec ∷ []) to before out s
     unfolding Carries
-    old-carried f to before out m c s es =
-        stepped-as d ds u us f to before out (recOf (stored .0) fields ∷ []) (rec ∷ []) (ap (λ (r : Rec). r ∷ []) as-kind) s
-        (subst (λ (y : Step). Stepped d ds u us f (recOf (stored .0) fields ∷ []) to before out y) (sym es)
-        (made-step d ds u us f to before out (recOf (stored .0) fields) (subst (λ (r : Rec). number12 (writtenFields r) ≡ pass) as-kind writes) m
+    old-carried sure f to before out m c s es =
+        stepped-as d ds u us f sure to before out (recOf (stored .0) fields ∷ []) (rec ∷ []) (ap (λ (r : Rec). r ∷ []) as-kind) s
+        (subst (λ (y : Step). Stepped d ds u us f sure (recOf (stored .0) fields ∷ []) to before out y) (sym es)
+        (made-step d ds u us f sure to before out (recOf (stored .0) fields) (subst (λ (r : Rec). number12 (writtenFields r) ≡ pass) as-kind writes) m
         (c (stored .0) (subst SoundRec as-kind (has SoundRec (x .sound))) house)))
 
   -- ---- `played`
@@ -251,13 +251,13 @@ module _ (d : List ℕ) (ds : ℕ) (t : List ℕ) (n : ℕ) (map u : List ℕ) (
     pub old-stays : Bytes u → length w₂ ≡ length w → Whole d ds t n map u us w₂ × Stays d u w₂ c
     old-stays b l = (whole-kept d ds t n map u us w x w₂ (y .kept) l, record { rec = ends .0; sound = sound b; came = came })
 
-    pub old-last : Bytes u → (to : ℕ) (before out : List ℕ) (s : Step) → LastStep d ds u us w₂ to before out c s
-        → Stepped d ds u us (flagArea w) (keptOf chart (key / 4294967296) items rec) to before out s
+    pub old-last : (sure : Bool) → Bytes u → (to : ℕ) (before out : List ℕ) (s : Step) → LastStep d ds u us w₂ sure to before out c s
+        → Stepped d ds u us (flagArea w) sure (keptOf chart (key / 4294967296) items rec) to before out s
     unfolding LastStep
-    old-last b to before out s l =
-        stepped-as d ds u us (flagArea w) to before out (ends .0 ∷ []) (keptOf chart (key / 4294967296) items rec)
+    old-last sure b to before out s l =
+        stepped-as d ds u us (flagArea w) sure to before out (ends .0 ∷ []) (keptOf chart (key / 4294967296) items rec)
         (kept-stays chart (key / 4294967296) items rec (ends .0) (eq-eqb (placeOf (keyInRules rec)) (key / 4294967296) placed) (gone-is ∙ kept) (ends .1))
-        s (subst (λ (f : List ℕ). Stepped d ds u us f (ends .0 ∷ []) to before out s) (flags-kept w w₂ (y .kept)) (l (ends .0) (sound b) came))
+        s (subst (λ (f : List ℕ). Stepped d ds u us f sure (ends .0 ∷ []) to before out s) (flags-kept w w₂ (y .kept)) (l (ends .0) (sound b) came))
 
 -- ---- `replay`
 
@@ -269,15 +269,15 @@ module _ (d u : List ℕ) (us p key : ℕ) (r : Replayable d u us p key) (v : Li
   pub replayed : (w : List ℕ) → FlagsKept w v → (w₂ : List ℕ) (c : Changed) → Played d u us (length u) v pr key w₂ c → Replayed d u us p key w w₂ c
   replayed w k w₂ c y = record { middle = v; first = pr; loaded = g; played = y; kept = y .kept ∙ k }
 
-module _ (d : List ℕ) (ds : ℕ) (t : List ℕ) (n : ℕ) (map u : List ℕ) (us : ℕ) (w : List ℕ) (x : Whole d ds t n map u us w) (to : ℕ) (before out : List ℕ) (s : Step) (p : ℕ) where
+module _ (d : List ℕ) (ds : ℕ) (t : List ℕ) (n : ℕ) (map u : List ℕ) (us : ℕ) (w : List ℕ) (x : Whole d ds t n map u us w) (sure : Bool) (to : ℕ) (before out : List ℕ) (s : Step) (p : ℕ) where
   -- f is the workspace's flags
-  pub same-step : Bytes d → (f : List ℕ) → f ≡ flagArea w → (len : ℕ) (h : Shape) (m : Made) → CarriesTied u us f (fieldsAt (between d p (p + len)) h 24) to before out m
-      → s ≡ stepBy m → SameStep d ds u us w to before out p len h s
+  pub same-step : Bytes d → (f : List ℕ) → f ≡ flagArea w → (len : ℕ) (h : Shape) (m : Made) → CarriesTied u us f sure (fieldsAt (between d p (p + len)) h 24) to before out m
+      → s ≡ stepBy m → SameStep d ds u us w sure to before out p len h s
   unfolding SameStep CarriesTied
   same-step bytes f e len h m c es key o =
-      step-flags d ds u us f w e to before out (recIn (fieldsAt (between d p (p + len)) h 24) ∷ []) s
-      (old-carried d ds t n map u us w x p len h key o bytes f to before out m (c d ds (old-tied d ds t n map u us w x p len h key o)) s es)
+      step-flags d ds u us f w e sure to before out (recIn (fieldsAt (between d p (p + len)) h 24) ∷ []) s
+      (old-carried d ds t n map u us w x p len h key o bytes sure f to before out m (c d ds (old-tied d ds t n map u us w x p len h key o)) s es)
 
   pub old-step : (key : ℕ) (w₂ : List ℕ) (c : Changed) → Replayed d u us p key w w₂ c → deletedFrom u us key ≡ false → Bytes u
-      → LastStep d ds u us w₂ to before out c s → OldStep d ds u us w to before out p key w₂ s
-  old-step key w₂ c y kept b l = record { made = λ len h o. old-last d ds t n map u us w x p len h key o w₂ c y kept b to before out s l; flags = y .kept }
+      → LastStep d ds u us w₂ sure to before out c s → OldStep d ds u us w sure to before out p key w₂ s
+  old-step key w₂ c y kept b l = record { made = λ len h o. old-last d ds t n map u us w x p len h key o w₂ c y kept sure b to before out s l; flags = y .kept }

@@ -1,6 +1,7 @@
 -- Laws of one step of the result. Assumes nothing.
 use Prim.Native.Nat.{ℕ, _*_, _≤_}
 use mathlib.Core.Path.{_≡_, refl, sym, subst}
+use mathlib.Core.Bool.{Bool}
 use mathlib.Core.Option.{Option, some, none}
 use mathlib.Core.List.{List, [], _∷_}
 use native.Mathlib.Omega.{arith}
@@ -42,27 +43,27 @@ pub ruleset step-ways = (step-loose, step-one)
 
 -- ---- a record that can be written
 
-module _ (d : List ℕ) (ds : ℕ) (u : List ℕ) (us : ℕ) (flags : List ℕ) (to : ℕ) (before out : List ℕ) where
+module _ (d : List ℕ) (ds : ℕ) (u : List ℕ) (us : ℕ) (flags : List ℕ) (sure : Bool) (to : ℕ) (before out : List ℕ) where
   -- what was made of it is a step
-  pub made-step : (r : Rec) → number12 (writtenFields r) ≡ pass → (m : Made) → MadeOf d ds u us flags r to before out m → Stepped d ds u us flags (r ∷ []) to before out (stepBy m)
+  pub made-step : (r : Rec) → number12 (writtenFields r) ≡ pass → (m : Made) → MadeOf d ds u us flags sure r to before out m → Stepped d ds u us flags sure (r ∷ []) to before out (stepBy m)
   unfolding Stepped stepBy
   made-step r f MadeLoose o = (r, refl, o)
   made-step r f (Next n) o = (r, refl, o, unfold MadeOf in (let e = o .1 .next in let s = short-record (writtenFields r) f in omega arith))
 
   -- of other records, which are the same
-  pub stepped-as : (rs qs : List Rec) → qs ≡ rs → (s : Step) → Stepped d ds u us flags rs to before out s → Stepped d ds u us flags qs to before out s
-  stepped-as rs qs e s x = subst (λ (l : List Rec). Stepped d ds u us flags l to before out s) (sym e) x
+  pub stepped-as : (rs qs : List Rec) → qs ≡ rs → (s : Step) → Stepped d ds u us flags sure rs to before out s → Stepped d ds u us flags sure qs to before out s
+  stepped-as rs qs e s x = subst (λ (l : List Rec). Stepped d ds u us flags sure l to before out s) (sym e) x
 
 -- ---- `held_step`: f is the workspace's flags
 
-module _ (d : List ℕ) (ds : ℕ) (u : List ℕ) (us : ℕ) (f w : List ℕ) (e : f ≡ flagArea w) (to : ℕ) (before out : List ℕ) where
-  pub step-flags : (rs : List Rec) (s : Step) → Stepped d ds u us f rs to before out s → Stepped d ds u us (flagArea w) rs to before out s
-  step-flags rs s x = subst (λ (g : List ℕ). Stepped d ds u us g rs to before out s) e x
+module _ (d : List ℕ) (ds : ℕ) (u : List ℕ) (us : ℕ) (f w : List ℕ) (e : f ≡ flagArea w) (sure : Bool) (to : ℕ) (before out : List ℕ) where
+  pub step-flags : (rs : List Rec) (s : Step) → Stepped d ds u us f sure rs to before out s → Stepped d ds u us (flagArea w) sure rs to before out s
+  step-flags rs s x = subst (λ (g : List ℕ). Stepped d ds u us g sure rs to before out s) e x
 
-  pub held-step : (v : Version) (m : Made) → MadeHeld d ds u us f w v to before out m → (s : Step) → s ≡ stepBy m → HeldStep d ds u us w to before out v s
+  pub held-step : (v : Version) (m : Made) → MadeHeld d ds u us f sure w v to before out m → (s : Step) → s ≡ stepBy m → HeldStep d ds u us w sure to before out v s
   unfolding MadeHeld HeldStep
   held-step v m y s z r h o k =
-      step-flags (r ∷ []) s (subst (λ (x : Step). Stepped d ds u us f (r ∷ []) to before out x) (sym z) (made-step d ds u us f to before out r k m (y r h o)))
+      step-flags (r ∷ []) s (subst (λ (x : Step). Stepped d ds u us f sure (r ∷ []) to before out x) (sym z) (made-step d ds u us f sure to before out r k m (y r h o)))
 
 -- nothing comes of no record, but there is one
 module _ (d u w : List ℕ) (c : Changed) where
@@ -91,16 +92,16 @@ module _ (d u w : List ℕ) (c : Changed) where
   pub stays-kept : (p : Present) → c ≡ Now p → (v : Version) → p ≡ Here v → Stays d u w c → Kept d u w v
   stays-kept p e v a s = let y = stays-held p e (s .rec) (s .came) v a in record { rec = s .rec; held = y .0; short = short-record (writtenFields (s .rec)) (y .1) }
 
-  module _ (ds us to : ℕ) (before out : List ℕ) (s : Step) where
-    pub last-held : (p : Present) → c ≡ Now p → (v : Version) → p ≡ Here v → HeldStep d ds u us w to before out v s → LastStep d ds u us w to before out c s
+  module _ (ds us : ℕ) (sure : Bool) (to : ℕ) (before out : List ℕ) (s : Step) where
+    pub last-held : (p : Present) → c ≡ Now p → (v : Version) → p ≡ Here v → HeldStep d ds u us w sure to before out v s → LastStep d ds u us w sure to before out c s
     unfolding HeldStep LastStep
     last-held p e v a h r o x = let y = stays-held p e r x v a in h r (y .0) o (y .1)
 
-    pub last-absent : (p : Present) → c ≡ Now p → p ≡ Absent → LastStep d ds u us w to before out c s
+    pub last-absent : (p : Present) → c ≡ Now p → p ≡ Absent → LastStep d ds u us w sure to before out c s
     unfolding LastStep
     last-absent p e a r o x = stays-absent p e r x a
 
-    pub last-refused : (n i j : ℕ) → c ≡ Refused n i j → LastStep d ds u us w to before out c s
+    pub last-refused : (n i j : ℕ) → c ≡ Refused n i j → LastStep d ds u us w sure to before out c s
     unfolding LastStep
     last-refused n i j e r o x = stays-not n i j e r x
 

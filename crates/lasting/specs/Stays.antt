@@ -1,7 +1,7 @@
 -- What code made of a key's history, as a step of the result.
 use Prim.Native.Nat.{ℕ, _+_, _/_, _≤_, _<_}
 use mathlib.Core.Path.{_≡_}
-use mathlib.Core.Bool.{true, false}
+use mathlib.Core.Bool.{Bool, true, false}
 use mathlib.Core.Option.{some}
 use mathlib.Core.List.{List, [], _∷_}
 use lib.Dec.{eqb}
@@ -75,27 +75,27 @@ pub record Stays (d u w : List ℕ) (c : Changed) : Type 0 where
   pub came : ChangedTo d u w (ok (some rec)) c
 
 -- w is the workspace, with its flags; they are named in shut definitions and records alone, since code that hands them on would compute the area's ends
-module _ (d : List ℕ) (ds : ℕ) (u : List ℕ) (us : ℕ) (w : List ℕ) (to : ℕ) (before out : List ℕ) where
+module _ (d : List ℕ) (ds : ℕ) (u : List ℕ) (us : ℕ) (w : List ℕ) (sure : Bool) (to : ℕ) (before out : List ℕ) where
   -- the version v in the workspace is this step
   unfoldable pub HeldStep : Version → Step → Type 0
-  HeldStep v s = (r : Rec) → Held d u w v r → SoundRec r → number12 (writtenFields r) ≡ pass → Stepped d ds u us (flagArea w) (r ∷ []) to before out s
+  HeldStep v s = (r : Rec) → Held d u w v r → SoundRec r → number12 (writtenFields r) ≡ pass → Stepped d ds u us (flagArea w) sure (r ∷ []) to before out s
 
   -- what code made of a history, which ends with a record, is this step
   unfoldable pub LastStep : Changed → Step → Type 0
-  LastStep c s = (r : Rec) → SoundRec r → ChangedTo d u w (ok (some r)) c → Stepped d ds u us (flagArea w) (r ∷ []) to before out s
+  LastStep c s = (r : Rec) → SoundRec r → ChangedTo d u w (ok (some r)) c → Stepped d ds u us (flagArea w) sure (r ∷ []) to before out s
 
   -- the old record at p, as it stands
   unfoldable pub SameStep : ℕ → ℕ → Shape → Step → Type 0
-  SameStep p len h s = (key : ℕ) → Old d ds p len h key → Stepped d ds u us (flagArea w) (recIn (fieldsAt (between d p (p + len)) h 24) ∷ []) to before out s
+  SameStep p len h s = (key : ℕ) → Old d ds p len h key → Stepped d ds u us (flagArea w) sure (recIn (fieldsAt (between d p (p + len)) h 24) ∷ []) to before out s
 
   -- the same after the update records that name it; the workspace is w₂ then
   pub record OldStep (p key : ℕ) (w₂ : List ℕ) (s : Step) : Type 0 where
     pub made : (len : ℕ) (h : Shape) → Old d ds p len h key
-        → Stepped d ds u us (flagArea w) (keptOf chart (key / 4294967296) ((recordsFrom u us) .items) (recIn (fieldsAt (between d p (p + len)) h 24))) to before out s
+        → Stepped d ds u us (flagArea w) sure (keptOf chart (key / 4294967296) ((recordsFrom u us) .items) (recIn (fieldsAt (between d p (p + len)) h 24))) to before out s
     pub flags : FlagsKept w w₂
 
   -- the record that the update record at p inserts; the workspace is w₂ then
   pub record NewStep (p key : ℕ) (w₂ : List ℕ) (s : Step) : Type 0 where
     pub made : (l : Lasting u us p key)
-        → Stepped d ds u us (flagArea w) (joinedOf chart (key / 4294967296) (fieldsAt (between u p (p + l .len)) (l .shape) 24) ((recordsFrom u (p + l .len)) .items)) to before out s
+        → Stepped d ds u us (flagArea w) sure (joinedOf chart (key / 4294967296) (fieldsAt (between u p (p + l .len)) (l .shape) 24) ((recordsFrom u (p + l .len)) .items)) to before out s
     pub flags : FlagsKept w w₂

@@ -1,5 +1,5 @@
 // A record in the workspace as one of the result.
-use composing::held::version_stands;
+use composing::held::version_passes;
 use composing::making::Made;
 use emission::measuring::version_length;
 use emission::writer::write_version;
@@ -48,9 +48,9 @@ pub fn make_held(
 ) -> Made
     requires { ⌜ Asks (now d) ds (now t) n (now map) (now u) us (now flags) lim (now out) × (400000 ≤ length (now work)) × (7 * v .inas ≤ 92000) × (7 * v .spas ≤ 94000) ⌝ }
     requires { ⌜ (length (now d) ≤ 16777216) × (length (now u) ≤ 16777216) × (to ≤ 4611686018427387904) × Kept (now d) (now u) (now work) v ⌝ }
-    ensures { λ e. ⌜ MadeHeld (now (d .entry)) ds (now (u .entry)) us (now (flags .entry)) (now (work .entry)) v to (now (out .entry)) (now (out .exit)) e ⌝ }
+    ensures { λ e. ⌜ MadeHeld (now (d .entry)) ds (now (u .entry)) us (now (flags .entry)) (lim .sure) (now (work .entry)) v to (now (out .entry)) (now (out .exit)) e ⌝ }
 {
-    if !version_stands(d, ds, t, n, map, u, us, flags, out, lim, work, v) {
+    if !version_passes(d, ds, t, n, map, u, us, flags, out, lim, work, v) {
         return Made::Loose;
     }
     Made::Next(emit_version(d, u, work, v, out, to))

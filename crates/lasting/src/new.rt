@@ -49,7 +49,7 @@ fn joined(
     lim: Limits,
 ) -> Step
     requires { ⌜ Whole (now d) ds (now t) n (now map) (now u) us (now work) × Lasting (now u) us p key × (to ≤ 4611686018427387904) × Indices (now d) ds (now u) us lim (now out) ⌝ }
-    ensures { λ s. ⌜ NewStep (now (d .entry)) ds (now (u .entry)) us (now (work .entry)) to (now (out .entry)) (now (out .exit)) p key (now (work .exit)) s ⌝ }
+    ensures { λ s. ⌜ NewStep (now (d .entry)) ds (now (u .entry)) us (now (work .entry)) (lim .sure) to (now (out .entry)) (now (out .exit)) p key (now (work .exit)) s ⌝ }
 {
     let last = play_named(d, u, us, out, lim, p, key, Present::Absent, work);
     last_step(d, ds, t, n, map, u, us, work, last, out, to, lim)
@@ -75,7 +75,7 @@ pub fn make_new(
     lim: Limits,
 ) -> Step
     requires { ⌜ Whole (now d) ds (now t) n (now map) (now u) us (now work) × New (now u) us p len h key × (to ≤ 4611686018427387904) × Indices (now d) ds (now u) us lim (now out) ⌝ }
-    ensures { λ r. ⌜ Stepped (now (d .entry)) ds (now (u .entry)) us (flagArea (now (work .entry))) (joinedOf chart q (fieldsAt (between (now (u .entry)) p (p + len)) h 24) ((recordsFrom (now (u .entry)) (p + len)) .items)) to (now (out .entry)) (now (out .exit)) r
+    ensures { λ r. ⌜ Stepped (now (d .entry)) ds (now (u .entry)) us (flagArea (now (work .entry))) (lim .sure) (joinedOf chart q (fieldsAt (between (now (u .entry)) p (p + len)) h 24) ((recordsFrom (now (u .entry)) (p + len)) .items)) to (now (out .entry)) (now (out .exit)) r
         × FlagsKept (now (work .entry)) (now (work .exit)) ⌝ }
 {
     if key / 4294967296 != q {

@@ -46,7 +46,7 @@ fn untouched(
     lim: Limits,
 ) -> Step
     requires { ⌜ ((t : List ℕ) × (n : ℕ) × (map : List ℕ) × Whole (now d) ds t n map (now u) us (now work)) × ((key : ℕ) × Old (now d) ds p len h key) × (to ≤ 4611686018427387904) × Indices (now d) ds (now u) us lim (now out) ⌝ }
-    ensures { λ s. ⌜ SameStep (now (d .entry)) ds (now (u .entry)) us (now (work .entry)) to (now (out .entry)) (now (out .exit)) p len h s ⌝ }
+    ensures { λ s. ⌜ SameStep (now (d .entry)) ds (now (u .entry)) us (now (work .entry)) (lim .sure) to (now (out .entry)) (now (out .exit)) p len h s ⌝ }
 {
     let flags = flags_of(work);
     step_of(make_untouched(u, us, flags, &d[p..p + len], h, out, to, lim))
@@ -87,7 +87,7 @@ fn played(
     lim: Limits,
 ) -> Step
     requires { ⌜ Whole (now d) ds (now t) n (now map) (now u) us (now work) × ((len : ℕ) × (h : Shape) × Old (now d) ds p len h key) × (to ≤ 4611686018427387904) × (deletedFrom (now u) us key ≡ false) × Indices (now d) ds (now u) us lim (now out) ⌝ }
-    ensures { λ s. ⌜ OldStep (now (d .entry)) ds (now (u .entry)) us (now (work .entry)) to (now (out .entry)) (now (out .exit)) p key (now (work .exit)) s ⌝ }
+    ensures { λ s. ⌜ OldStep (now (d .entry)) ds (now (u .entry)) us (now (work .entry)) (lim .sure) to (now (out .entry)) (now (out .exit)) p key (now (work .exit)) s ⌝ }
 {
     let last = replay(d, u, us, p, key, work, out, lim);
     last_step(d, ds, t, n, map, u, us, work, last, out, to, lim)
@@ -113,7 +113,7 @@ pub fn make_old(
     lim: Limits,
 ) -> Step
     requires { ⌜ Whole (now d) ds (now t) n (now map) (now u) us (now work) × Old (now d) ds p len h key × (to ≤ 4611686018427387904) × Indices (now d) ds (now u) us lim (now out) ⌝ }
-    ensures { λ r. ⌜ Stepped (now (d .entry)) ds (now (u .entry)) us (flagArea (now (work .entry))) (keptOf chart q ((recordsFrom (now (u .entry)) us) .items) (recIn (fieldsAt (between (now (d .entry)) p (p + len)) h 24))) to (now (out .entry)) (now (out .exit)) r
+    ensures { λ r. ⌜ Stepped (now (d .entry)) ds (now (u .entry)) us (flagArea (now (work .entry))) (lim .sure) (keptOf chart q ((recordsFrom (now (u .entry)) us) .items) (recIn (fieldsAt (between (now (d .entry)) p (p + len)) h 24))) to (now (out .entry)) (now (out .exit)) r
         × FlagsKept (now (work .entry)) (now (work .exit)) ⌝ }
 {
     if key / 4294967296 != q {

@@ -40,7 +40,7 @@ fn held_step(
     lim: Limits,
 ) -> Step
     requires { ⌜ Whole (now d) ds (now t) n (now map) (now u) us (now work) × Kept (now d) (now u) (now work) v × (to ≤ 4611686018427387904) × Indices (now d) ds (now u) us lim (now out) ⌝ }
-    ensures { λ s. ⌜ HeldStep (now (d .entry)) ds (now (u .entry)) us (now (work .entry)) to (now (out .entry)) (now (out .exit)) v s ⌝ }
+    ensures { λ s. ⌜ HeldStep (now (d .entry)) ds (now (u .entry)) us (now (work .entry)) (lim .sure) to (now (out .entry)) (now (out .exit)) v s ⌝ }
 {
     let flags = flags_of(work);
     step_of(make_held(d, ds, t, n, map, u, us, flags, work, v, out, to, lim))
@@ -62,7 +62,7 @@ pub fn last_step(
     lim: Limits,
 ) -> Step
     requires { ⌜ Whole (now d) ds (now t) n (now map) (now u) us (now work) × Stays (now d) (now u) (now work) last × (to ≤ 4611686018427387904) × Indices (now d) ds (now u) us lim (now out) ⌝ }
-    ensures { λ s. ⌜ LastStep (now (d .entry)) ds (now (u .entry)) us (now (work .entry)) to (now (out .entry)) (now (out .exit)) last s ⌝ }
+    ensures { λ s. ⌜ LastStep (now (d .entry)) ds (now (u .entry)) us (now (work .entry)) (lim .sure) to (now (out .entry)) (now (out .exit)) last s ⌝ }
 {
     match last {
         Changed::Now(p) => match p {

@@ -1,7 +1,7 @@
 -- Laws of the pass over one kind of a result's records, and over all four. Assumes nothing.
-use Prim.Native.Nat.{ℕ, suc, _+_, _*_, _≤_, _<_}
+use Prim.Native.Nat.{ℕ, suc, _+_, _-_, _*_, _≤_, _<_}
 use mathlib.Core.Path.{_≡_, refl, sym, ap, subst, _∙_}
-use mathlib.Core.Bool.{true, false}
+use mathlib.Core.Bool.{Bool, true, false, true≢false}
 use mathlib.Core.List.{List}
 use native.Mathlib.Omega.{arith}
 use native.Mathlib.Numerals.{add-one}
@@ -15,13 +15,14 @@ use Rattle.updates.specs.Streamed.{resultRecords, resultReferences}
 use Rattle.stock.specs.Stock.{stockFrom}
 use Rattle.composing.specs.Composing.{Complete}
 use Rattle.composing.proofs.ComposingLaws.{left-all, left-kind, left-end, composing-start, composing-same, composing-over}
-use Rattle.result.specs.Composed.{ComposedBy}
+use Rattle.result.specs.Composed.{ComposedBy, Again}
+use Rattle.result.specs.declared.Composed.{Composed}
 use Rattle.sorting.specs.Indices.{Indices, Spared}
 use Rattle.sorting.specs.declared.limits.Limits.{Limits}
 use Rattle.sorting.proofs.IndicesLaws.{spared-start}
 use Rattle.lasting.specs.Whole.{Whole}
 use Rattle.lasting.proofs.WholeLaws.{whole-kept}
-use Rattle.result.specs.Pass.{Within, passFrom, kindsLeft, newLeft, linksOf, Made, Passing, Few, Walked, Sparing}
+use Rattle.result.specs.Pass.{Within, passFrom, kindsLeft, newLeft, linksOf, Made, Passing, Few, Walked, Sparing, Clear}
 use Rattle.result.specs.Side.{fileOf, Reached, StandsBy, Ended, Stands, sideLeft, sideBehind}
 use Rattle.result.specs.declared.pass.Progress.{Progress}
 use Rattle.result.specs.declared.pass.Pass.{Pass}
@@ -141,11 +142,11 @@ module _ (d : List ℕ) (ds : ℕ) (u : List ℕ) (us : ℕ) where
     pub whole : Whole d ds t n map u us w
     pub place : q ≤ 5
     pub few : g .made ≤ 33554432 * q
-    pub room : g .to ≤ 299997 + 99999 * g .made
+    pub room : g .to ≤ 33854429 + 99999 * g .made
     pub spares : Sparing (record { to = at; made = 0; next = ds }) before out (Went g)
 
   module _ (t : List ℕ) (n : ℕ) (map : List ℕ) (at : ℕ) where
-    pub kinds-start : at ≤ 299997 → (o w : List ℕ) → Whole d ds t n map u us w → Kinds t n map 1 (record { to = at; made = 0; next = ds }) at o w o
+    pub kinds-start : at ≤ 33854429 → (o w : List ℕ) → Whole d ds t n map u us w → Kinds t n map 1 (record { to = at; made = 0; next = ds }) at o w o
     unfolding Passing
     kinds-start h o w y = record {
       passing = λ start first z. z;
@@ -159,8 +160,8 @@ module _ (d : List ℕ) (ds : ℕ) (u : List ℕ) (us : ℕ) where
 
     module _ (q : ℕ) (g : Progress) (before w out : List ℕ) (k : Kinds t n map q g at before w out) where
       -- the indices that are left
-      pub kinds-spared : (lim : Limits) → Indices d ds u us lim before → Spared d ds u us lim (g .to) out
-      kinds-spared lim i = sparing-spared d ds u us lim (record { to = at; made = 0; next = ds }) g before out (k .spares) (spared-start d ds u us lim at before i)
+      pub kinds-spared : (lim : Limits) → (lim .dry ≡ true → length before < at) → Indices d ds u us lim before → Spared d ds u us lim (g .to) out
+      kinds-spared lim x i = sparing-spared d ds u us lim (record { to = at; made = 0; next = ds }) g before out (k .spares) (spared-start d ds u us lim at before x i)
 
       -- before the first record
       none-made : Made d ds u us (kindsLeft d ds u us 1) at 0 at before before
@@ -168,6 +169,11 @@ module _ (d : List ℕ) (ds : ℕ) (u : List ℕ) (us : ℕ) where
           composing-same (linksOf d ds u us) (resultRecords (stockFrom d ds) ((recordsFrom u us) .items)) at before 0 at before _ _
           (sym (left-all (stockFrom d ds) ((recordsFrom u us) .items)))
           (composing-start (linksOf d ds u us) (resultRecords (stockFrom d ds) ((recordsFrom u us) .items)) at before)
+
+      -- from behind the end of the output on nothing was written
+      spares-kept : length before < at → out ≡ before
+      unfolding Sparing
+      spares-kept l = k .spares .2 l
 
       -- behind the last kind
       pub kinds-over : 5 ≤ q → ComposedBy (stockFrom d ds) ((recordsFrom u us) .items) at before (WholeResult (g .to) (g .made)) out
@@ -185,7 +191,11 @@ module _ (d : List ℕ) (ds : ℕ) (u : List ℕ) (us : ℕ) where
             stands = λ len c e s.
                 let z : len ≡ g .to = cc in
                 all .wrote (omega arith) .is ∙ ap (λ (b : List ℕ). put at b before) (rest-bytes (stockFrom d ds) ((recordsFrom u us) .items));
+            kept = λ len c e l. spares-kept l;
           }
+
+      pub kinds-again : (r : Composed) → Again u us w r
+      kinds-again r = record { flags = λ len c e. k .whole .flags }
 
       module _ (l : q < 5) where
         pub kinds-within : Within 1073741824 g
@@ -209,6 +219,7 @@ module _ (d : List ℕ) (ds : ℕ) (u : List ℕ) (us : ℕ) where
                 long = λ len c e. absurd (let z : _≡_ {A = ℕ} 0 1 = cc in omega arith);
                 counted = λ len c e. absurd (let z : _≡_ {A = ℕ} 0 1 = cc in omega arith);
                 stands = λ len c e. absurd (let z : _≡_ {A = ℕ} 0 1 = cc in omega arith);
+                kept = λ len c e. absurd (let z : _≡_ {A = ℕ} 0 1 = cc in omega arith);
               }
 
           pub kinds-next : (h : Progress) → r ≡ Went h → length w2 ≡ length w → Kinds t n map (q + 1) h at before w2 out2
@@ -226,3 +237,66 @@ module _ (d : List ℕ) (ds : ℕ) (u : List ℕ) (us : ℕ) where
                 room = f .1;
                 spares = sparing-then (record { to = at; made = 0; next = ds }) g before out out2 (k .spares) (Went h) (subst (λ (a : Pass). Sparing g out out2 a) x (v .walked .spares));
               }
+
+-- ---- one pass, or two
+
+-- a refusal leaves no pass to come
+pub loose-again : (u : List ℕ) (us : ℕ) (w : List ℕ) (k : ℕ) → Again u us w (LooseResult k)
+loose-again u us w k = record { flags = λ len c e. absurd (let z : _≡_ {A = ℕ} 0 1 = cc in omega arith) }
+
+-- the indices are not told by what the pass is
+pub indices-as : (d : List ℕ) (ds : ℕ) (u : List ℕ) (us : ℕ) (lim : Limits) (dry sure : Bool) (out : List ℕ) → Indices d ds u us lim out
+    → Indices d ds u us (record { old = lim .old; new = lim .new; dry = dry; sure = sure }) out
+indices-as d ds u us lim dry sure out i = record { runs = i .runs; inside = i .inside; old = i .old; new = i .new }
+
+-- a pass that is not sure
+pub clear-not : (d : List ℕ) (ds : ℕ) (u : List ℕ) (us : ℕ) (lim : Limits) → lim .sure ≡ false → Clear d ds u us lim
+unfolding Clear
+clear-not d ds u us lim e = λ h. absurd (true≢false (sym h ∙ e))
+
+-- ---- the dry pass was made, from behind the end of the output o
+
+module _ (d : List ℕ) (ds : ℕ) (u : List ℕ) (us at : ℕ) (o o₂ : List ℕ) (room : length o < 33554432) (r : Composed)
+    (c : ComposedBy (stockFrom d ds) ((recordsFrom u us) .items) (at + 33554432) o r o₂) where
+  pub dry-loose : (k : ℕ) → r ≡ LooseResult k → ComposedBy (stockFrom d ds) ((recordsFrom u us) .items) at o (LooseResult k) o₂
+  dry-loose k x = record {
+    loose = λ j e. c .loose j (x ∙ e);
+    linked = λ len n e. absurd (let z : _≡_ {A = ℕ} 0 1 = cc in omega arith);
+    long = λ len n e. absurd (let z : _≡_ {A = ℕ} 0 1 = cc in omega arith);
+    counted = λ len n e. absurd (let z : _≡_ {A = ℕ} 0 1 = cc in omega arith);
+    stands = λ len n e. absurd (let z : _≡_ {A = ℕ} 0 1 = cc in omega arith);
+    kept = λ len n e. absurd (let z : _≡_ {A = ℕ} 0 1 = cc in omega arith);
+  }
+
+  module _ (len n : ℕ) (x : r ≡ WholeResult len n) where
+    pub dry-long : 33554432 ≤ len
+    dry-long = omega (arith, c .long len n x)
+
+    -- nothing was written
+    pub dry-kept : o₂ ≡ o
+    dry-kept = c .kept len n x (omega arith)
+
+    pub dry-indices : (lim : Limits) (sure : Bool) → Indices d ds u us lim o → Indices d ds u us (record { old = lim .old; new = lim .new; dry = false; sure = sure }) o₂
+    dry-indices lim sure i = subst (Indices d ds u us (record { old = lim .old; new = lim .new; dry = false; sure = sure })) (sym dry-kept) (indices-as d ds u us lim false sure o i)
+
+    pub dry-clear : (lim : Limits) → Clear d ds u us lim
+    unfolding Clear
+    dry-clear lim h = c .linked len n x
+
+    -- it has no room
+    pub dry-short : length o₂ < len - 33554432 → ComposedBy (stockFrom d ds) ((recordsFrom u us) .items) at o (WholeResult (len - 33554432) n) o₂
+    dry-short h =
+        let l = c .long len n x in
+        let same = ap length dry-kept in
+        record {
+          loose = λ k e. absurd (let z : _≡_ {A = ℕ} 0 1 = cc in omega arith);
+          linked = λ m k e. c .linked len n x;
+          long = λ m k e. let z : m ≡ len - 33554432 = cc in z ∙ omega arith;
+          counted = λ m k e. let z : k ≡ n = cc in z ∙ c .counted len n x;
+          stands = λ m k e g. absurd (let z : m ≡ len - 33554432 = cc in omega arith);
+          kept = λ m k e g. dry-kept;
+        }
+
+    -- it is written by the pass behind it
+    pub dry-then : (s : Composed) (o₃ : List ℕ) → ComposedBy (stockFrom d ds) ((recordsFrom u us) .items) at o₂ s o₃ → ComposedBy (stockFrom d ds) ((recordsFrom u us) .items) at o s o₃
+    dry-then s o₃ y = subst (λ (b : List ℕ). ComposedBy (stockFrom d ds) ((recordsFrom u us) .items) at b s o₃) dry-kept y

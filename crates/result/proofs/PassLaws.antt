@@ -1,19 +1,21 @@
 -- Laws of the pass over a result's records, part by part. Assumes nothing.
 use Prim.Native.Nat.{ℕ, _+_, _^_, _≤_, _<_}
-use mathlib.Core.Path.{_≡_, sym, ap, _∙_, subst}
-use mathlib.Core.Bool.{false}
+use mathlib.Core.Path.{_≡_, refl, sym, ap, _∙_, subst}
+use mathlib.Core.Bool.{Bool, true, false}
 use mathlib.Core.List.{List, _∷_, _++_}
 use native.Mathlib.Omega.{arith}
 use borrow.Author.Tests.{leb-true, leb-false}
 use lib.Dec.{leb}
 use lib.ListN.{length, drop, take, length-take, length-append}
 use lib.Seq.{drop-at}
+use Rattle.base.specs.Check.{Passed, ok, no, pass}
 use Rattle.base.specs.Walk.{Got}
 use Rattle.memory.specs.Wrote.{Wrote}
 use Rattle.memory.proofs.PutLaws.{length-put, put-is}
 use Rattle.skeleton.specs.File.{Field, recordsFrom}
 use Rattle.skeleton.specs.Emit.{emit}
 use Rattle.rules.specs.Record.{Rec}
+use Rattle.rules.specs.Outcome.{done}
 use Rattle.rules.specs.Written.{writtenFields, fieldWidth}
 use Rattle.sequence.proofs.Tests.{by-bool}
 use Rattle.updates.specs.Streamed.{resultRecords, resultReferences}
@@ -84,18 +86,22 @@ pub ruleset from-ways = (from-loose, from-went)
 
 pub sparing-none : (g : Progress) (o : List ℕ) → Sparing g o o (Went g)
 unfolding Sparing
-sparing-none g o = (omega arith, beyond-same (g .to) o)
+sparing-none g o = (omega arith, beyond-same (g .to) o, λ h. refl)
 
 pub sparing-then : (g g2 : Progress) (o o2 o3 : List ℕ) → Sparing g o o2 (Went g2) → (r : Pass) → Sparing g2 o2 o3 r → Sparing g o o3 r
 unfolding Sparing
 sparing-then g g2 o o2 o3 a (Loose k) b = tt
-sparing-then g g2 o o2 o3 a (Went g3) b = let x = a .0 in let y = b .0 in (omega arith, beyond-then (g2 .to) (g3 .to) o o2 o3 y (a .1) (b .1))
+sparing-then g g2 o o2 o3 a (Went g3) b =
+    let x = a .0 in
+    let y = b .0 in
+    let l = a .1 .long in
+    (omega arith, beyond-then (g2 .to) (g3 .to) o o2 o3 y (a .1) (b .1), λ h. b .2 (omega arith) ∙ a .2 h)
 
 -- so are the indices that stand there
 pub sparing-spared : (d : List ℕ) (ds : ℕ) (u : List ℕ) (us : ℕ) (lim : Limits) (g h : Progress) (o o2 : List ℕ) → Sparing g o o2 (Went h)
     → Spared d ds u us lim (g .to) o → Spared d ds u us lim (h .to) o2
 unfolding Sparing
-sparing-spared d ds u us lim g h o o2 a s = spared-on d ds u us lim (g .to) (h .to) o o2 (a .0) (a .1) s
+sparing-spared d ds u us lim g h o o2 a s = spared-on d ds u us lim (g .to) (h .to) o o2 (a .0) (a .1) (a .2) s
 
 -- a record is written up to where the next one begins
 wrote-beyond : (to : ℕ) (ys before : List ℕ) (n : ℕ) (out : List ℕ) → n ≤ length before → Wrote to ys before n out → Beyond n before out
@@ -125,14 +131,25 @@ module _ (d : List ℕ) (ds : ℕ) (u : List ℕ) (us : ℕ) where
   -- ---- one record
 
   module _ (t : List ℕ) (n : ℕ) (map w : List ℕ) (y : Whole d ds t n map u us w) (rs : List Rec) (g : Progress) (i : Within 4294967296 g) (o o′ : List ℕ) (next : ℕ) (left : List Rec) where
-    pub turned-by : (s : Step) → Stepped d ds u us (flagArea w) rs (g .to) o o′ s → Walked d ds u us (rs ++ left) left 1 g o o′ (passAfter s g next)
+    -- what is sure is so
+    sure-links : (r : Rec) (at : ℕ) (first : List ℕ) → Made d ds u us (r ∷ left) at (g .made) (g .to) first o → resultReferences (stockFrom d ds) ((recordsFrom u us) .items) ≡ done tt
+        → (a : Passed) → linksOf d ds u us r ≡ a → linksOf d ds u us r ≡ pass
+    unfolding resultReferences
+    sure-links r at first v c (ok t) e = e
+    sure-links r at first v c (no x) e =
+        absurd
+        (let y = sym c ∙ composing-loose (linksOf d ds u us) (resultRecords (stockFrom d ds) ((recordsFrom u us) .items)) at first (g .made) (g .to) o r left v x e in
+        let z : _≡_ {A = ℕ} 0 1 = cc in omega arith)
+
+    pub turned-by : (sure : Bool) → (sure ≡ true → resultReferences (stockFrom d ds) ((recordsFrom u us) .items) ≡ done tt)
+        → (s : Step) → Stepped d ds u us (flagArea w) sure rs (g .to) o o′ s → Walked d ds u us (rs ++ left) left 1 g o o′ (passAfter s g next)
     unfolding Stepped Passing Few Within passAfter MadeOf resultReferences Sparing
-    turned-by Nothing h = record {
+    turned-by sure clear Nothing h = record {
       passing = λ at first z. let v : Made d ds u us left at (g .made) (g .to) first o = rw (h .0) at z in rw (h .1) v;
       few = (omega arith, i .1);
-      spares = (omega arith, subst (Beyond (g .to) o) (sym (h .1)) (beyond-same (g .to) o));
+      spares = (omega arith, subst (Beyond (g .to) o) (sym (h .1)) (beyond-same (g .to) o), λ l. h .1);
     }
-    turned-by LooseStep h = record {
+    turned-by sure clear LooseStep h = record {
       passing = λ at first z.
           let v : Made d ds u us (h .0 ∷ left) at (g .made) (g .to) first o = rw (h .1) at z in
           let x = h .2 (stockFrom d ds) (whole-settled d ds t n map u us w y) in
@@ -140,13 +157,16 @@ module _ (d : List ℕ) (ds : ℕ) (u : List ℕ) (us : ℕ) where
       few = tt;
       spares = tt;
     }
-    turned-by (One to) h = record {
+    turned-by sure clear (One to) h = record {
       passing = λ at first z.
           let v : Made d ds u us (h .0 ∷ left) at (g .made) (g .to) first o = rw (h .1) at z in
+          let links : linksOf d ds u us (h .0) ≡ pass = by-bool sure
+          (λ e. sure-links (h .0) at first v (clear e) (linksOf d ds u us (h .0)) refl)
+          (λ e. h .2 .0 e (stockFrom d ds) (whole-settled d ds t n map u us w y)) in
           composing-emitted (linksOf d ds u us) (resultRecords (stockFrom d ds) ((recordsFrom u us) .items)) at first (g .made) (g .to) o (h .0) left v
-          (h .2 .0 (stockFrom d ds) (whole-settled d ds t n map u us w y)) to o′ (h .2 .1);
+          links to o′ (h .2 .1);
       few = (omega arith, let a = h .3 in let b = i .1 in omega arith);
-      spares = (let e = h .2 .1 .next in omega arith, emitted-beyond (writtenFields (h .0)) (g .to) o to o′ (h .2 .1));
+      spares = (let e = h .2 .1 .next in omega arith, emitted-beyond (writtenFields (h .0)) (g .to) o to o′ (h .2 .1), λ l. h .2 .1 .kept (let e = h .2 .1 .next in omega arith));
     }
 
   -- ---- one part after another

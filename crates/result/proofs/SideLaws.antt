@@ -31,7 +31,7 @@ use Rattle.lasting.specs.Step.{Stepped}
 use Rattle.lasting.specs.declared.Step.{Step}
 use Rattle.lasting.specs.declared.Step.the-variants.{Nothing, Loose as LooseStep, One}
 use Rattle.lasting.proofs.WholeLaws.{whole-kept}
-use Rattle.result.specs.Pass.{Within, passAfter, Passing, Few, Walked, Sparing}
+use Rattle.result.specs.Pass.{Within, passAfter, Passing, Few, Walked, Sparing, Clear}
 use Rattle.result.specs.Side.{fileOf, laterKind, StandsBy, Here, Ended, Stands, sideLeft, sideBehind, sideOne, Put, Onward, TurnedTo, Turned}
 use Rattle.result.specs.declared.pass.Progress.{Progress}
 use Rattle.result.specs.declared.pass.Pass.{Pass}
@@ -104,18 +104,18 @@ module _ (d : List ℕ) (ds : ℕ) (u : List ℕ) (us q : ℕ) where
 
   -- ---- `make`
 
-  module _ (old : Bool) (p len : ℕ) (h : Shape) (to : ℕ) (w o w′ o′ : List ℕ) (s : Step) where
+  module _ (old : Bool) (p len : ℕ) (h : Shape) (sure known : Bool) (z : known ≡ sure) (to : ℕ) (w o w′ o′ : List ℕ) (s : Step) where
     pub put-old : old ≡ true
-        → Stepped d ds u us (flagArea w) (keptOf chart q ((recordsFrom u us) .items) (recIn (fieldsAt (between d p (p + len)) h 24))) to o o′ s × FlagsKept w w′
-        → Put d ds u us q old p len h to w o w′ o′ s
+        → Stepped d ds u us (flagArea w) known (keptOf chart q ((recordsFrom u us) .items) (recIn (fieldsAt (between d p (p + len)) h 24))) to o o′ s × FlagsKept w w′
+        → Put d ds u us q old p len h sure to w o w′ o′ s
     unfolding sideOne
-    put-old e v = subst (λ (b : Bool). Put d ds u us q b p len h to w o w′ o′ s) (sym e) (record { made = v .0; flags = v .1 })
+    put-old e v = subst (λ (b : Bool). Put d ds u us q b p len h sure to w o w′ o′ s) (sym e) (subst (λ (c : Bool). Put d ds u us q true p len h c to w o w′ o′ s) z (record { made = v .0; flags = v .1 }))
 
     pub put-new : old ≡ false
-        → Stepped d ds u us (flagArea w) (joinedOf chart q (fieldsAt (between u p (p + len)) h 24) ((recordsFrom u (p + len)) .items)) to o o′ s × FlagsKept w w′
-        → Put d ds u us q old p len h to w o w′ o′ s
+        → Stepped d ds u us (flagArea w) known (joinedOf chart q (fieldsAt (between u p (p + len)) h 24) ((recordsFrom u (p + len)) .items)) to o o′ s × FlagsKept w w′
+        → Put d ds u us q old p len h sure to w o w′ o′ s
     unfolding sideOne
-    put-new e v = subst (λ (b : Bool). Put d ds u us q b p len h to w o w′ o′ s) (sym e) (record { made = v .0; flags = v .1 })
+    put-new e v = subst (λ (b : Bool). Put d ds u us q b p len h sure to w o w′ o′ s) (sym e) (subst (λ (c : Bool). Put d ds u us q false p len h c to w o w′ o′ s) z (record { made = v .0; flags = v .1 }))
 
   -- ---- `turn`
 
@@ -145,7 +145,7 @@ module _ (d : List ℕ) (ds : ℕ) (u : List ℕ) (us q : ℕ) where
             record { turned = (still, λ same. here-stop (g .next) len shape key old st read z (sym eo ∙ y)); flags = refl }
 
         -- or goes on
-        module _ (y : over ≡ false) (t : List ℕ) (n : ℕ) (map w : List ℕ) (whole : Whole d ds t n map u us w) (o w′ o′ : List ℕ) where
+        module _ (y : over ≡ false) (t : List ℕ) (n : ℕ) (map w : List ℕ) (whole : Whole d ds t n map u us w) (lim : Limits) (clear : Clear d ds u us lim) (o w′ o′ : List ℕ) where
           went : (h : Progress) → h .next ≡ g .next + len → Walked d ds u us (sideLeft d ds u us q old (g .next)) (sideLeft d ds u us q old (g .next + len)) 1 g o o′ (Went h)
               → TurnedTo d ds u us q old g o o′ (Went h)
           unfolding TurnedTo Few Within
@@ -160,20 +160,21 @@ module _ (d : List ℕ) (ds : ℕ) (u : List ℕ) (us q : ℕ) where
               } in
               (z, λ same. absurd (let c = falls in omega (arith, eh, same)))
 
-          walked : (s : Step) → Put d ds u us q old (g .next) len shape (g .to) w o w′ o′ s
+          walked : (s : Step) → Put d ds u us q old (g .next) len shape (lim .sure) (g .to) w o w′ o′ s
               → Walked d ds u us (sideLeft d ds u us q old (g .next)) (sideLeft d ds u us q old (g .next + len)) 1 g o o′ (passAfter s g (g .next + len))
+          unfolding Clear
           walked s v =
               subst (λ (k : List Rec). Walked d ds u us k (sideLeft d ds u us q old (g .next + len)) 1 g o o′ (passAfter s g (g .next + len)))
               (sym (here-split (g .next) len shape key old st read))
-              (turned-by d ds u us t n map w whole (sideOne d ds u us q old (g .next) len shape) g i o o′ (g .next + len) (sideLeft d ds u us q old (g .next + len)) s (v .made))
+              (turned-by d ds u us t n map w whole (sideOne d ds u us q old (g .next) len shape) g i o o′ (g .next + len) (sideLeft d ds u us q old (g .next + len)) (lim .sure) clear s (v .made))
 
-          turned-to : (s : Step) → Put d ds u us q old (g .next) len shape (g .to) w o w′ o′ s → TurnedTo d ds u us q old g o o′ (passAfter s g (g .next + len))
+          turned-to : (s : Step) → Put d ds u us q old (g .next) len shape (lim .sure) (g .to) w o w′ o′ s → TurnedTo d ds u us q old g o o′ (passAfter s g (g .next + len))
           unfolding passAfter
           turned-to Nothing v = went _ refl (walked Nothing v)
           turned-to LooseStep v = unfold TurnedTo Passing in λ later. walked LooseStep v .passing
           turned-to (One to) v = went _ refl (walked (One to) v)
 
-          pub turn-on : (s : Step) → Put d ds u us q old (g .next) len shape (g .to) w o w′ o′ s → (r : Pass) → r ≡ passAfter s g (g .next + len)
+          pub turn-on : (s : Step) → Put d ds u us q old (g .next) len shape (lim .sure) (g .to) w o w′ o′ s → (r : Pass) → r ≡ passAfter s g (g .next + len)
               → Turned d ds u us q old g w o w′ o′ r
           turn-on s v r er = record { turned = subst (λ (k : Pass). TurnedTo d ds u us q old g o o′ k) (sym er) (turned-to s v); flags = v .flags }
 

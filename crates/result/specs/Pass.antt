@@ -1,7 +1,9 @@
 -- A part of the pass over a result's records: from where some of them are left to where fewer are.
-use Prim.Native.Nat.{ℕ, _+_, _*_, _≤_}
+use Prim.Native.Nat.{ℕ, _+_, _*_, _≤_, _<_}
 use mathlib.Core.Path.{_≡_}
+use mathlib.Core.Bool.{true}
 use mathlib.Core.List.{List}
+use lib.ListN.{length}
 use Rattle.base.specs.Check.{Passed}
 use Rattle.base.specs.Walk.{Got}
 use Rattle.base.specs.declared.Fault.{Fault}
@@ -9,12 +11,13 @@ use Rattle.skeleton.specs.File.{recordsFrom}
 use Rattle.rules.specs.Associations.{marks}
 use Rattle.rules.specs.Record.{Rec}
 use Rattle.rules.specs.Written.{writtenFields}
-use Rattle.rules.specs.Outcome.{refused}
+use Rattle.rules.specs.Outcome.{done, refused}
 use Rattle.sequence.specs.Stream.{standing}
 use Rattle.updates.specs.Acts.{chart}
 use Rattle.updates.specs.Streamed.{resultRecords, resultReferences, refersTo}
 use Rattle.stock.specs.Stock.{stockFrom}
 use Rattle.sorting.specs.Indices.{Beyond}
+use Rattle.sorting.specs.declared.limits.Limits.{Limits}
 use Rattle.composing.specs.Composing.{leftKinds, leftOld, leftNew, Composing}
 use Rattle.lasting.specs.declared.Step.{Step}
 use Rattle.lasting.specs.declared.Step.the-variants.{Nothing, Loose as LooseStep, One}
@@ -22,9 +25,9 @@ use Rattle.result.specs.declared.pass.Progress.{Progress}
 use Rattle.result.specs.declared.pass.Pass.{Pass}
 use Rattle.result.specs.declared.pass.Pass.the-variants.{Loose, Went}
 
--- at most m records were made behind the third, and the next begins no later than where records of 99,999 bytes end
+-- at most m records were made behind the third, and the next begins no later than where records of 99,999 bytes end, three before them and 33,554,432 bytes
 unfoldable pub Within : ℕ → Progress → Type 0
-Within m g = (g .made ≤ m) × (g .to ≤ 299997 + 99999 * g .made)
+Within m g = (g .made ≤ m) × (g .to ≤ 33854429 + 99999 * g .made)
 
 -- where the pass is after a step
 unfoldable pub passAfter : Step → Progress → ℕ → Pass
@@ -37,10 +40,10 @@ unfoldable pub passFrom : Pass → ℕ → Pass
 passFrom (Loose k) next = Loose k
 passFrom (Went g) next = Went (record { to = g .to; made = g .made; next = next })
 
--- from g, where out was `before`, it wrote no further than where it went on to
+-- from g, where out was `before`, it wrote no further than where it went on to, and from behind the end of out on nothing
 unfoldable pub Sparing : Progress → List ℕ → List ℕ → Pass → Type 0
 Sparing g before out (Loose k) = Unit {0}
-Sparing g before out (Went h) = (g .to ≤ h .to) × Beyond (h .to) before out
+Sparing g before out (Went h) = (g .to ≤ h .to) × Beyond (h .to) before out × (length before < g .to → out ≡ before)
 
 -- the dataset d from ds on, the update u from us on
 module _ (d : List ℕ) (ds : ℕ) (u : List ℕ) (us : ℕ) where
@@ -59,6 +62,10 @@ module _ (d : List ℕ) (ds : ℕ) (u : List ℕ) (us : ℕ) where
   -- number 11, asked of a record of the result
   abbrev pub linksOf : Rec → Passed
   linksOf r = refersTo (standing chart (stockFrom d ds) ((recordsFrom u us) .items)) (marks 1 (writtenFields r))
+
+  -- where a pass is sure that all that the result names stands, it does
+  unfoldable pub Clear : Limits → Type 0
+  Clear lim = lim .sure ≡ true → resultReferences (stockFrom d ds) ((recordsFrom u us) .items) ≡ done tt
 
   -- the result where these records are left of it
   abbrev pub Made : List Rec → ℕ → ℕ → ℕ → List ℕ → List ℕ → Type 0

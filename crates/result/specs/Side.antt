@@ -94,8 +94,8 @@ module _ (d : List ℕ) (ds : ℕ) (u : List ℕ) (us : ℕ) where
     sideOne false p len h = joinedOf chart q (fieldsAt (between u p (p + len)) h 24) ((recordsFrom u (p + len)) .items)
 
     -- it was made, from where the workspace was w and the output o
-    pub record Put (old : Bool) (p len : ℕ) (h : Shape) (to : ℕ) (w o w′ o′ : List ℕ) (s : Step) : Type 0 where
-      pub made : Stepped d ds u us (flagArea w) (sideOne old p len h) to o o′ s
+    pub record Put (old : Bool) (p len : ℕ) (h : Shape) (sure : Bool) (to : ℕ) (w o w′ o′ : List ℕ) (s : Step) : Type 0 where
+      pub made : Stepped d ds u us (flagArea w) sure (sideOne old p len h) to o o′ s
       pub flags : FlagsKept w w′
 
     -- the walk went from g on to h; each byte that is still to come may hold a record more
@@ -104,7 +104,7 @@ module _ (d : List ℕ) (ds : ℕ) (u : List ℕ) (us : ℕ) where
       pub passing : Passing d ds u us (sideLeft old (g .next)) (sideLeft old (h .next)) g o o′ (Went h)
       pub forward : g .next ≤ h .next
       pub few : h .made + (length (fileOf old d u) - h .next) ≤ g .made + (length (fileOf old d u) - g .next)
-      pub room : h .to ≤ 299997 + 99999 * h .made
+      pub room : h .to ≤ 33854429 + 99999 * h .made
       pub spares : Sparing g o o′ (Went h)
 
     -- one turn of it: a loose reference, or a record further; or it stands still, since the side is over

@@ -19,7 +19,7 @@ ghost use Rattle.updates.specs.Acts.{chart};
 ghost use Rattle.stock.specs.Stock.{stockFrom};
 ghost use Rattle.sorting.specs.Indices.{Spared};
 ghost use Rattle.lasting.specs.Whole.{Whole};
-ghost use Rattle.result.specs.Pass.{Within};
+ghost use Rattle.result.specs.Pass.{Within, Clear};
 ghost use Rattle.result.specs.Side.{fileOf, Stands, laterKind, Here, Put, Turned};
 
 // Whether a record with this key ends the walk for the kind with place q: the old records stand kind by kind.
@@ -58,17 +58,51 @@ fn make(
     lim: Limits,
 ) -> Step
     requires { ⌜ Whole (now d) ds (now t) n (now map) (now u) us (now work) × Here (now d) ds (now u) us old (r .at) (r .len) (r .shape) (r .key) × (to ≤ 4611686018427387904) × Spared (now d) ds (now u) us lim to (now out) ⌝ }
-    ensures { λ s. ⌜ Put (now (d .entry)) ds (now (u .entry)) us q old (r .at) (r .len) (r .shape) to (now (work .entry)) (now (out .entry)) (now (work .exit)) (now (out .exit)) s ⌝ }
+    ensures { λ s. ⌜ Put (now (d .entry)) ds (now (u .entry)) us q old (r .at) (r .len) (r .shape) (lim .sure) to (now (work .entry)) (now (out .entry)) (now (work .exit)) (now (out .exit)) s ⌝ }
 {
     let p = r.at;
     let len = r.len;
     let h = r.shape;
     let k = r.key;
-    let lim = spare(lim, to, out.len());
+    let left = spare(lim, to, out.len());
     if old {
-        return make_old(d, ds, t, n, map, u, us, p, len, h, k, q, work, out, to, lim);
+        return make_old(
+            d,
+            ds,
+            t,
+            n,
+            map,
+            u,
+            us,
+            p,
+            len,
+            h,
+            k,
+            q,
+            work,
+            out,
+            to,
+            left,
+        );
     }
-    make_new(d, ds, t, n, map, u, us, p, len, h, k, q, work, out, to, lim)
+    make_new(
+        d,
+        ds,
+        t,
+        n,
+        map,
+        u,
+        us,
+        p,
+        len,
+        h,
+        k,
+        q,
+        work,
+        out,
+        to,
+        left,
+    )
 }
 
 // The record where the walk over the file f is: what it leaves is put and counted, and the walk goes on behind it; it stands still where the side is over.
@@ -89,7 +123,7 @@ pub fn turn(
     lim: Limits,
 ) -> Pass
     requires { ⌜ Whole (now d) ds (now t) n (now map) (now u) us (now work) × Ordered chart 1 (stockFrom (now d) ds) × Within 4294967296 g ⌝ }
-    requires { ⌜ (now f ≡ fileOf old (now d) (now u)) × Stands (now d) ds (now u) us q old (g .next) × (g .next < length (now f)) × Spared (now d) ds (now u) us lim (g .to) (now out) ⌝ }
+    requires { ⌜ (now f ≡ fileOf old (now d) (now u)) × Stands (now d) ds (now u) us q old (g .next) × (g .next < length (now f)) × Spared (now d) ds (now u) us lim (g .to) (now out) × Clear (now d) ds (now u) us lim ⌝ }
     ensures { λ r. ⌜ Turned (now (d .entry)) ds (now (u .entry)) us q old g (now (work .entry)) (now (out .entry)) (now (work .exit)) (now (out .exit)) r ⌝ }
 {
     let p = g.next;

@@ -11,7 +11,7 @@ ghost use Rattle.updates.specs.Acts.{chart};
 ghost use Rattle.stock.specs.Stock.{stockFrom};
 ghost use Rattle.sorting.specs.Indices.{Spared};
 ghost use Rattle.lasting.specs.Whole.{Whole};
-ghost use Rattle.result.specs.Pass.{Within, kindsLeft};
+ghost use Rattle.result.specs.Pass.{Within, Clear, kindsLeft};
 ghost use Rattle.result.specs.Side.{fileOf, Reached, Stands, sideLeft, sideBehind, Ended};
 
 // The records of a side, in the file f, for the kind with place q: the old ones up to the first of a later kind, or all that the update inserts.
@@ -32,7 +32,7 @@ pub fn walk(
     lim: Limits,
 ) -> Pass
     requires { ⌜ Whole (now d) ds (now t) n (now map) (now u) us (now work) × Ordered chart 1 (stockFrom (now d) ds) × Within 2147483648 from ⌝ }
-    requires { ⌜ (now f ≡ fileOf old (now d) (now u)) × Stands (now d) ds (now u) us q old (from .next) × Spared (now d) ds (now u) us lim (from .to) (now out) ⌝ }
+    requires { ⌜ (now f ≡ fileOf old (now d) (now u)) × Stands (now d) ds (now u) us q old (from .next) × Spared (now d) ds (now u) us lim (from .to) (now out) × Clear (now d) ds (now u) us lim ⌝ }
     ensures { λ r. ⌜ Ended (now (d .entry)) ds (now (u .entry)) us (sideLeft (now (d .entry)) ds (now (u .entry)) us q old (from .next)) (sideBehind (now (d .entry)) ds (now (u .entry)) us q old) 16777216 (Stands (now (d .entry)) ds (now (u .entry)) us q old) from (now (work .entry)) (now (out .entry)) (now (work .exit)) (now (out .exit)) r ⌝ }
 {
     let mut g = from;
@@ -67,7 +67,7 @@ pub fn walk_kind(
     from: Progress,
     lim: Limits,
 ) -> Pass
-    requires { ⌜ Whole (now d) ds (now t) n (now map) (now u) us (now work) × (q ≤ 4) × Within 1073741824 from × Ordered chart 1 (stockFrom (now d) ds) × Reached (now d) ds q (from .next) × Spared (now d) ds (now u) us lim (from .to) (now out) ⌝ }
+    requires { ⌜ Whole (now d) ds (now t) n (now map) (now u) us (now work) × (q ≤ 4) × Within 1073741824 from × Ordered chart 1 (stockFrom (now d) ds) × Reached (now d) ds q (from .next) × Spared (now d) ds (now u) us lim (from .to) (now out) × Clear (now d) ds (now u) us lim ⌝ }
     ensures { λ r. ⌜ Ended (now (d .entry)) ds (now (u .entry)) us (kindsLeft (now (d .entry)) ds (now (u .entry)) us q) (kindsLeft (now (d .entry)) ds (now (u .entry)) us (suc q)) 33554432 (Reached (now (d .entry)) ds (suc q)) from (now (work .entry)) (now (out .entry)) (now (work .exit)) (now (out .exit)) r ⌝ }
 {
     match walk(true, d, d, ds, t, n, map, u, us, q, work, out, from, lim) {

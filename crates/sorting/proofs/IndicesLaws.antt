@@ -1,6 +1,6 @@
 -- Laws of two indices at the end of an output, and of a key that is found by one. Assumes nothing.
 use mathlib.Core.Path.{_≡_, refl, sym, ap, _∙_, subst}
-use mathlib.Core.Bool.{Bool, true, false}
+use mathlib.Core.Bool.{Bool, true, false, true≢false}
 use mathlib.Core.List.{List, [], _∷_, _++_, append-nil, append-assoc}
 use Prim.Native.Nat.{ℕ, _+_, _-_, _*_, _/_, _≤_, _<_}
 use native.Mathlib.Omega.{arith}
@@ -17,7 +17,7 @@ use Rattle.keys.specs.Look.{Sound}
 use Rattle.keys.specs.Table.{Tail, Sits, Sited}
 use Rattle.keys.proofs.LookLaws.{Found}
 use Rattle.sorting.specs.Places.{Leads, Names, Skips, Next, Indexed}
-use Rattle.sorting.specs.Indices.{Indices, Spared, Beyond, Past}
+use Rattle.sorting.specs.Indices.{Indices, reach, Spared, Beyond, Past}
 use Rattle.sorting.specs.declared.limits.Limits.{Limits}
 use Rattle.sorting.proofs.PlaceLaws.{follows}
 use Rattle.sorting.proofs.IndexLaws.{indexed-behind}
@@ -57,17 +57,19 @@ beyond-then i j a b c h x y = record { long = y .long ∙ x .long; same = y .sam
 -- ---- `lay_both`
 
 module _ (d : List ℕ) (ds : ℕ) (u : List ℕ) (us : ℕ) where
-  pub both-one : (out : List ℕ) (new : ℕ) → new ≤ length out → Indexed u us (drop new out) → Indices d ds u us (record { old = new; new = new }) out
-  both-one out new h i = record { runs = omega arith; inside = h; old = none-between d ds out new; new = i }
+  pub both-one : (dry sure : Bool) (out : List ℕ) (new : ℕ) → new ≤ length out → Indexed u us (drop new out)
+      → Indices d ds u us (record { old = new; new = new; dry = dry; sure = sure }) out
+  both-one dry sure out new h i = record { runs = omega arith; inside = h; old = none-between d ds out new; new = i }
 
   pub both-two : (before out : List ℕ) (old new : ℕ) → new ≤ length out → Indexed u us (drop new before) → old ≤ new → Indexed d ds (between out old new) → drop new out ≡ drop new before
-      → Indices d ds u us (record { old = old; new = new }) out
+      → Indices d ds u us (record { old = old; new = new; dry = false; sure = false }) out
   both-two before out old new h i r j e = record { runs = r; inside = h; old = j; new = subst (Indexed u us) (sym e) i }
 
   -- ---- `spare`
 
-  module _ (lim : Limits) (to : ℕ) (out : List ℕ) (s : Spared d ds u us lim to out) where
-    pub spare-both : (old : ℕ) → Past (lim .old) to old → old ≤ lim .new → Indices d ds u us (record { old = old; new = lim .new }) out
+  module _ (lim : Limits) (to end : ℕ) (x : end ≡ reach lim to) (out : List ℕ) (s : Spared d ds u us lim to out) where
+    pub spare-both : (old : ℕ) → Past (lim .old) end old → old ≤ lim .new
+        → Indices d ds u us (record { old = old; new = lim .new; dry = lim .dry; sure = lim .sure }) out
     spare-both old p h =
         let e = p .is in
         let r = p .reached in
@@ -79,20 +81,21 @@ module _ (d : List ℕ) (ds : ℕ) (u : List ℕ) (us : ℕ) where
           new = subst (λ (i : ℕ). Indexed u us (drop i out)) z (s .new 0 (omega arith) (let i = s .inside in omega arith));
         }
 
-    pub spare-new : (new : ℕ) → Past (lim .new) to new → (all : ℕ) → length out ≡ all → new ≤ all → Indices d ds u us (record { old = new; new = new }) out
+    pub spare-new : (new : ℕ) → Past (lim .new) end new → (all : ℕ) → length out ≡ all → new ≤ all
+        → Indices d ds u us (record { old = new; new = new; dry = lim .dry; sure = lim .sure }) out
     spare-new new p all l h =
         let e = p .is in
         let r = p .reached in
-        both-one out new (omega arith) (subst (λ (i : ℕ). Indexed u us (drop i out)) (sym e) (s .new (p .steps) (omega arith) (omega arith)))
+        both-one (lim .dry) (lim .sure) out new (omega arith) (subst (λ (i : ℕ). Indexed u us (drop i out)) (sym e) (s .new (p .steps) (omega arith) (omega arith)))
 
-    pub spare-none : (all : ℕ) → length out ≡ all → Indices d ds u us (record { old = all; new = all }) out
-    spare-none all e = both-one out all (omega arith) (none-behind u us out all (omega arith))
+    pub spare-none : (all : ℕ) → length out ≡ all → Indices d ds u us (record { old = all; new = all; dry = lim .dry; sure = lim .sure }) out
+    spare-none all e = both-one (lim .dry) (lim .sure) out all (omega arith) (none-behind u us out all (omega arith))
 
   -- ---- what is kept where bytes are written
 
   module _ (lim : Limits) where
-    pub spared-start : (to : ℕ) (out : List ℕ) → Indices d ds u us lim out → Spared d ds u us lim to out
-    spared-start to out i = record {
+    pub spared-start : (to : ℕ) (out : List ℕ) → (lim .dry ≡ true → length out < to) → Indices d ds u us lim out → Spared d ds u us lim to out
+    spared-start to out x i = record {
       runs = i .runs;
       inside = i .inside;
       old = λ k h g.
@@ -103,17 +106,57 @@ module _ (d : List ℕ) (ds : ℕ) (u : List ℕ) (us : ℕ) where
           ∙ ap (λ (n : ℕ). take n (drop (lim .old + 8 * k) out)) e)
           (indexed-behind d ds (between out (lim .old) (lim .new)) k (i .old));
       new = λ k h g. subst (Indexed u us) (drop-drop (8 * k) (lim .new) out) (indexed-behind u us (drop (lim .new) out) k (i .new));
+      past = x;
     }
 
-    pub spared-on : (to next : ℕ) (before out : List ℕ) → to ≤ next → Beyond next before out → Spared d ds u us lim to before → Spared d ds u us lim next out
-    spared-on to next before out h b s = record {
-      runs = s .runs;
-      inside = (let l = b .long in let i = s .inside in omega arith);
-      old = λ k g e.
-          subst (Indexed d ds) (ap (take (lim .new - (lim .old + 8 * k))) (sym (beyond-from next before out b (lim .old + 8 * k) g))) (s .old k (omega arith) e);
-      new = λ k g e.
-          subst (Indexed u us) (sym (beyond-from next before out b (lim .new + 8 * k) g)) (s .new k (omega arith) (let l = b .long in omega arith));
-    }
+    -- a dry pass has written nothing, and so nothing is lost
+    spared-dry : (to next : ℕ) (out : List ℕ) → to ≤ next → lim .dry ≡ true → Spared d ds u us lim to out → Spared d ds u us lim next out
+    unfolding reach
+    spared-dry to next out h x s =
+        let none : (n : ℕ) → reach lim n ≡ 0 = λ n. rw x in
+        record {
+          runs = s .runs;
+          inside = s .inside;
+          old = λ k g e. s .old k (let z = none to in omega arith) e;
+          new = λ k g e. s .new k (let z = none to in omega arith) e;
+          past = λ y. let z = s .past y in omega arith;
+        }
+
+    spared-wet : (to next : ℕ) (before out : List ℕ) → to ≤ next → Beyond next before out → lim .dry ≡ false → Spared d ds u us lim to before → Spared d ds u us lim next out
+    unfolding reach
+    spared-wet to next before out h b x s =
+        let all : (n : ℕ) → reach lim n ≡ n = λ n. rw x in
+        let i = all to in
+        let j = all next in
+        record {
+          runs = s .runs;
+          inside = (let l = b .long in let i = s .inside in omega arith);
+          old = λ k g e.
+              subst (Indexed d ds) (ap (take (lim .new - (lim .old + 8 * k))) (sym (beyond-from next before out b (lim .old + 8 * k) (omega arith)))) (s .old k (omega arith) e);
+          new = λ k g e.
+              subst (Indexed u us) (sym (beyond-from next before out b (lim .new + 8 * k) (omega arith))) (s .new k (omega arith) (let l = b .long in omega arith));
+          past = λ y. absurd (true≢false (sym y ∙ x));
+        }
+
+    spared-by : (to next : ℕ) (before out : List ℕ) → to ≤ next → Beyond next before out → (length before < to → out ≡ before) → Spared d ds u us lim to before
+        → (y : Bool) → lim .dry ≡ y → Spared d ds u us lim next out
+    spared-by to next before out h b z s true x = subst (Spared d ds u us lim next) (sym (z (s .past x))) (spared-dry to next before h x s)
+    spared-by to next before out h b z s false x = spared-wet to next before out h b x s
+
+    -- from `to` on, where the output was `before`, no byte behind `next` was written, and none at all from behind the output's end on
+    pub spared-on : (to next : ℕ) (before out : List ℕ) → to ≤ next → Beyond next before out → (length before < to → out ≡ before) → Spared d ds u us lim to before → Spared d ds u us lim next out
+    spared-on to next before out h b z s =
+        spared-by to next before out h b z s (lim .dry) refl
+
+-- ---- `reached`
+
+pub reach-dry : (lim : Limits) (to : ℕ) → lim .dry ≡ true → (0 ≡ reach lim to) × (0 ≤ to)
+unfolding reach
+reach-dry lim to x = (rw x, omega arith)
+
+pub reach-wet : (lim : Limits) (to : ℕ) → lim .dry ≡ false → (to ≡ reach lim to) × (to ≤ to)
+unfolding reach
+reach-wet lim to x = (rw x, omega arith)
 
 -- ---- `past`
 

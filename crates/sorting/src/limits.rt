@@ -7,12 +7,15 @@ ghost use lib.ListN.{length, drop};
 ghost use Rattle.skeleton.specs.Place.{between};
 ghost use Rattle.keys.specs.Look.{Sound};
 ghost use Rattle.sorting.specs.Places.{Indexed};
-ghost use Rattle.sorting.specs.Indices.{Indices, Spared, Past};
+ghost use Rattle.sorting.specs.Indices.{Indices, reach, Spared, Past};
 
-// Where the dataset's index begins, and where it ends and the update's begins, which goes to the output's end.
+// Where the dataset's index begins, and where it ends and the update's begins, which goes to the output's end. A dry pass over the result's records writes
+// none of them; a sure one knows that all that they name stands.
 pub struct Limits {
     pub old: usize,
     pub new: usize,
+    pub dry: bool,
+    pub sure: bool,
 }
 
 // The dataset's index.
@@ -49,10 +52,20 @@ pub fn lay_both(d: &[u8], ds: usize, ascend: bool, u: &[u8], us: usize, out: &mu
 {
     let new = lay(u, us, out);
     if ascend {
-        return Limits { old: new, new };
+        return Limits {
+            old: new,
+            new,
+            dry: false,
+            sure: false,
+        };
     }
     let old = lay_in(d, ds, out, 0, new);
-    Limits { old, new }
+    Limits {
+        old,
+        new,
+        dry: false,
+        sure: false,
+    }
 }
 
 // The first place from `at` on, by steps of 8, that is not before `to`.
@@ -66,18 +79,46 @@ fn past(at: usize, to: usize) -> usize
     at + 8 * ((to - at + 7) / 8)
 }
 
-// What of them an output of so many bytes, written up to `to`, still has.
+// How far a pass that has come to `to` has written.
+fn reached(lim: Limits, to: usize) -> usize
+    ensures { λ r. ⌜ (r ≡ reach lim to) × (r ≤ to) ⌝ }
+{
+    if lim.dry {
+        return 0;
+    }
+    to
+}
+
+// What of them an output of so many bytes still has when a pass has come to `to`.
 pub fn spare(lim: Limits, to: usize, all: usize) -> Limits
     requires { ⌜ to ≤ 4611686018427387904 ⌝ }
-    ensures { λ l. ⌜ ((d : List ℕ) (ds : ℕ) (u : List ℕ) (us : ℕ) (out : List ℕ) → Spared d ds u us lim to out → length out ≡ all → Indices d ds u us l out) ⌝ }
+    ensures { λ l. ⌜ ((d : List ℕ) (ds : ℕ) (u : List ℕ) (us : ℕ) (out : List ℕ) → Spared d ds u us lim to out → length out ≡ all → Indices d ds u us l out) × (l .sure ≡ lim .sure) ⌝ }
 {
-    let old = past(lim.old, to);
+    let end = reached(lim, to);
+    let dry = lim.dry;
+    let sure = lim.sure;
+    let old = past(lim.old, end);
     if old <= lim.new {
-        return Limits { old, new: lim.new };
+        return Limits {
+            old,
+            new: lim.new,
+            dry,
+            sure,
+        };
     }
-    let new = past(lim.new, to);
+    let new = past(lim.new, end);
     if new <= all {
-        return Limits { old: new, new };
+        return Limits {
+            old: new,
+            new,
+            dry,
+            sure,
+        };
     }
-    Limits { old: all, new: all }
+    Limits {
+        old: all,
+        new: all,
+        dry,
+        sure,
+    }
 }

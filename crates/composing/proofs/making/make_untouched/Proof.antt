@@ -3,8 +3,8 @@ use borrow.Author.Needs.{needs}
 use Rattle.composing.proofs.making.make_untouched.Statement.{statement}
 use Rattle.composing.proofs.making.make_untouched.Tie as tie
 
-fields-stand-requires : tie.Need-fields-stand-requires
-fields-stand-requires c κs = search needs
+passes-requires : tie.Need-passes-requires
+passes-requires c κs = search needs
 
 same-length : tie.Need-same-length
 same-length c = search needs
@@ -22,4 +22,4 @@ returns-2 : tie.Need-returns-2
 returns-2 c = search carries-ways
 
 pub make-untouched-spec : {M : Type 1} → statement M
-make-untouched-spec = tie.close (tie.spec fields-stand-requires same-length returns carry-requires same-length-2 returns-2)
+make-untouched-spec = tie.close (tie.spec passes-requires same-length returns carry-requires same-length-2 returns-2)

@@ -3,8 +3,8 @@ use borrow.Author.Needs.{needs}
 use Rattle.lasting.proofs.emitting.make_held.Statement.{statement}
 use Rattle.lasting.proofs.emitting.make_held.Tie as tie
 
-version-stands-requires : tie.Need-version-stands-requires
-version-stands-requires c κs = search needs
+version-passes-requires : tie.Need-version-passes-requires
+version-passes-requires c κs = search needs
 
 same-length : tie.Need-same-length
 same-length c = search needs
@@ -25,7 +25,7 @@ pub make-held-spec : {M : Type 1} → statement M
 make-held-spec =
     tie.close
     (tie.spec
-    version-stands-requires
+    version-passes-requires
     same-length
     returns
     emit-version-requires

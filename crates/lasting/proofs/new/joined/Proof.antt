@@ -26,7 +26,7 @@ same-length-2 c = search needs
 returns : tie.Need-returns
 returns c =
     let s = c .before .before .before .before .before .before .before .before .before .before .before .before .before .before .before .before in
-    new-step _ _ _ _ _ _ _ _ (s .pre .0) _ _ _ _ _ _ _ _ (c .before .before .before .before .before .before .before .play-named .ensures) (λ k. omega (arith, c .before .before .before .before .before .before .before .before .before .before .before .before .shared-slice-known4 .given k)) (c .before .before .last-step .ensures)
+    new-step _ _ _ _ _ _ _ _ (s .pre .0) _ _ _ _ _ _ _ _ _ (c .before .before .before .before .before .before .before .play-named .ensures) (λ k. omega (arith, c .before .before .before .before .before .before .before .before .before .before .before .before .shared-slice-known4 .given k)) (c .before .before .last-step .ensures)
 
 pub joined-spec : {M : Type 1} → statement M
 joined-spec =

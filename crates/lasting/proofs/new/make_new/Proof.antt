@@ -8,7 +8,7 @@ use Rattle.lasting.proofs.new.make_new.Statement.{statement}
 use Rattle.lasting.proofs.new.make_new.Tie as tie
 
 returns : tie.Need-returns
-returns c = let s = c .before .before .before .before .before .before .before in new-other _ _ _ _ _ _ _ (s .args .work .now) (s .pre .0) _ _ _ _ (s .pre .1) _ _ _ (c .if1 .taken)
+returns c = let s = c .before .before .before .before .before .before .before in new-other _ _ _ _ _ _ _ (s .args .work .now) (s .pre .0) _ _ _ _ (s .pre .1) _ _ _ _ (c .if1 .taken)
 
 add-inserts : tie.Need-add-inserts
 add-inserts c = let s = c .before .before .before .before .before .before .before in omega (arith, new-word _ _ _ _ _ _ _ _ (s .pre .0) _ _ _ _ (s .pre .1))
@@ -26,7 +26,7 @@ inserts-requires : tie.Need-inserts-requires
 inserts-requires c κs = let s = c .before .before .before .before .before .before .before .before in new-bounded _ _ _ _ _ _ _ _ (s .pre .0) _ _ _ _ (s .pre .1)
 
 returns-2 : tie.Need-returns-2
-returns-2 c = let s = c .before .before .before .before .before .before .before .before .before .before in new-not _ _ _ _ _ _ _ (s .args .work .now) (s .pre .0) _ _ _ _ (s .pre .1) _ _ _ _ (c .before .inserts .ensures) (c .if2 .taken)
+returns-2 c = let s = c .before .before .before .before .before .before .before .before .before .before in new-not _ _ _ _ _ _ _ (s .args .work .now) (s .pre .0) _ _ _ _ (s .pre .1) _ _ _ _ _ (c .before .inserts .ensures) (c .if2 .taken)
 
 add-deleted : tie.Need-add-deleted
 add-deleted c = let s = c .before .before .before .before .before .before .before .before .before .before .before in omega (arith, new-word _ _ _ _ _ _ _ _ (s .pre .0) _ _ _ _ (s .pre .1))
@@ -38,7 +38,7 @@ same-length : tie.Need-same-length
 same-length c = search needs
 
 returns-3 : tie.Need-returns-3
-returns-3 c = let s = c .before .before .before .before .before .before .before .before .before .before .before .before .before in new-gone _ _ _ _ _ _ _ (s .args .work .now) (s .pre .0) _ _ _ _ (s .pre .1) _ _ _ _ (c .before .deleted .ensures) (c .if3 .taken)
+returns-3 c = let s = c .before .before .before .before .before .before .before .before .before .before .before .before .before in new-gone _ _ _ _ _ _ _ (s .args .work .now) (s .pre .0) _ _ _ _ (s .pre .1) _ _ _ _ _ (c .before .deleted .ensures) (c .if3 .taken)
 
 joined-requires : tie.Need-joined-requires
 joined-requires c κs = let s = c .before .before .before .before .before .before .before .before .before .before .before .before .before .before .before in (s .pre .0, new-lasting _ _ _ _ _ _ _ _ (s .pre .0) _ _ _ _ (s .pre .1) (sym (c .before .before .before .before .before .before .inserts .ensures) ∙ not-false _ (c .before .before .before .before .before .if2 .left), sym (c .before .before .before .deleted .ensures) ∙ c .before .before .if3 .left), s .pre .2, s .pre .3)
@@ -52,7 +52,7 @@ same-length-3 c = search needs
 returns-4 : tie.Need-returns-4
 returns-4 c =
     let s = c .before .before .before .before .before .before .before .before .before .before .before .before .before .before .before .before .before .before .before .before in
-    new-joined _ _ _ _ _ _ _ (s .args .work .now) (s .pre .0) _ _ _ _ (s .pre .1) _ _ _ (c .before .before .before .before .before .before .before .before .before .before .before .before .before .if1 .left) (sym (c .before .before .before .before .before .before .before .before .before .before .before .inserts .ensures) ∙ not-false _ (c .before .before .before .before .before .before .before .before .before .before .if2 .left), sym (c .before .before .before .before .before .before .before .before .deleted .ensures) ∙ c .before .before .before .before .before .before .before .if3 .left) _ _ (c .before .before .before .before .joined .last .1 .1 .1 .1 .1 .1 .1 .1 .1 .0) (c .before .before .before .before .joined .ensures)
+    new-joined _ _ _ _ _ _ _ (s .args .work .now) (s .pre .0) _ _ _ _ (s .pre .1) _ _ _ _ (c .before .before .before .before .before .before .before .before .before .before .before .before .before .if1 .left) (sym (c .before .before .before .before .before .before .before .before .before .before .before .inserts .ensures) ∙ not-false _ (c .before .before .before .before .before .before .before .before .before .before .if2 .left), sym (c .before .before .before .before .before .before .before .before .deleted .ensures) ∙ c .before .before .before .before .before .before .before .if3 .left) _ _ (c .before .before .before .before .joined .last .1 .1 .1 .1 .1 .1 .1 .1 .1 .0) (c .before .before .before .before .joined .ensures)
 
 pub make-new-spec : {M : Type 1} → statement M
 make-new-spec =

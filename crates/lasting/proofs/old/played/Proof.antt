@@ -23,7 +23,7 @@ same-length-2 c = search needs
 returns : tie.Need-returns
 returns c =
     let s = c .before .before .before .before .before .before .before .before .before .before .before .before .before .before .before .before in
-    old-step _ _ _ _ _ _ _ _ (s .pre .0) _ _ _ _ _ _ _ _ (c .before .before .before .before .before .before .before .replay .ensures) (s .pre .3) (λ k. omega (arith, c .before .before .before .before .before .before .before .before .before .before .before .before .shared-slice-known4 .given k)) (c .before .before .last-step .ensures)
+    old-step _ _ _ _ _ _ _ _ (s .pre .0) _ _ _ _ _ _ _ _ _ (c .before .before .before .before .before .before .before .replay .ensures) (s .pre .3) (λ k. omega (arith, c .before .before .before .before .before .before .before .before .before .before .before .before .shared-slice-known4 .given k)) (c .before .before .last-step .ensures)
 
 pub played-spec : {M : Type 1} → statement M
 played-spec =

@@ -32,7 +32,7 @@ same-length : tie.Need-same-length
 same-length c = search needs
 
 returns : tie.Need-returns
-returns c = same-step _ _ _ _ _ _ _ _ (c .before .before .before .before .before .before .before .before .before .before .before .pre .0 .3) _ _ _ _ _ (λ k. omega (arith, c .before .before .before .before .before .before .before .before .before .before .shared-slice-known .given k)) _ (c .before .before .before .before .before .before .flags-of .ensures) _ _ _ (c .before .before .before .make-untouched .ensures) (c .step-of .ensures)
+returns c = same-step _ _ _ _ _ _ _ _ (c .before .before .before .before .before .before .before .before .before .before .before .pre .0 .3) _ _ _ _ _ _ (λ k. omega (arith, c .before .before .before .before .before .before .before .before .before .before .shared-slice-known .given k)) _ (c .before .before .before .before .before .before .flags-of .ensures) _ _ _ (c .before .before .before .make-untouched .ensures) (c .step-of .ensures)
 
 pub untouched-spec : {M : Type 1} → statement M
 untouched-spec =

@@ -19,7 +19,7 @@ same-length : tie.Need-same-length
 same-length c = search needs
 
 returns : tie.Need-returns
-returns c = held-step _ _ _ _ _ (c .before .before .before .before .before .before .before .before .before .before .before .before .args .work .now) (c .before .before .before .before .before .flags-of .ensures) _ _ _ _ _ (c .before .before .before .make-held .ensures) _ (c .step-of .ensures)
+returns c = held-step _ _ _ _ _ (c .before .before .before .before .before .before .before .before .before .before .before .before .args .work .now) (c .before .before .before .before .before .flags-of .ensures) _ _ _ _ _ _ (c .before .before .before .make-held .ensures) _ (c .step-of .ensures)
 
 pub held-step-spec : {M : Type 1} → statement M
 held-step-spec =

@@ -24,13 +24,13 @@ same-length : tie.Need-same-length
 same-length c = search needs
 
 returns : tie.Need-returns
-returns c = last-held _ _ _ _ _ _ _ _ _ _ _ (c .before .before .before .before .before .before .before .before .last .given .1) _ (c .before .before .before .before .before .p .given .1) (c .before .before .held-step .ensures)
+returns c = last-held _ _ _ _ _ _ _ _ _ _ _ _ (c .before .before .before .before .before .before .before .before .last .given .1) _ (c .before .before .before .before .before .p .given .1) (c .before .before .held-step .ensures)
 
 returns-2 : tie.Need-returns-2
-returns-2 c = last-absent _ _ _ _ _ _ _ _ _ _ _ (c .before .before .before .last .given .1) (c .enum-told .given .1)
+returns-2 c = last-absent _ _ _ _ _ _ _ _ _ _ _ _ (c .before .before .before .last .given .1) (c .enum-told .given .1)
 
 returns-3 : tie.Need-returns-3
-returns-3 c = last-refused _ _ _ _ _ _ _ _ _ _ _ _ _ (c .enum-told2 .given .1)
+returns-3 c = last-refused _ _ _ _ _ _ _ _ _ _ _ _ _ _ (c .enum-told2 .given .1)
 
 pub last-step-spec : {M : Type 1} → statement M
 last-step-spec =

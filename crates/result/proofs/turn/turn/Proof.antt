@@ -43,7 +43,7 @@ same-length-2 : tie.Need-same-length-2
 same-length-2 c = search needs
 
 returns-2 : tie.Need-returns-2
-returns-2 c = let s = c .before .before .before .before .before .before .before .before .before .before .before .before .before .before .before .before .before .before .before .before .before .before in turn-on _ _ _ _ _ _ _ (s .pre .1 .0) _ (s .pre .0 .2) (s .pre .1 .1) (s .pre .1 .2) _ (c .before .before .before .before .before .before .before .before .before .before .before .before .before .before .stated-at .ensures) _ _ _ _ (c .before .before .before .before .before .before .before .before .before .before .before .before .len .given .1) _ (c .before .before .before .before .before .before .before .before .before .before .key-at .ensures .0) _ (c .before .before .before .before .before .before .before .before .before .ends .ensures) (c .before .before .before .before .before .before .before .before .if1 .left) _ _ _ _ (s .pre .0 .0) _ _ _ _ (c .before .before .before .before .before .make .ensures) _ (c .after .ensures)
+returns-2 c = let s = c .before .before .before .before .before .before .before .before .before .before .before .before .before .before .before .before .before .before .before .before .before .before in turn-on _ _ _ _ _ _ _ (s .pre .1 .0) _ (s .pre .0 .2) (s .pre .1 .1) (s .pre .1 .2) _ (c .before .before .before .before .before .before .before .before .before .before .before .before .before .before .stated-at .ensures) _ _ _ _ (c .before .before .before .before .before .before .before .before .before .before .before .before .len .given .1) _ (c .before .before .before .before .before .before .before .before .before .before .key-at .ensures .0) _ (c .before .before .before .before .before .before .before .before .before .ends .ensures) (c .before .before .before .before .before .before .before .before .if1 .left) _ _ _ _ (s .pre .0 .0) _ (s .pre .1 .4) _ _ _ _ (c .before .before .before .before .before .make .ensures) _ (c .after .ensures)
 
 returns-3 : tie.Need-returns-3
 returns-3 c = let s = c .before .before .before .before .before .before .before .before .before .before in absurd (turn-not _ _ (turn-sound _ _ _ _ _ _ _ (s .pre .1 .0) _ (s .pre .0 .2) (s .pre .1 .1)) (s .pre .1 .2) _ (c .before .before .stated-at .ensures) _ (c .enum-told .given .1))

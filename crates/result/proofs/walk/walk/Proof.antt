@@ -17,7 +17,7 @@ loop-holds : tie.Need-loop-holds Inv-loop μ-loop
 loop-holds c = let s = c .before .before .before .before .before .before .before in (walk-start _ _ _ _ _ _ _ _ _ _ (s .pre .0 .2) _ _ (s .pre .1 .1) (s .pre .0 .0), refl, refl)
 
 turn-requires : tie.Need-turn-requires Inv-loop μ-loop
-turn-requires c κs = let s = c .before .before .before .before .before .before .before .before .before .before .before .before in let v = c .before .before .before .before .loop .inv .0 in ((v .whole, s .pre .0 .1, walk-within _ _ _ _ _ _ _ _ _ _ (s .pre .0 .2) _ _ _ _ _ v), (s .pre .1 .0, v .onward .stands, c .before .before .if1 .taken, walk-spared _ _ _ _ _ _ _ _ _ _ (s .pre .0 .2) _ _ _ _ _ v _ (s .pre .1 .2)))
+turn-requires c κs = let s = c .before .before .before .before .before .before .before .before .before .before .before .before in let v = c .before .before .before .before .loop .inv .0 in ((v .whole, s .pre .0 .1, walk-within _ _ _ _ _ _ _ _ _ _ (s .pre .0 .2) _ _ _ _ _ v), (s .pre .1 .0, v .onward .stands, c .before .before .if1 .taken, walk-spared _ _ _ _ _ _ _ _ _ _ (s .pre .0 .2) _ _ _ _ _ v _ (s .pre .1 .2), s .pre .1 .3))
 
 enum-known-k : tie.Need-enum-known-k Inv-loop μ-loop
 enum-known-k c = search needs

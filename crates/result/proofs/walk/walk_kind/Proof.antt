@@ -4,7 +4,7 @@ use Rattle.result.proofs.walk.walk_kind.Statement.{statement}
 use Rattle.result.proofs.walk.walk_kind.Tie as tie
 
 walk-requires : tie.Need-walk-requires
-walk-requires c κs = let s = c .before .before .before .before .before .before .before .before in ((s .pre .0, s .pre .3, within-more _ (s .pre .2)), (file-old _ _, stands-old _ _ _ _ _ _ (s .pre .4), s .pre .5))
+walk-requires c κs = let s = c .before .before .before .before .before .before .before .before in ((s .pre .0, s .pre .3, within-more _ (s .pre .2)), (file-old _ _, stands-old _ _ _ _ _ _ (s .pre .4), s .pre .5, s .pre .6))
 
 enum-known-k : tie.Need-enum-known-k
 enum-known-k c = search needs
@@ -13,7 +13,7 @@ enum-known-g : tie.Need-enum-known-g
 enum-known-g c = search needs
 
 walk-requires-2 : tie.Need-walk-requires-2
-walk-requires-2 c κs = let s = c .before .before .before .before .before .before .before .before .before .before .before .before .before .before .before .before .before .before in let v = c .before .before .before .before .before .before .before .before .before .walk .ensures in ((kind-whole _ _ _ _ _ (s .pre .1) _ (s .pre .4) _ _ _ _ _ v _ _ _ (s .pre .0) (search needs), s .pre .3, kind-within _ _ _ _ _ (s .pre .1) _ (s .pre .4) _ _ _ _ _ v _ (c .before .before .before .g .given .1) (s .pre .2)), (file-new _ _, stands-new _ _ _ _ _ _ _ _ (s .pre .0) _, kind-spared _ _ _ _ _ (s .pre .1) _ (s .pre .4) _ _ _ _ _ v _ (c .before .before .before .g .given .1) _ (s .pre .5)))
+walk-requires-2 c κs = let s = c .before .before .before .before .before .before .before .before .before .before .before .before .before .before .before .before .before .before in let v = c .before .before .before .before .before .before .before .before .before .walk .ensures in ((kind-whole _ _ _ _ _ (s .pre .1) _ (s .pre .4) _ _ _ _ _ v _ _ _ (s .pre .0) (search needs), s .pre .3, kind-within _ _ _ _ _ (s .pre .1) _ (s .pre .4) _ _ _ _ _ v _ (c .before .before .before .g .given .1) (s .pre .2)), (file-new _ _, stands-new _ _ _ _ _ _ _ _ (s .pre .0) _, kind-spared _ _ _ _ _ (s .pre .1) _ (s .pre .4) _ _ _ _ _ v _ (c .before .before .before .g .given .1) _ (s .pre .5), s .pre .6))
 
 pass-from-requires : tie.Need-pass-from-requires
 pass-from-requires c κs = search needs

@@ -15,7 +15,7 @@ same-length : tie.Need-same-length
 same-length c = search needs
 
 returns : tie.Need-returns
-returns c = let l = c .before .before .before .lay .ensures in both-one _ _ _ _ _ _ (l .0) (l .1)
+returns c = let l = c .before .before .before .lay .ensures in both-one _ _ _ _ _ _ _ _ (l .0) (l .1)
 
 lay-in-requires : tie.Need-lay-in-requires
 lay-in-requires c κs = search needs
