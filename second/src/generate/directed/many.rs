@@ -131,6 +131,7 @@ fn places_in_results(table: &mut Table) {
     let given = headed(falling_multis());
     let moved = |n: u32| vec![mrid(above(n), 2, 3), cocc(1, 1, 1), c2il(&[(9, 9)])];
     let acts = |list: &[Spatial]| with_heading(&[moved(7), naming(1, &[list]), moved(4_000)]);
+    let last = NAMED as usize - 1;
     let mut result = given.clone();
     result[1] = after()[1].clone();
     for n in [7, 4_000] {
@@ -138,10 +139,20 @@ fn places_in_results(table: &mut Table) {
     }
     result.push(naming(1, &[&all_named()]));
     table.update_done("4,200 places in an inserted SPAS", &given, &acts(&all_named()), &result);
-    for place in [0, 2_047, NAMED as usize - 1] {
-        let case = Case::update(file(&given), file(&acts(&one_loose(place))), 500_000, WORK);
+    let written = file(&result);
+    let length = written.len();
+    for room in [length - 1, length, length + 8, length + 33_000] {
+        let intent = match room < length {
+            true => Intent::Refused(13, 3, 0),
+            false => Intent::Done { written: written.clone(), count: result.len() },
+        };
+        let case = Case::update(file(&given), file(&acts(&all_named())), room as u32, WORK);
+        table.row(&format!("update: 4,200 places in an inserted SPAS, a room of {room}"), case, intent);
+    }
+    for (place, room) in [(0, 500_000), (2_047, 500_000), (last, 500_000), (0, length), (last, length), (last, length - 1)] {
+        let case = Case::update(file(&given), file(&acts(&one_loose(place))), room as u32, WORK);
         let refused = Intent::Refused(11, 3, result.len());
-        table.row(&format!("update: place {place} of 4,200 in an inserted SPAS loose"), case, refused);
+        table.row(&format!("update: place {place} of 4,200 in an inserted SPAS loose, a room of {room}"), case, refused);
     }
 }
 
