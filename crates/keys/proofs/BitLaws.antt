@@ -4,7 +4,7 @@ use mathlib.Core.List.{List, [], _∷_}
 use mathlib.Core.Bool.{Bool, true, false}
 use Prim.Native.Nat.{ℕ, zero, suc, _+_, _-_, _*_, _/_, _%_, _^_, _≤_, _<_}
 use native.Mathlib.Omega.{arith}
-use native.Mathlib.Numerals.{sub-one}
+use native.Mathlib.Nat.{pow-succ', div-div-eq-div-mul}
 use borrow.Author.Tests.{eq-eqb, ne-eqb, ltb-true, ltb-false, eqb-true, eqb-false}
 use lib.ListN.{length, getD, set, length-set}
 use lib.Seq.{getD-set-same, getD-set-other, set-out}
@@ -15,17 +15,13 @@ use Rattle.keys.specs.Bits.{bitOf, flagOf, raised}
 
 -- ---- `bit`
 
-pub bit-turn-of : (i b n : ℕ) → bitOf i b ≡ n → 0 < i → bitOf (i - 1) (b / 2) ≡ n
+-- a shift by i is a division by 2 as often
+pub bit-shifted : (i b : ℕ) → b / 2 ^ i % 2 ≡ bitOf i b
 unfolding bitOf
-bit-turn-of zero b n e h = absurd (omega arith)
-bit-turn-of (suc i) b n e h = rw sub-one e
+bit-shifted zero b = omega arith
+bit-shifted (suc i) b = ap (λ (n : ℕ). b / n % 2) (pow-succ' 2 i) ∙ ap (λ (n : ℕ). n % 2) (sym (div-div-eq-div-mul b 2 (2 ^ i))) ∙ bit-shifted i (b / 2)
 
-pub bit-last : (i b n : ℕ) → bitOf i b ≡ n → i ≤ 0 → b % 2 ≡ n
-unfolding bitOf
-bit-last zero b n e h = e
-bit-last (suc i) b n e h = absurd (omega arith)
-
-pub ruleset bit-turn = (bit-turn-of, bit-last, arith)
+pub ruleset bit-ways = (bit-shifted, arith)
 
 -- ---- `flag`
 

@@ -6,15 +6,10 @@ ghost use Rattle.keys.specs.Bits.{bitOf, flagOf, raised};
 
 // Bit i of a byte.
 fn bit(b: u8, i: usize) -> u8
+    requires { ⌜ i < 8 ⌝ }
     ensures { λ r. ⌜ r ≡ bitOf i b ⌝ }
 {
-    let mut c = b;
-    let mut left = i;
-    while 0 < left {
-        c /= 2;
-        left -= 1;
-    }
-    c % 2
+    (b >> i) % 2
 }
 
 // The byte of which only bit i is set.

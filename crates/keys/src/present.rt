@@ -13,7 +13,7 @@ ghost use Rattle.keys.specs.Look.{Sound};
 ghost use Rattle.keys.specs.Table.{Tail, Close, Laid};
 
 // A plain walk over the records from start on.
-fn has_plain(f: &[u8], start: usize, key: u64) -> bool
+pub fn has_plain(f: &[u8], start: usize, key: u64) -> bool
     requires { ⌜ Sound (now f) start ⌝ }
     ensures { λ b. ⌜ b ≡ hasFrom (now (f .entry)) start key ⌝ }
 {
