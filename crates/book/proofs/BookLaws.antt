@@ -33,7 +33,7 @@ module _ (b : List ℕ) (key j : ℕ) where
 pub ruleset bit-ways = (bit-one, bit-none, bit-past, arith)
 
 -- one bit more
-on : (b : List ℕ) (key left unit at r x : ℕ) → halves (suc left) b key unit at ≡ r → x ≡ bitAt b key (2 * unit * at + unit) → halves left b key (unit / 2) (2 * at + x) ≡ r
+pub on : (b : List ℕ) (key left unit at r x : ℕ) → halves (suc left) b key unit at ≡ r → x ≡ bitAt b key (2 * unit * at + unit) → halves left b key (unit / 2) (2 * at + x) ≡ r
 unfolding halves
 on b key left unit at r x e y = rw y e
 

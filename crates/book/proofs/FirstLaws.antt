@@ -27,10 +27,9 @@ use Rattle.keys.specs.declared.look.Look.{Look}
 use Rattle.keys.specs.declared.look.Look.the-variants.{At, Nothing}
 use Rattle.keys.proofs.ListLaws.{listed-none, listed-later, listed-more, not-first, not-later, split-room, split-take, split-drop}
 use Rattle.keys.proofs.LookLaws.{Found, FoundBy, found, keys-past, keys-refused, keys-good}
-use Rattle.memory.specs.Hold.{zeros}
-use Rattle.book.specs.Book.{pageOf, Met, entered}
+use Rattle.book.specs.Rcids.{spotOf, Noted, joined, Unmet}
 use Rattle.book.specs.First.{Going, Fresh, Firstly, Reach, Foreseen, Sees, Ahead}
-use Rattle.book.proofs.BookLaws.{met-none, met-more, met-says}
+use Rattle.book.proofs.RcidLaws.{noted-none, noted-more, noted-says, unmet-zeros, unmet-sifted}
 
 -- ---- lists
 
@@ -103,7 +102,7 @@ module _ (f : List ℕ) (start m p x : ℕ) (g : Going f start m p x) where
     pub gather-nothing : e ≡ Nothing → (q j : ℕ) → Going f start m q j
     gather-nothing y q j = absurd (nothing y)
 
-    pub mark-nothing : e ≡ Nothing → (b l t : List ℕ) → Met b l t
+    pub mark-nothing : e ≡ Nothing → (b l t : List ℕ) → Noted b l t
     mark-nothing y b l t = absurd (nothing y)
 
     pub until-nothing : e ≡ Nothing → (j r : ℕ) → Firstly f start j r
@@ -150,24 +149,24 @@ module _ (f : List ℕ) (start m p x : ℕ) (g : Going f start m p x) where
       pub going-again : Fresh f start x → (b : Bool) → b ≡ seenFrom f start x key → b ≡ true → Firstly f start z x
       going-again fr b eb w = record { below = omega arith; fresh = fr; again = λ _. rw going-key (sym eb ∙ w) }
 
-      pub going-met : (b t t' : List ℕ) → Met b (take x (keysFrom f start)) t → t' ≡ entered b t key → Met b (take (x + 1) (keysFrom f start)) t'
-      going-met b t t' ms w = rw going-taken (met-more b (take x (keysFrom f start)) t t' key ms w)
+      pub going-met : (b t t' : List ℕ) → Noted b (take x (keysFrom f start)) t → t' ≡ joined b t key → Noted b (take (x + 1) (keysFrom f start)) t'
+      going-met b t t' ms w = rw going-taken (noted-more b (take x (keysFrom f start)) t t' key ms w)
 
 pub gather-over : (f : List ℕ) (start m q y e : ℕ) → Going f start m q y → y ≤ e → e ≤ y → Going f start m q e
 gather-over f start m q y e g h l = let s : y ≡ e = omega arith in rw s at g
 
-pub mark-over : (b l t : List ℕ) (y x : ℕ) → Met b (take y l) t → y ≤ x → x ≤ y → Met b (take x l) t
+pub mark-over : (b l t : List ℕ) (y x : ℕ) → Noted b (take y l) t → y ≤ x → x ≤ y → Noted b (take x l) t
 mark-over b l t y x ms h g = let s : y ≡ x = omega arith in rw s at ms
 
-pub met-start : (f : List ℕ) (start : ℕ) (b : List ℕ) (n : ℕ) (t : List ℕ) → t ≡ zeros n → Met b (take 0 (keysFrom f start)) t
-met-start f start b n t e = rw e (met-none b n)
+pub met-start : (f : List ℕ) (start : ℕ) (b t : List ℕ) → Unmet t → Noted b (take 0 (keysFrom f start)) t
+met-start f start b t u = noted-none b t u
 
 -- ---- `met`
 
-pub met-flag : (f : List ℕ) (start x key : ℕ) (b t : List ℕ) (j : ℕ) → Met b (take x (keysFrom f start)) t → j ≡ pageOf b key
-    → getD b j 0 ≡ key → j / 8 < length t → (r : Bool) → r ≡ flagOf t j → r ≡ seenFrom f start x key
+pub met-flag : (f : List ℕ) (start x key : ℕ) (b t : List ℕ) (j : ℕ) → Noted b (take x (keysFrom f start)) t → j ≡ spotOf b t key
+    → 0 < j → j / 8 < length t → (r : Bool) → r ≡ flagOf t j → r ≡ seenFrom f start x key
 unfolding seenFrom
-met-flag f start x key b t j ms e y h r er = er ∙ met-says b (take x (keysFrom f start)) t key j ms e y h
+met-flag f start x key b t j ms e y h r er = er ∙ noted-says b (take x (keysFrom f start)) t key j ms e y h
 
 -- ---- `first_repeat`
 
@@ -346,7 +345,7 @@ pub ruleset first-key-ways = (first-there, first-none, place-runs, place-in, ari
 
 pub ruleset reach-turn = (reach-over, reach-refused, reach-keyless, reach-more, reach-word, reach-count, record-in, record-falls, record-bounded, arith)
 
-pub ruleset gather-turn = (gather-nothing, gather-over, going-in, going-word, going-count, going-more, arith)
+pub ruleset gather-turn = (gather-nothing, gather-over, going-in, going-word, going-count, going-more, unmet-zeros, unmet-sifted, arith)
 
 pub ruleset mark-turn = (mark-nothing, mark-over, going-in, going-word, going-count, going-more, going-met, arith)
 

@@ -1,2 +1,4 @@
 pub mod BookLaws
 pub mod FirstLaws
+pub mod RcidLaws
+pub mod SparedLaws

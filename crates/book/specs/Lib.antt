@@ -1,2 +1,4 @@
 pub mod Book
 pub mod First
+pub mod Rcids
+pub mod Spared

@@ -1,9 +1,8 @@
 // A book of keys, looked up by halves. What is found in it is certain; that it is in order only makes it likely to be found.
-use keys::bits::raise;
 ghost use mathlib.Core.Path.{_≡_};
 ghost use Prim.Native.Nat.{_≤_, _<_};
 ghost use lib.ListN.{length};
-ghost use Rattle.book.specs.Book.{bitAt, pageOf, entered};
+ghost use Rattle.book.specs.Book.{bitAt, pageOf};
 
 // 1 where there is an entry at j that is not above the key, else 0.
 fn bit(b: &[u64], key: u64, j: usize) -> usize
@@ -39,17 +38,6 @@ pub fn page(b: &[u64], key: u64) -> usize
         return o;
     }
     0
-}
-
-// Raises the flag of a key that the book has.
-pub fn enter(b: &[u64], t: &mut [u8], key: u64)
-    requires { ⌜ 0 < length (now b) ⌝ }
-    ensures { λ _. ⌜ now (t .exit) ≡ entered (now (b .entry)) (now (t .entry)) key ⌝ }
-{
-    let j = page(b, key);
-    if b[j] == key {
-        raise(t, j);
-    }
 }
 
 // Moves the entry at i down by gaps, to behind one that is not above it.

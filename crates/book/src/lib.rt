@@ -2,3 +2,4 @@
 pub mod book;
 pub mod first;
 pub mod once;
+pub mod rcids;

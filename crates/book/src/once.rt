@@ -12,6 +12,7 @@ ghost use Rattle.keys.specs.Listed.{seenFrom};
 ghost use Rattle.keys.specs.Map.{kindIn};
 ghost use Rattle.keys.specs.Once.{Renewed, Once, Comes};
 ghost use Rattle.book.specs.First.{Sees, Ahead, Said};
+ghost use Rattle.book.specs.Spared.{Spared};
 
 // The larger of two.
 pub fn larger(a: u64, b: u64) -> u64
@@ -24,10 +25,10 @@ pub fn larger(a: u64, b: u64) -> u64
 }
 
 // Whether k is among the keys of the first m records from start on; its kind is not before that of the largest of them.
-fn stood(f: &[u8], start: usize, m: usize, top: u64, k: u64, t: &[u8], w: &mut usize) -> bool
+fn stood(f: &[u8], start: usize, m: usize, top: u64, k: u64, t: &mut [u8], w: &mut usize) -> bool
     requires { ⌜ (length (now f) ≤ 16777216) × (start ≤ length (now f)) × Comes (now f) start m k × Ahead (now f) start m (now w) ⌝ }
     requires { ⌜ (Once (now f) start m top (now t)) × (kindIn top ≤ kindIn k) ⌝ }
-    ensures { λ b. ⌜ (b ≡ seenFrom (now (f .entry)) start m k) × Sees (now (f .entry)) start (now (w .exit)) ⌝ }
+    ensures { λ b. ⌜ (b ≡ seenFrom (now (f .entry)) start m k) × Sees (now (f .entry)) start (now (w .exit)) × Spared (now (t .entry)) (now (t .exit)) ⌝ }
 {
     if top < k {
         return false;
@@ -35,11 +36,11 @@ fn stood(f: &[u8], start: usize, m: usize, top: u64, k: u64, t: &[u8], w: &mut u
     let j = (k % 262144) as usize;
     if j / 8 < t.len() {
         if flag(t, j) {
-            return stood_by(f, start, m, k, w);
+            return stood_by(f, start, m, k, t, w);
         }
         return false;
     }
-    stood_by(f, start, m, k, w)
+    stood_by(f, start, m, k, t, w)
 }
 
 // Empties the map where the kind is another.

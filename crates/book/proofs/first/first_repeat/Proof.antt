@@ -2,7 +2,7 @@ use Prim.Native.Nat.{_-_, _≤_}
 use mathlib.Core.Path.{_≡_, refl}
 use lib.ListN.{length}
 use Rattle.book.specs.First.{Going, Fresh}
-use Rattle.book.proofs.FirstLaws.{fresh-none, repeat-turn}
+use Rattle.book.proofs.FirstLaws.{fresh-none, repeat-none, repeat-turn}
 use borrow.Author.Needs.{needs}
 use native.Mathlib.Omega.{arith}
 use Rattle.book.proofs.first.first_repeat.Statement.{statement}
@@ -39,7 +39,7 @@ loop-less : tie.Need-loop-less Inv-loop μ-loop
 loop-less c = search needs
 
 loop-again : tie.Need-loop-again Inv-loop μ-loop
-loop-again c = (search needs, search needs, search needs, search needs, search repeat-turn)
+loop-again c = (search needs, search needs, search needs, search needs, repeat-none _ _ _ _ (c .before .before .before .fresh-of .ensures) (c .if1 .left))
 
 same-length-3 : tie.Need-same-length-3 Inv-loop μ-loop
 same-length-3 c = search needs

@@ -1,6 +1,6 @@
 use Rattle.book.proofs.FirstLaws.{foreseen-of}
-use native.Mathlib.Omega.{arith}
 use borrow.Author.Needs.{needs}
+use native.Mathlib.Omega.{arith}
 use Rattle.book.proofs.first.foresee.Statement.{statement}
 use Rattle.book.proofs.first.foresee.Tie as tie
 
@@ -10,11 +10,11 @@ reach-requires c κs = search needs
 slice-aggregate-first-repeat : tie.Need-slice-aggregate-first-repeat
 slice-aggregate-first-repeat c = search needs
 
-slice-aggregate-first-repeat-2 : tie.Need-slice-aggregate-first-repeat-2
-slice-aggregate-first-repeat-2 c = search needs
-
 first-repeat-requires : tie.Need-first-repeat-requires
 first-repeat-requires c κs = search needs
+
+same-length : tie.Need-same-length
+same-length c = search needs
 
 returns : tie.Need-returns
 returns c = search (foreseen-of, arith)
@@ -25,6 +25,6 @@ foresee-spec =
     (tie.spec
     reach-requires
     slice-aggregate-first-repeat
-    slice-aggregate-first-repeat-2
     first-repeat-requires
+    same-length
     returns)

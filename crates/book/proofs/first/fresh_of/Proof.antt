@@ -3,9 +3,6 @@ use borrow.Author.Needs.{needs}
 use Rattle.book.proofs.first.fresh_of.Statement.{statement}
 use Rattle.book.proofs.first.fresh_of.Tie as tie
 
-zero-requires : tie.Need-zero-requires
-zero-requires c κs = search needs
-
 mark-requires : tie.Need-mark-requires
 mark-requires c κs = search repeat-turn
 
@@ -19,5 +16,4 @@ returns : tie.Need-returns
 returns c = search needs
 
 pub fresh-of-spec : {M : Type 1} → statement M
-fresh-of-spec =
-    tie.close (tie.spec zero-requires mark-requires fresh-until-requires same-length returns)
+fresh-of-spec = tie.close (tie.spec mark-requires fresh-until-requires same-length returns)

@@ -2,7 +2,7 @@ use Prim.Native.Nat.{_-_, _≤_}
 use mathlib.Core.Path.{_≡_, refl}
 use lib.ListN.{length, take}
 use Rattle.keys.specs.Listed.{keysFrom}
-use Rattle.book.specs.Book.{Met}
+use Rattle.book.specs.Rcids.{Noted}
 use Rattle.book.specs.First.{Going, Fresh}
 use Rattle.book.proofs.FirstLaws.{going-fresh, until-turn}
 use borrow.Author.Needs.{needs}
@@ -11,7 +11,7 @@ use Rattle.book.proofs.first.fresh_until.Statement.{statement}
 use Rattle.book.proofs.first.fresh_until.Tie as tie
 
 abbrev Inv-loop : tie.InvT-loop
-Inv-loop f start m p x e b t₀ q₀ y₀ t q y = (length t ≡ length t₀) × (x ≤ y) × (y ≤ e) × Going f start m q y × Fresh f start y × Met b (take y (keysFrom f start)) t
+Inv-loop f start m p x e b t₀ q₀ y₀ t q y = (length t ≡ length t₀) × (x ≤ y) × (y ≤ e) × Going f start m q y × Fresh f start y × Noted b (take y (keysFrom f start)) t
 
 abbrev μ-loop : tie.MeasureT-loop
 μ-loop f start m p x e b t₀ q₀ y₀ t q y = e - y

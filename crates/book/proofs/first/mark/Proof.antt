@@ -2,7 +2,7 @@ use Prim.Native.Nat.{_-_, _≤_}
 use mathlib.Core.Path.{_≡_, refl}
 use lib.ListN.{length, take}
 use Rattle.keys.specs.Listed.{keysFrom}
-use Rattle.book.specs.Book.{Met}
+use Rattle.book.specs.Rcids.{Noted}
 use Rattle.book.specs.First.{Going}
 use Rattle.book.proofs.FirstLaws.{mark-turn}
 use borrow.Author.Needs.{needs}
@@ -11,7 +11,7 @@ use Rattle.book.proofs.first.mark.Statement.{statement}
 use Rattle.book.proofs.first.mark.Tie as tie
 
 abbrev Inv-loop : tie.InvT-loop
-Inv-loop f start m x b t₀ p₀ y₀ t p y = (length t ≡ length t₀) × (y ≤ x) × Going f start m p y × Met b (take y (keysFrom f start)) t
+Inv-loop f start m x b t₀ p₀ y₀ t p y = (length t ≡ length t₀) × (y ≤ x) × Going f start m p y × Noted b (take y (keysFrom f start)) t
 
 abbrev μ-loop : tie.MeasureT-loop
 μ-loop f start m x b t₀ p₀ y₀ t p y = x - y

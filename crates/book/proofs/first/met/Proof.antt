@@ -3,14 +3,8 @@ use borrow.Author.Needs.{needs}
 use Rattle.book.proofs.first.met.Statement.{statement}
 use Rattle.book.proofs.first.met.Tie as tie
 
-page-requires : tie.Need-page-requires
-page-requires c κs = search needs
-
-mul-if1 : tie.Need-mul-if1
-mul-if1 c = search needs
-
-shared-slice-read-if1 : tie.Need-shared-slice-read-if1
-shared-slice-read-if1 c = search needs
+spot-requires : tie.Need-spot-requires
+spot-requires c κs = search needs
 
 flag-requires : tie.Need-flag-requires
 flag-requires c κs = search needs
@@ -25,13 +19,4 @@ returns-2 : tie.Need-returns-2
 returns-2 c = search needs
 
 pub met-spec : {M : Type 1} → statement M
-met-spec =
-    tie.close
-    (tie.spec
-    page-requires
-    mul-if1
-    shared-slice-read-if1
-    flag-requires
-    returns
-    seen-requires
-    returns-2)
+met-spec = tie.close (tie.spec spot-requires flag-requires returns seen-requires returns-2)

@@ -1,8 +1,8 @@
 use mathlib.Core.Bool.{true≢false}
 use Rattle.book.proofs.FirstLaws.{ahead-more}
-use Rattle.keys.proofs.OnceLaws.{repeats-ways}
-use native.Mathlib.Omega.{arith}
+use Rattle.book.proofs.SparedLaws.{repeats-turn}
 use borrow.Author.Needs.{needs}
+use native.Mathlib.Omega.{arith}
 use Rattle.book.proofs.once.repeats.Statement.{statement}
 use Rattle.book.proofs.once.repeats.Tie as tie
 
@@ -13,7 +13,7 @@ same-length : tie.Need-same-length
 same-length c = search needs
 
 returns : tie.Need-returns
-returns c = record { told = search repeats-ways; ahead = λ z. absurd (true≢false z) }
+returns c = record { told = search repeats-turn; ahead = λ z. absurd (true≢false z) }
 
 renew-requires : tie.Need-renew-requires
 renew-requires c κs = search needs
@@ -25,7 +25,7 @@ same-length-2 : tie.Need-same-length-2
 same-length-2 c = search needs
 
 returns-2 : tie.Need-returns-2
-returns-2 c = record { told = search repeats-ways; ahead = λ _. search (ahead-more, arith) }
+returns-2 c = record { told = search repeats-turn; ahead = λ _. search (ahead-more, arith) }
 
 pub repeats-spec : {M : Type 1} → statement M
 repeats-spec =
