@@ -33,11 +33,12 @@ use Rattle.keys.specs.Listed.{keysFrom}
 use Rattle.keys.specs.Look.{Sound}
 use Rattle.keys.specs.Numbered.{Numbered}
 use Rattle.keys.specs.Standing.{outcomeFrom, referencesFrom}
-use Rattle.keys.specs.Table.{Tails, Laid}
+use Rattle.keys.specs.Table.{Tails}
 use Rattle.keys.proofs.ReferenceLaws.{Reads, references-over, references-loose, references-more, passed-sound}
 use Rattle.keys.proofs.TableLaws.{tails-same}
 use Rattle.references.specs.Readable.{recordReadable, everyReadable}
 use Rattle.references.specs.Named.{Says}
+use Rattle.references.specs.Vouched.{Aided}
 use Rattle.references.specs.Linked.{linkedBy, Answers}
 use Rattle.references.specs.declared.dataset.Linked.{Linked}
 use Rattle.references.specs.declared.dataset.Linked.the-variants.{All, Loose}
@@ -54,9 +55,9 @@ pub record Reached (f : List ℕ) (start p m : ℕ) : Type 0 where
   pub readable : everyReadable ((recordsFrom f p) .items) ≡ true
   pub same : (recs : List Rec) → Numbered recs (keysFrom f start) → referencesFrom recs f p m ≡ referencesFrom recs f start 0
 
-pub reached-start : (f : List ℕ) (start : ℕ) (t : List ℕ) (n : ℕ) (map : List ℕ) → Laid f start t n map → everyReadable ((recordsFrom f start) .items) ≡ true
+pub reached-start : (f : List ℕ) (start : ℕ) (t : List ℕ) (n : ℕ) (map v : List ℕ) → Aided f start t n map v → everyReadable ((recordsFrom f start) .items) ≡ true
     → Reached f start start 0
-reached-start f start t n map l e =
+reached-start f start t n map v l e =
     let s = l .sound in
     record { small = s .small; inside = s .inside; counted = omega arith; clean = s .clean; readable = e; same = λ recs b. refl }
 

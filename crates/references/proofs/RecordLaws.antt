@@ -30,16 +30,16 @@ use Rattle.contents.proofs.StepLaws.{step-bounds, second-right}
 use Rattle.contents.proofs.SpatialLaws.{spas-next, spas-ends}
 use Rattle.keys.specs.Key.{keyAt, KeyFits}
 use Rattle.keys.specs.Listed.{hasFrom}
-use Rattle.keys.specs.Table.{Laid}
 use Rattle.keys.proofs.NamedLaws.{Names, inas-names, spas-names}
 use Rattle.references.specs.Named.{Says, Alike}
+use Rattle.references.specs.Vouched.{Aided}
 use Rattle.references.specs.Readable.{allReadable, recordReadable}
 use Rattle.references.proofs.MarkLaws.{alike-same, says-none, parts-more, parts-refused, mark-more, mark-loose}
 use Rattle.references.proofs.ReadableLaws.{inas-readable, spas-readable, second-readable, second-marks, readable-here, readable-next}
 
 -- ---- an INAS: its key k, and whether it stands in the file
 
-module _ (f : List ℕ) (start : ℕ) (t : List ℕ) (n : ℕ) (map : List ℕ) (laid : Laid f start t n map) (b : List ℕ) (i : ℕ)
+module _ (f : List ℕ) (start : ℕ) (t : List ℕ) (n : ℕ) (map v : List ℕ) (laid : Aided f start t n map v) (b : List ℕ) (i : ℕ)
     (filled : fill (headOf InasNew) (tupleOf InasNew) b ≡ true) (k : ℕ) (ek : k ≡ keyAt b 0) (fits : KeyFits b 0) (x : Bool) (ex : x ≡ hasFrom f start k) where
   abbrev mark : Mark
   mark = record { key = inasKey b; field = i; tuple = 0 }
@@ -69,7 +69,7 @@ module _ (f : List ℕ) (start : ℕ) (b : List ℕ) (i at j : ℕ) (whole : Lis
   unfolding spasMarks
   tuples-over h = says-none f start whole (rw (none-left h) at inv)
 
-  module _ (g : at < length b) (z : endingAt (tupleOf Spas) b at ≡ 0) (t : List ℕ) (n : ℕ) (map : List ℕ) (laid : Laid f start t n map)
+  module _ (g : at < length b) (z : endingAt (tupleOf Spas) b at ≡ 0) (t : List ℕ) (n : ℕ) (map v : List ℕ) (laid : Aided f start t n map v)
       (k : ℕ) (ek : k ≡ keyAt b at) (fits : KeyFits b at) (x : Bool) (ex : x ≡ hasFrom f start k) where
     abbrev tuple : Mark
     tuple = record { key = spasKey (values (tupleOf Spas) (drop at b)); field = i; tuple = j }

@@ -1,57 +1,37 @@
--- Laws of a book of keys that are named. Assumes nothing.
+-- Laws of what helps to find a record that is named. Assumes nothing.
 use mathlib.Core.Path.{_≡_, refl, sym, _∙_}
 use mathlib.Core.List.{List}
 use mathlib.Core.Bool.{Bool, true, false, true≢false}
-use Prim.Native.Nat.{ℕ, _+_, _-_, _*_, _/_, _≤_, _<_}
+use Prim.Native.Nat.{ℕ, _+_, _-_, _/_, _≤_, _<_}
 use native.Mathlib.Omega.{arith}
-use borrow.Author.Tests.{eqb-true, eqb-false, ltb-true, ltb-false}
-use lib.ListN.{length, getD, set, length-set, replicate, length-replicate, List·getD-eq-default}
-use lib.Seq.{getD-set-same, getD-set-other}
-use lib.Dec.{eqb, ltb}
+use lib.ListN.{length, replicate}
 use Rattle.skeleton.proofs.PlaceLaws.{place-bounds}
 use Rattle.skeleton.proofs.RecordLaws.{record-bounds}
 use Rattle.memory.specs.Hold.{zeros}
-use Rattle.keys.proofs.MapLaws.{zeros-all}
-use Rattle.keys.specs.Listed.{hasFrom}
+use Rattle.keys.specs.Bits.{flagOf}
+use Rattle.keys.specs.Listed.{keysFrom, hasFrom}
 use Rattle.keys.specs.Look.{lookAt, Sound}
-use Rattle.keys.specs.Table.{Tail}
+use Rattle.keys.specs.Slots.{slotOf}
+use Rattle.keys.specs.Table.{Tail, Laid}
 use Rattle.keys.specs.declared.look.Look.{Look}
 use Rattle.keys.specs.declared.look.Look.the-variants.{At}
+use Rattle.keys.proofs.SlotLaws.{slots-say}
 use Rattle.keys.proofs.SoundLaws.{sound-falls}
 use Rattle.keys.proofs.TableLaws.{tail-start}
-use Rattle.keys.proofs.PresentLaws.{near-on, near-word, near-found, near-in, near-small, has-flag, laid-sound}
-use Rattle.references.specs.Vouched.{Dim, Vouches, Vouched}
+use Rattle.keys.proofs.PresentLaws.{near-on, near-word, near-found, near-in, near-small}
+use Rattle.book.specs.Rcids.{spotOf, joined, Unmet}
+use Rattle.book.proofs.RcidLaws.{means-unmet, means-spot, means-joined, unmet-zeros, unmet-sifted}
+use Rattle.references.specs.Vouched.{Vouches, Vouched, Aided}
 
 -- ---- `vouched`
 
-module _ (f : List ℕ) (start : ℕ) (k : List ℕ) (v : Vouched f start k) where
-  pub vouched-there : (j key : ℕ) → eqb (getD k j 0) (2 * key + 1) ≡ true → hasFrom f start key ≡ true
+module _ (f : List ℕ) (start : ℕ) (b k : List ℕ) (v : Vouched f start b k) where
+  pub vouched-there : (key j : ℕ) → j ≡ spotOf b k key → 0 < j → (r : Bool) → r ≡ flagOf k j → r ≡ true → hasFrom f start key ≡ true
   unfolding Vouches
-  vouched-there j key e = v .vouches j key (eqb-true (getD k j 0) (2 * key + 1) e)
+  vouched-there key j e h r x y = means-spot (λ key'. hasFrom f start key' ≡ true) b k (v .vouches) key j e h (sym x ∙ y)
 
 pub vouched-not : (b : Bool) → false ≡ true → b ≡ true
 vouched-not b e = absurd (true≢false (sym e))
-
--- ---- `vouch`
-
-module _ (f : List ℕ) (start : ℕ) (k : List ℕ) (v : Vouched f start k) (key : ℕ) (e : hasFrom f start key ≡ true) where
-  vouch-at : (j i key' : ℕ) (b : Bool) → eqb i j ≡ b → j < length k → getD (set k j (2 * key + 1)) i 0 ≡ 2 * key' + 1 → hasFrom f start key' ≡ true
-  unfolding Vouches
-  vouch-at j i key' true x l y =
-      let z : i ≡ j = eqb-true i j x in
-      let w : 2 * key + 1 ≡ 2 * key' + 1 = sym (getD-set-same k j (2 * key + 1) 0 l) ∙ rw z at y in
-      let s : key ≡ key' = omega arith in
-      rw s at e
-  vouch-at j i key' false x l y =
-      v .vouches i key' (sym (getD-set-other k j i (2 * key + 1) 0 (eqb-false i j x)) ∙ y)
-
-  pub vouch-set : (j : ℕ) → j < length k → Vouched f start (set k j (2 * key + 1))
-  unfolding Vouches
-  vouch-set j l =
-      let s = v .some in
-      record { some = rw length-set s; vouches = λ i key' y. vouch-at j i key' (eqb i j) refl l y }
-
-pub ruleset vouch-ways = (vouch-set, arith)
 
 -- ---- `vouch_all`
 
@@ -59,67 +39,68 @@ pub all-start : (f : List ℕ) (start : ℕ) → Sound f start → Tail f start 
 all-start = tail-start
 
 module _ (f : List ℕ) (start p : ℕ) (l : Tail f start p) (e : Look) (en : e ≡ lookAt f p) (len key : ℕ) (x : e ≡ At len key) where
-  pub all-has : hasFrom f start key ≡ true
-  all-has = near-found f start p l e en len key x key refl refl
+  pub all-vouched : (b k k' : List ℕ) → Vouched f start b k → k' ≡ joined b k key → Vouched f start b k'
+  unfolding Vouches
+  all-vouched b k k' v y =
+      let h = near-found f start p l e en len key x key refl refl in
+      record { some = v .some; vouches = means-joined (λ key'. hasFrom f start key' ≡ true) b k (v .vouches) key h k' y }
 
   pub all-falls : length f - (p + len) < length f - p
   all-falls = sound-falls f p (l .sound) e en len key x
 
-pub ruleset all-turn = (all-has, all-falls, near-on, near-word, near-in, near-small, arith)
+pub vouched-some : (f : List ℕ) (start : ℕ) (b k : List ℕ) → Vouched f start b k → 0 < length b
+vouched-some f start b k v = v .some
 
--- ---- `dim` and `refill`
+pub ruleset all-turn = (all-vouched, all-falls, vouched-some, near-on, near-word, near-in, near-small, arith)
 
--- the first i entries say nothing
-pub record Dimmed (k : List ℕ) (i : ℕ) : Type 0 where
-  pub so : (j key : ℕ) → j < i → getD k j 0 ≡ 2 * key + 1 → ⊥
+-- ---- `refill`
 
-pub dimmed-none : (k : List ℕ) → Dimmed k 0
-dimmed-none k = record { so = λ j key h e. omega arith }
+pub unmet-vouched : (f : List ℕ) (start : ℕ) (b k : List ℕ) → Unmet k → 0 < length b → Vouched f start b k
+unfolding Vouches
+unmet-vouched f start b k u s = record { some = s; vouches = means-unmet (λ key. hasFrom f start key ≡ true) b k u }
 
-dimmed-at : (k : List ℕ) (i j key v : ℕ) (b : Bool) → eqb j i ≡ b → Dimmed k i → i < length k → j < i + 1 → getD (set k i (v / 2 * 2)) j 0 ≡ 2 * key + 1 → ⊥
-dimmed-at k i j key v true x d l h e =
-    let z : j ≡ i = eqb-true j i x in
-    let w : v / 2 * 2 ≡ 2 * key + 1 = sym (getD-set-same k i (v / 2 * 2) 0 l) ∙ rw z at e in
-    omega arith
-dimmed-at k i j key v false x d l h e =
-    let n : j ≡ i → ⊥ = eqb-false j i x in
-    let g : j < i = omega (arith, n) in
-    d .so j key g (sym (getD-set-other k i j (v / 2 * 2) 0 n) ∙ e)
-
-pub dimmed-more : (k : List ℕ) (i v w : ℕ) → w ≡ v / 2 * 2 → Dimmed k i → i < length k → Dimmed (set k i w) (i + 1)
-dimmed-more k i v w y d l = rw y (record { so = λ j key h e. dimmed-at k i j key v (eqb j i) refl d l h e })
-
-pub dimmed-all : (k : List ℕ) (i : ℕ) → Dimmed k i → length k ≤ i → Dim k
-unfolding Dim
-dimmed-all k i d l j key e = go (ltb j i) refl
-  where
-    go : (b : Bool) → ltb j i ≡ b → ⊥
-    go true x = d .so j key (ltb-true j i x) e
-    go false x =
-        let g = ltb-false j i x in
-        let z : getD k j 0 ≡ 0 = List·getD-eq-default k 0 (omega arith) in
-        omega arith
-
-pub ruleset dim-turn = (dimmed-more, dimmed-all, arith)
-
-pub dim-vouched : (f : List ℕ) (start : ℕ) (k : List ℕ) → Dim k → 0 < length k → Vouched f start k
-unfolding Dim Vouches
-dim-vouched f start k d s = record { some = s; vouches = λ j key e. absurd (d j key e) }
-
--- a book with nothing in it
-pub blank-vouched : (f : List ℕ) (start n : ℕ) → 0 < n → Vouched f start (replicate n 0)
-unfolding Vouches zeros
-blank-vouched f start n s =
-    record { some = omega (arith, length-replicate {A = ℕ} n 0); vouches = λ j key e. absurd (let y = zeros-all n j in omega arith) }
+pub ruleset sift-ways = (unmet-zeros, unmet-sifted, arith)
 
 -- ---- `found` and `exists`
 
 pub found-there : (b h : Bool) → (b ≡ true → h ≡ true) → b ≡ true → true ≡ h
 found-there b h g e = sym (g e)
 
-pub ruleset found-ways = (found-there, laid-sound, arith)
+pub ruleset found-ways = (found-there, vouched-some, arith)
 
-pub ruleset exists-ways = (has-flag, arith)
+module _ (f : List ℕ) (start : ℕ) (t : List ℕ) (n : ℕ) (map k : List ℕ) (a : Aided f start t n map k) where
+  pub aided-sound : Sound f start
+  aided-sound = a .sound
+
+  pub aided-flag : (key s : ℕ) → s ≡ slotOf key → s < 262144 → s / 8 < length map → (b : Bool) → b ≡ flagOf map s → b ≡ hasFrom f start key
+  unfolding hasFrom
+  aided-flag key s e h g b x = x ∙ slots-say (keysFrom f start) map key s (a .slots) e h g
+
+  module _ (o : Bool) (eo : o ≡ flagOf map 262144) where
+    pub aided-table : o ≡ true → Laid f start t n map
+    aided-table x = a .table (sym eo ∙ x)
+
+    pub aided-book : o ≡ false → Vouched f start t k
+    aided-book x = a .book (sym eo ∙ x)
+
+    pub aided-anew : o ≡ false → (t' k' : List ℕ) → Vouched f start t' k' → Aided f start t' n map k'
+    aided-anew x t' k' v =
+        record { sound = a .sound; slots = a .slots; table = λ y. absurd (true≢false (sym y ∙ sym eo ∙ x)); book = λ _. v }
+
+pub ruleset exists-ways = (aided-flag, aided-table, aided-book, aided-sound, aided-anew, arith)
+
+-- ---- before a record is looked at
+
+pub aided-start : (f : List ℕ) (start : ℕ) (t : List ℕ) (n : ℕ) (map : List ℕ) → Laid f start t n map → 0 < length t → (m : ℕ)
+    → Aided f start t n map (replicate m 0)
+unfolding zeros
+aided-start f start t n map l s m =
+    record {
+      sound = l .sound;
+      slots = l .slots;
+      table = λ _. l;
+      book = λ _. unmet-vouched f start t (replicate m 0) (unmet-zeros m (replicate m 0) refl) s;
+    }
 
 pub ruleset place-turn = (place-bounds, arith)
 

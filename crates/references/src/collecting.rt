@@ -1,6 +1,10 @@
-// The keys that records name from a place on, as many as a book holds: those that have no place in the map. Nothing is promised of what stands in the book.
+// The RCIDs that records name from a place on, as many as a book holds: those of keys that have no place in the map. Nothing is promised of what stands in the
+// book and in its sieve, but no other flag is raised.
+use book::rcids::rcid_of;
+use book::rcids::sift;
 use keys::look::key_at;
 use keys::slots::slot;
+use memory::clearing::zero;
 use skeleton::directory::Shape;
 use skeleton::file::record_at;
 use skeleton::leader::Head;
@@ -9,37 +13,38 @@ use skeleton::place::place_at;
 ghost use Prim.Native.Nat.{_≤_};
 ghost use lib.ListN.{length};
 ghost use Rattle.skeleton.specs.Shape.{Bounded};
+ghost use Rattle.book.specs.Rcids.{Unmet};
 
-// A number above all entries everywhere.
-fn blank(k: &mut [u64]) {
+// The largest number everywhere.
+fn blank(t: &mut [u32]) {
     let mut i = 0;
-    while i < k.len() {
-        k[i] = 4611686018427387904;
+    while i < t.len() {
+        t[i] = 4294967295;
         i += 1;
     }
 }
 
-// One key more behind n entries, if it has no place in the map and the book has room; how many there are then.
-fn add(k: &mut [u64], n: usize, key: u64) -> usize
-    ensures { λ m. ⌜ m ≤ length (now (k .exit)) ⌝ }
+// The RCID of one key more behind n entries, if it has no place in the map and the book has room; how many there are then.
+fn add(t: &mut [u32], k: &mut [u8], n: usize, key: u64) -> usize
+    requires { ⌜ Unmet (now k) ⌝ }
+    ensures { λ m. ⌜ (m ≤ length (now (t .exit))) × Unmet (now (k .exit)) ⌝ }
 {
-    if k.len() <= n {
-        return k.len();
+    if t.len() <= n {
+        return t.len();
     }
     if slot(key) < 262144 {
         return n;
     }
-    if 1099511627776 < key {
-        return n;
-    }
-    k[n] = 2 * key;
+    let rcid = rcid_of(key);
+    t[n] = rcid;
+    sift(k, rcid);
     n + 1
 }
 
 // Those of the tuples of a SPAS from `from` on.
-fn add_tuples(k: &mut [u64], n: usize, b: &[u8], from: usize) -> usize
-    requires { ⌜ n ≤ length (now k) ⌝ }
-    ensures { λ m. ⌜ m ≤ length (now (k .exit)) ⌝ }
+fn add_tuples(t: &mut [u32], k: &mut [u8], n: usize, b: &[u8], from: usize) -> usize
+    requires { ⌜ (n ≤ length (now t)) × Unmet (now k) ⌝ }
+    ensures { λ m. ⌜ (m ≤ length (now (t .exit))) × Unmet (now (k .exit)) ⌝ }
 {
     let mut at = from;
     let mut m = n;
@@ -47,30 +52,38 @@ fn add_tuples(k: &mut [u64], n: usize, b: &[u8], from: usize) -> usize
         if 16777216 < at {
             return m;
         }
-        m = add(k, m, key_at(b, at));
+        m = add(t, k, m, key_at(b, at));
         at += 15;
     }
     m
 }
 
 // Those of a field, of a SPAS from `from` on.
-fn add_field(k: &mut [u64], n: usize, tag: u32, b: &[u8], from: usize) -> usize
-    requires { ⌜ n ≤ length (now k) ⌝ }
-    ensures { λ m. ⌜ m ≤ length (now (k .exit)) ⌝ }
+fn add_field(t: &mut [u32], k: &mut [u8], n: usize, tag: u32, b: &[u8], from: usize) -> usize
+    requires { ⌜ (n ≤ length (now t)) × Unmet (now k) ⌝ }
+    ensures { λ m. ⌜ (m ≤ length (now (t .exit))) × Unmet (now (k .exit)) ⌝ }
 {
     if tag == 0x494e4153 {
-        return add(k, n, key_at(b, 0));
+        return add(t, k, n, key_at(b, 0));
     }
     if tag == 0x53504153 {
-        return add_tuples(k, n, b, from);
+        return add_tuples(t, k, n, b, from);
     }
     n
 }
 
 // Those of the record r from the field on whose entry stands at q.
-fn add_record(k: &mut [u64], n: usize, r: &[u8], h: Shape, q: usize, from: usize) -> usize
-    requires { ⌜ Bounded h × (n ≤ length (now k)) ⌝ }
-    ensures { λ m. ⌜ m ≤ length (now (k .exit)) ⌝ }
+fn add_record(
+    t: &mut [u32],
+    k: &mut [u8],
+    n: usize,
+    r: &[u8],
+    h: Shape,
+    q: usize,
+    from: usize,
+) -> usize
+    requires { ⌜ Bounded h × (n ≤ length (now t)) × Unmet (now k) ⌝ }
+    ensures { λ m. ⌜ (m ≤ length (now (t .exit))) × Unmet (now (k .exit)) ⌝ }
 {
     let mut e = q;
     let mut at = from;
@@ -83,7 +96,7 @@ fn add_record(k: &mut [u64], n: usize, r: &[u8], h: Shape, q: usize, from: usize
                 end,
                 next,
             } => {
-                m = add_field(k, m, tag, &r[start..end], at);
+                m = add_field(t, k, m, tag, &r[start..end], at);
                 e = next;
                 at = 0;
             }
@@ -95,8 +108,11 @@ fn add_record(k: &mut [u64], n: usize, r: &[u8], h: Shape, q: usize, from: usize
 }
 
 // Those of the records from p on, of the first from the field on whose entry stands at q.
-pub fn collect(f: &[u8], p: usize, q: usize, from: usize, k: &mut [u64]) {
-    blank(k);
+pub fn collect(f: &[u8], p: usize, q: usize, from: usize, t: &mut [u32], k: &mut [u8])
+    ensures { λ _. ⌜ Unmet (now (k .exit)) ⌝ }
+{
+    blank(t);
+    zero(k);
     if f.len() < p {
         return;
     }
@@ -104,11 +120,11 @@ pub fn collect(f: &[u8], p: usize, q: usize, from: usize, k: &mut [u64]) {
     let mut e = q;
     let mut at = from;
     let mut n = 0;
-    while n < k.len() {
+    while n < t.len() {
         match record_at(f, r) {
             Head::Good { len, base, a, b } => {
                 let to = r + len;
-                n = add_record(k, n, &f[r..to], Shape { base, a, b }, e, at);
+                n = add_record(t, k, n, &f[r..to], Shape { base, a, b }, e, at);
                 r = to;
                 e = 24;
                 at = 0;

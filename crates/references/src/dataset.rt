@@ -14,10 +14,9 @@ ghost use Rattle.base.specs.Walk.{Got};
 ghost use Rattle.skeleton.specs.File.{recordsFrom};
 ghost use Rattle.rules.specs.Outcome.{done};
 ghost use Rattle.keys.specs.Standing.{outcomeFrom};
-ghost use Rattle.keys.specs.Table.{Laid};
 ghost use Rattle.references.specs.Readable.{everyReadable};
 ghost use Rattle.references.specs.Linked.{Answers};
-ghost use Rattle.references.specs.Vouched.{Vouched};
+ghost use Rattle.references.specs.Vouched.{Aided};
 
 // Whether every record that is named exists; else the record, the field and the tuple of the first loose reference.
 pub enum Linked {
@@ -26,8 +25,8 @@ pub enum Linked {
 }
 
 // The records from start on, one by one; the first of them is the fourth of the file.
-fn every_named(f: &[u8], start: usize, t: &[u32], n: usize, map: &[u8], k: &mut [u64]) -> Linked
-    requires { ⌜ (Laid (now f) start (now t) n (now map)) × Vouched (now f) start (now k) × (everyReadable ((recordsFrom (now f) start) .items) ≡ true) ⌝ }
+fn every_named(f: &[u8], start: usize, t: &mut [u32], n: usize, map: &[u8], k: &mut [u8]) -> Linked
+    requires { ⌜ Aided (now f) start (now t) n (now map) (now k) × (everyReadable ((recordsFrom (now f) start) .items) ≡ true) ⌝ }
     ensures { λ r. ⌜ Answers (now (f .entry)) start r ⌝ }
 {
     let mut p = start;
@@ -62,14 +61,14 @@ fn every_named(f: &[u8], start: usize, t: &[u32], n: usize, map: &[u8], k: &mut 
 }
 
 // The first loose reference of a dataset whose records from start on, from the fourth on, have passed 1 to 7; the map is for the keys that can be named,
-// whatever it holds before.
+// whatever it holds before. Where the keys do not ascend, the table becomes a book.
 pub fn loose(f: &[u8], start: usize, map: &mut [u8]) -> Linked
     requires { ⌜ (outcomeFrom (now f) start 0 [] ≡ done tt) × (length (now f) ≤ 16777216) × (start ≤ length (now f)) ⌝ }
     ensures { λ r. ⌜ Answers (now (f .entry)) start r ⌝ }
 {
-    let mut table = [start as u32; 4096];
+    let mut table = [start as u32; 6144];
     let stride = (f.len() - start) / 131072 + 1;
     let n = spread(f, start, stride, &mut table, map);
-    let mut book = [0u64; 2047];
-    every_named(f, start, &table, n, map, &mut book)
+    let mut flags = [0u8; 7936];
+    every_named(f, start, &mut table, n, map, &mut flags)
 }

@@ -1,6 +1,6 @@
 // The records that the associations of one record name, INAS (0x494e4153) and SPAS (0x53504153): number 11.
-// The table t, its first n entries, and the map are of the file f from start on, and so is the book k; p is the place of the record at hand, and q that of
-// the field's entry in it.
+// The map is of the file f from start on, and so is t, with n and k: a table, of which the first n entries are to be tried, or a book, whose flags are k; p is
+// the place of the record at hand, and q that of the field's entry in it.
 use crate::vouching::exists;
 use base::Verdict;
 use keys::look::key_at;
@@ -20,26 +20,25 @@ ghost use Rattle.skeleton.specs.Place.{fieldsAt};
 ghost use Rattle.skeleton.specs.RightFrom.{RightFrom};
 ghost use Rattle.skeleton.specs.Shape.{Bounded};
 ghost use Rattle.rules.specs.Associations.{inasKey, spasMarks, fieldMarks, marks};
-ghost use Rattle.keys.specs.Table.{Laid};
 ghost use Rattle.references.specs.Readable.{readable, allReadable, recordReadable};
 ghost use Rattle.references.specs.Named.{Says};
-ghost use Rattle.references.specs.Vouched.{Vouched};
+ghost use Rattle.references.specs.Vouched.{Aided};
 
 // The record that the INAS b, field i, names.
 fn inas_named(
     f: &[u8],
     start: usize,
-    t: &[u32],
+    t: &mut [u32],
     n: usize,
     map: &[u8],
     p: usize,
     q: usize,
     b: &[u8],
     i: usize,
-    k: &mut [u64],
+    k: &mut [u8],
 ) -> Verdict
-    requires { ⌜ (Laid (now f) start (now t) n (now map)) × Vouched (now f) start (now k) × (fill (headOf InasNew) (tupleOf InasNew) (now b) ≡ true) ⌝ }
-    ensures { λ v. ⌜ (Says (now (f .entry)) start (record { key = inasKey (now (b .entry)); field = i; tuple = 0 } ∷ []) v) × Vouched (now (f .entry)) start (now (k .exit)) ⌝ }
+    requires { ⌜ Aided (now f) start (now t) n (now map) (now k) × (fill (headOf InasNew) (tupleOf InasNew) (now b) ≡ true) ⌝ }
+    ensures { λ v. ⌜ (Says (now (f .entry)) start (record { key = inasKey (now (b .entry)); field = i; tuple = 0 } ∷ []) v) × Aided (now (f .entry)) start (now (t .exit)) n (now (map .entry)) (now (k .exit)) ⌝ }
 {
     if exists(f, start, t, n, map, p, q, 0, key_at(b, 0), k) {
         return Verdict::Passed;
@@ -51,17 +50,17 @@ fn inas_named(
 fn spas_named(
     f: &[u8],
     start: usize,
-    t: &[u32],
+    t: &mut [u32],
     n: usize,
     map: &[u8],
     p: usize,
     q: usize,
     b: &[u8],
     i: usize,
-    k: &mut [u64],
+    k: &mut [u8],
 ) -> Verdict
-    requires { ⌜ (Laid (now f) start (now t) n (now map)) × Vouched (now f) start (now k) × (length (now b) ≤ 16777216) × (fill (headOf Spas) (tupleOf Spas) (now b) ≡ true) ⌝ }
-    ensures { λ v. ⌜ (Says (now (f .entry)) start (spasMarks i 1 (many (tupleOf Spas) (now (b .entry)))) v) × Vouched (now (f .entry)) start (now (k .exit)) ⌝ }
+    requires { ⌜ Aided (now f) start (now t) n (now map) (now k) × (length (now b) ≤ 16777216) × (fill (headOf Spas) (tupleOf Spas) (now b) ≡ true) ⌝ }
+    ensures { λ v. ⌜ (Says (now (f .entry)) start (spasMarks i 1 (many (tupleOf Spas) (now (b .entry)))) v) × Aided (now (f .entry)) start (now (t .exit)) n (now (map .entry)) (now (k .exit)) ⌝ }
 {
     let mut at = 0;
     let mut j = 1;
@@ -79,7 +78,7 @@ fn spas_named(
 fn field_named(
     f: &[u8],
     start: usize,
-    t: &[u32],
+    t: &mut [u32],
     n: usize,
     map: &[u8],
     p: usize,
@@ -87,10 +86,10 @@ fn field_named(
     tag: u32,
     b: &[u8],
     i: usize,
-    k: &mut [u64],
+    k: &mut [u8],
 ) -> Verdict
-    requires { ⌜ (Laid (now f) start (now t) n (now map)) × Vouched (now f) start (now k) × (length (now b) ≤ 16777216) × (readable (record { tag = tag; body = now b }) ≡ true) ⌝ }
-    ensures { λ v. ⌜ (Says (now (f .entry)) start (fieldMarks i (record { tag = tag; body = now (b .entry) })) v) × Vouched (now (f .entry)) start (now (k .exit)) ⌝ }
+    requires { ⌜ Aided (now f) start (now t) n (now map) (now k) × (length (now b) ≤ 16777216) × (readable (record { tag = tag; body = now b }) ≡ true) ⌝ }
+    ensures { λ v. ⌜ (Says (now (f .entry)) start (fieldMarks i (record { tag = tag; body = now (b .entry) })) v) × Aided (now (f .entry)) start (now (t .exit)) n (now (map .entry)) (now (k .exit)) ⌝ }
 {
     if tag == 0x494e4153 {
         return inas_named(f, start, t, n, map, p, q, b, i, k);
@@ -106,7 +105,7 @@ fn field_named(
 fn entry_named(
     f: &[u8],
     start: usize,
-    t: &[u32],
+    t: &mut [u32],
     n: usize,
     map: &[u8],
     p: usize,
@@ -114,10 +113,10 @@ fn entry_named(
     h: Shape,
     q: usize,
     i: usize,
-    k: &mut [u64],
+    k: &mut [u8],
 ) -> Verdict
-    requires { ⌜ (Laid (now f) start (now t) n (now map)) × Vouched (now f) start (now k) × Bounded h × (length (now r) ≤ 16777216) × (allReadable (fieldsAt (now r) h q) ≡ true) × RightFrom (now r) h q × (getD (now r) q 0 ≡ 30 → ⊥) ⌝ }
-    ensures { λ v. ⌜ (Says (now (f .entry)) start (marks i (take 1 (fieldsAt (now (r .entry)) h q))) v) × Vouched (now (f .entry)) start (now (k .exit)) ⌝ }
+    requires { ⌜ Aided (now f) start (now t) n (now map) (now k) × Bounded h × (length (now r) ≤ 16777216) × (allReadable (fieldsAt (now r) h q) ≡ true) × RightFrom (now r) h q × (getD (now r) q 0 ≡ 30 → ⊥) ⌝ }
+    ensures { λ v. ⌜ (Says (now (f .entry)) start (marks i (take 1 (fieldsAt (now (r .entry)) h q))) v) × Aided (now (f .entry)) start (now (t .exit)) n (now (map .entry)) (now (k .exit)) ⌝ }
 {
     let tag = tag_at(r, q);
     if tag != 0x494e4153 {
@@ -140,16 +139,16 @@ fn entry_named(
 pub fn record_named(
     f: &[u8],
     start: usize,
-    t: &[u32],
+    t: &mut [u32],
     n: usize,
     map: &[u8],
     p: usize,
     r: &[u8],
     h: Shape,
-    k: &mut [u64],
+    k: &mut [u8],
 ) -> Verdict
-    requires { ⌜ (Laid (now f) start (now t) n (now map)) × Vouched (now f) start (now k) × Bounded h × (length (now r) ≤ 16777216) × (recordReadable (fieldsAt (now r) h 24) ≡ true) × RightFrom (now r) h 24 ⌝ }
-    ensures { λ v. ⌜ (Says (now (f .entry)) start (marks 1 (fieldsAt (now (r .entry)) h 24)) v) × Vouched (now (f .entry)) start (now (k .exit)) ⌝ }
+    requires { ⌜ Aided (now f) start (now t) n (now map) (now k) × Bounded h × (length (now r) ≤ 16777216) × (recordReadable (fieldsAt (now r) h 24) ≡ true) × RightFrom (now r) h 24 ⌝ }
+    ensures { λ v. ⌜ (Says (now (f .entry)) start (marks 1 (fieldsAt (now (r .entry)) h 24)) v) × Aided (now (f .entry)) start (now (t .exit)) n (now (map .entry)) (now (k .exit)) ⌝ }
 {
     let mut q = 28 + h.a + h.b;
     let mut i = 2;

@@ -1,25 +1,25 @@
 use mathlib.Core.Path.{_≡_, refl}
-use lib.ListN.{length, length-set}
 use Prim.Native.Nat.{_-_}
+use lib.ListN.{length, length-set}
 use borrow.Author.Needs.{needs}
 use native.Mathlib.Omega.{arith}
 use Rattle.references.proofs.collecting.blank.Statement.{statement}
 use Rattle.references.proofs.collecting.blank.Tie as tie
 
 abbrev Inv-loop : tie.InvT-loop
-Inv-loop k₀ i₀ k i = length k ≡ length k₀
+Inv-loop t₀ i₀ t i = length t ≡ length t₀
 
 abbrev μ-loop : tie.MeasureT-loop
-μ-loop k₀ i₀ k i = length k - i
+μ-loop t₀ i₀ t i = length t - i
 
 loop-holds : tie.Need-loop-holds Inv-loop μ-loop
 loop-holds c = refl
 
-mul-k : tie.Need-mul-k Inv-loop μ-loop
-mul-k c = search needs
+mul-t : tie.Need-mul-t Inv-loop μ-loop
+mul-t c = search needs
 
-slice-write-k : tie.Need-slice-write-k Inv-loop μ-loop
-slice-write-k c = search needs
+slice-write-t : tie.Need-slice-write-t Inv-loop μ-loop
+slice-write-t c = search needs
 
 add-i : tie.Need-add-i Inv-loop μ-loop
 add-i c = search needs
@@ -43,8 +43,8 @@ blank-spec =
     Inv-loop
     μ-loop
     loop-holds
-    mul-k
-    slice-write-k
+    mul-t
+    slice-write-t
     add-i
     loop-less
     loop-again

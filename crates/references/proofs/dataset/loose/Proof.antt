@@ -1,6 +1,5 @@
 use Rattle.references.proofs.DatasetLaws.{loose-ways}
-use Rattle.references.proofs.VouchLaws.{blank-vouched}
-use native.Mathlib.Omega.{arith}
+use Rattle.references.proofs.VouchLaws.{aided-start}
 use borrow.Author.Needs.{needs}
 use Rattle.references.proofs.dataset.loose.Statement.{statement}
 use Rattle.references.proofs.dataset.loose.Tie as tie
@@ -27,7 +26,7 @@ slice-aggregate-every-named-2 : tie.Need-slice-aggregate-every-named-2
 slice-aggregate-every-named-2 c = search needs
 
 every-named-requires : tie.Need-every-named-requires
-every-named-requires c κs = (search needs, blank-vouched _ _ 2047 (omega arith), search loose-ways)
+every-named-requires c κs = (aided-start _ _ _ _ _ (search needs) (search needs) 7936, search loose-ways)
 
 same-length : tie.Need-same-length
 same-length c = search needs

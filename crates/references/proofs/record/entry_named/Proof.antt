@@ -25,13 +25,16 @@ part-field-named-end : tie.Need-part-field-named-end
 part-field-named-end c = search entry-ways
 
 field-named-requires : tie.Need-field-named-requires
-field-named-requires c κs = (search needs, search needs, search entry-ways, search entry-ways)
+field-named-requires c κs = (search needs, search entry-ways, search entry-ways)
 
 enum-told : tie.Need-enum-told
 enum-told c = search needs
 
 same-length : tie.Need-same-length
 same-length c = search needs
+
+same-length-2 : tie.Need-same-length-2
+same-length-2 c = search needs
 
 returns-2 : tie.Need-returns-2
 returns-2 c = (search entry-ways, search needs)
@@ -53,5 +56,6 @@ entry-named-spec =
     field-named-requires
     enum-told
     same-length
+    same-length-2
     returns-2
     returns-3)

@@ -1,5 +1,5 @@
 use Rattle.references.specs.Named.{Alike}
-use Rattle.references.specs.Vouched.{Vouched}
+use Rattle.references.specs.Vouched.{Aided}
 use Rattle.rules.specs.Associations.{spasMarks}
 use Rattle.fields.specs.Table.{tupleOf}
 use Rattle.fields.specs.Content.{many}
@@ -15,13 +15,13 @@ use Rattle.references.proofs.record.spas_named.Statement.{statement}
 use Rattle.references.proofs.record.spas_named.Tie as tie
 
 abbrev Inv-loop : tie.InvT-loop
-Inv-loop f start t n map p q b i k₀ at₀ j₀ k at j = (length k ≡ length k₀) × Vouched f start k × (at ≤ length b) × (j ≤ at + 1) × (endingAt (tupleOf Spas) b at ≡ 0) × Alike f start (spasMarks i j (many (tupleOf Spas) (drop at b))) (spasMarks i 1 (many (tupleOf Spas) b))
+Inv-loop f start t₀ n map p q b i k₀ at₀ j₀ t k at j = (length t ≡ length t₀) × (length k ≡ length k₀) × Aided f start t n map k × (at ≤ length b) × (j ≤ at + 1) × (endingAt (tupleOf Spas) b at ≡ 0) × Alike f start (spasMarks i j (many (tupleOf Spas) (drop at b))) (spasMarks i 1 (many (tupleOf Spas) b))
 
 abbrev μ-loop : tie.MeasureT-loop
-μ-loop f start t n map p q b i k₀ at₀ j₀ k at j = length b - at
+μ-loop f start t₀ n map p q b i k₀ at₀ j₀ t k at j = length b - at
 
 loop-holds : tie.Need-loop-holds Inv-loop μ-loop
-loop-holds c = (refl, search needs, omega arith, omega arith, search tuples-turn, search tuples-turn)
+loop-holds c = (refl, refl, search needs, omega arith, omega arith, search tuples-turn, search tuples-turn)
 
 key-at-requires : tie.Need-key-at-requires Inv-loop μ-loop
 key-at-requires c κs = search needs
@@ -31,6 +31,9 @@ exists-requires c κs = search needs
 
 same-length : tie.Need-same-length Inv-loop μ-loop
 same-length c = search needs
+
+same-length-2 : tie.Need-same-length-2 Inv-loop μ-loop
+same-length-2 c = search needs
 
 returns : tie.Need-returns Inv-loop μ-loop
 returns c = (search tuples-turn, search needs)
@@ -46,12 +49,15 @@ loop-less c = search tuples-turn
 
 loop-again : tie.Need-loop-again Inv-loop μ-loop
 loop-again c =
-    let inv = c .before .before .before .before .before .before .before .loop .inv in
-    let more = tuples-more _ _ _ _ _ _ _ (inv .5) (c .before .before .before .before .before .before .loop-test .taken) (inv .4) _ _ _ (c .before .before .before .before .before .before .before .before .before .before .before .before .before .pre .0) _ (c .before .before .before .before .before .key-at .ensures .0) (c .before .before .before .before .before .key-at .ensures .1) _ (c .before .before .before .exists .ensures .0) (c .if1 .left) in
-    (search needs, search needs, search tuples-turn, search tuples-turn, search tuples-turn, more)
+    let inv = c .before .before .before .before .before .before .before .before .before .before .loop .inv in
+    let more = tuples-more _ _ _ _ _ _ _ (inv .6) (c .before .before .before .before .before .before .before .before .before .loop-test .taken) (inv .5) _ _ _ _ (inv .2) _ (c .before .before .before .before .before .before .before .key-at .ensures .0) (c .before .before .before .before .before .before .before .key-at .ensures .1) _ (c .before .before .before .before .before .exists .ensures .0) (c .if1 .left) in
+    (search needs, search needs, search needs, search tuples-turn, search tuples-turn, search tuples-turn, more)
 
-same-length-2 : tie.Need-same-length-2 Inv-loop μ-loop
-same-length-2 c = search needs
+same-length-3 : tie.Need-same-length-3 Inv-loop μ-loop
+same-length-3 c = search needs
+
+same-length-4 : tie.Need-same-length-4 Inv-loop μ-loop
+same-length-4 c = search needs
 
 returns-2 : tie.Need-returns-2 Inv-loop μ-loop
 returns-2 c = (search tuples-turn, search needs)
@@ -66,10 +72,12 @@ spas-named-spec =
     key-at-requires
     exists-requires
     same-length
+    same-length-2
     returns
     add-at
     add-j
     loop-less
     loop-again
-    same-length-2
+    same-length-3
+    same-length-4
     returns-2)

@@ -9,10 +9,10 @@ use Rattle.references.proofs.vouching.vouch_all.Statement.{statement}
 use Rattle.references.proofs.vouching.vouch_all.Tie as tie
 
 abbrev Inv-loop : tie.InvT-loop
-Inv-loop f start k₀ p₀ k p = (length k ≡ length k₀) × Tail f start p × Vouched f start k
+Inv-loop f start b k₀ p₀ k p = (length k ≡ length k₀) × Tail f start p × Vouched f start b k
 
 abbrev μ-loop : tie.MeasureT-loop
-μ-loop f start k₀ p₀ k p = length f - p
+μ-loop f start b k₀ p₀ k p = length f - p
 
 loop-holds : tie.Need-loop-holds Inv-loop μ-loop
 loop-holds c = (refl, all-start _ _ (search needs), search needs)
@@ -23,8 +23,8 @@ look-at-requires c κs = search all-turn
 enum-known-len : tie.Need-enum-known-len Inv-loop μ-loop
 enum-known-len c = search needs
 
-vouch-requires : tie.Need-vouch-requires Inv-loop μ-loop
-vouch-requires c κs = search all-turn
+enter-requires : tie.Need-enter-requires Inv-loop μ-loop
+enter-requires c κs = search all-turn
 
 add-p : tie.Need-add-p Inv-loop μ-loop
 add-p c = search all-turn
@@ -33,7 +33,7 @@ loop-less : tie.Need-loop-less Inv-loop μ-loop
 loop-less c = search all-turn
 
 loop-again : tie.Need-loop-again Inv-loop μ-loop
-loop-again c = (search needs, search all-turn, search needs)
+loop-again c = (search needs, search all-turn, search all-turn)
 
 enum-told : tie.Need-enum-told Inv-loop μ-loop
 enum-told c = search needs
@@ -59,7 +59,7 @@ vouch-all-spec =
     loop-holds
     look-at-requires
     enum-known-len
-    vouch-requires
+    enter-requires
     add-p
     loop-less
     loop-again
