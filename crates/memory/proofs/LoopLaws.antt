@@ -6,7 +6,7 @@ use native.Mathlib.Nat.{add-zero, sub-self, sub-zero}
 use native.Mathlib.Omega.{arith}
 use lib.ListN.{length, getD, set, length-set}
 use Rattle.memory.specs.Put.{part, put}
-use Rattle.memory.proofs.PutLaws.{put-nil, put-one, put-put, put-put-last-first, length-part, part-none, part-all, part-cons, part-snoc, getD-part, Outside, getD-put-outside}
+use Rattle.memory.proofs.PutLaws.{put-nil, put-one, put-put, put-put-last-first, length-put, length-part, part-none, part-all, part-cons, part-snoc, part-join, part-part, part-put-outside, getD-part, Outside, getD-put-outside}
 
 -- what the loop has reached: of the n elements ys, which it stores from index `at` on, those from i up to j stand in d, which was d₀
 pub record Stored (at n : ℕ) (ys d₀ : List ℕ) (i j : ℕ) (d : List ℕ) : Type 0 where
@@ -45,6 +45,23 @@ stored-up {at} {n} {ys} {d₀} {i} {j} {d} s {v} h e =
       is = rw (longer, put-one (at + j) v d, s .is, next) (put-put (at + i) run (v ∷ []) d₀);
     }
 
+-- a turn upwards that stores m elements
+pub stored-up-run : {at n : ℕ} {ys d₀ : List ℕ} {i j : ℕ} {d : List ℕ} → Stored at n ys d₀ i j d → (m : ℕ) {vs : List ℕ} → j + m ≤ n → vs ≡ part j m ys
+    → Stored at n ys d₀ i (j + m) (put (at + j) vs d)
+stored-up-run {at} {n} {ys} {d₀} {i} {j} {d} s m {vs} h e =
+    let run : List ℕ = part i (j - i) ys in
+    let next : at + j ≡ at + i + length run = omega (arith, length-part i (j - i) ys (omega (arith, s .size))) in
+    let more : j + m - i ≡ j - i + m = omega arith in
+    let last : i + (j - i) ≡ j = omega arith in
+    let longer : part i (j + m - i) ys ≡ run ++ vs = rw (more, part-join i (j - i) m ys, last, e) in
+    record {
+      size = s .size;
+      order = omega arith;
+      within = h;
+      long = length-put (at + j) vs d ∙ s .long;
+      is = rw (longer, s .is, next) (put-put (at + i) run vs d₀);
+    }
+
 -- a turn downwards
 pub stored-down : {at n : ℕ} {ys d₀ : List ℕ} {i j : ℕ} {d : List ℕ} → Stored at n ys d₀ i j d → {v : ℕ} → 0 < i → v ≡ getD ys (i - 1) 0
     → Stored at n ys d₀ (i - 1) j (set d (at + (i - 1)) v)
@@ -63,6 +80,24 @@ stored-down {at} {n} {ys} {d₀} {i} {j} {d} s {v} h e =
       is = rw (longer, put-one (at + (i - 1)) v d, s .is, next) (put-put-last-first (at + (i - 1)) (v ∷ []) run d₀);
     }
 
+-- a turn downwards that stores m elements
+pub stored-down-run : {at n : ℕ} {ys d₀ : List ℕ} {i j : ℕ} {d : List ℕ} → Stored at n ys d₀ i j d → (m : ℕ) {vs : List ℕ} → m ≤ i → vs ≡ part (i - m) m ys
+    → Stored at n ys d₀ (i - m) j (put (at + (i - m)) vs d)
+stored-down-run {at} {n} {ys} {d₀} {i} {j} {d} s m {vs} h e =
+    let run : List ℕ = part i (j - i) ys in
+    let size : length vs ≡ m = ap length e ∙ length-part (i - m) m ys (omega (arith, s .size)) in
+    let next : at + i ≡ at + (i - m) + length vs = omega arith in
+    let more : j - (i - m) ≡ m + (j - i) = omega arith in
+    let rest : i - m + m ≡ i = omega arith in
+    let longer : part (i - m) (j - (i - m)) ys ≡ vs ++ run = rw (more, part-join (i - m) m (j - i) ys, rest, e) in
+    record {
+      size = s .size;
+      order = omega arith;
+      within = s .within;
+      long = length-put (at + (i - m)) vs d ∙ s .long;
+      is = rw (longer, s .is, next) (put-put-last-first (at + (i - m)) vs run d₀);
+    }
+
 -- a loop that moves a part of d inside d reads what was there at the start, as long as it reads where it has not stored yet
 pub stored-unread : {at n : ℕ} {d₀ : List ℕ} {i j : ℕ} {d : List ℕ} (from : ℕ) → Stored at n (part from n d₀) d₀ i j d → (k : ℕ) → k < n → Outside (from + k) (at + i) (j - i)
     → getD d (from + k) 0 ≡ getD (part from n d₀) k 0
@@ -70,3 +105,15 @@ stored-unread {at} {n} {d₀} {i} {j} {d} from s k h o =
     let run : List ℕ = part i (j - i) (part from n d₀) in
     let size : length run ≡ j - i = length-part i (j - i) (part from n d₀) (omega (arith, s .size)) in
     ap (λ (l : List ℕ). getD l (from + k) 0) (s .is) ∙ getD-put-outside (from + k) (at + i) run d₀ (rw size o) ∙ sym (getD-part from n k d₀ h)
+
+-- the same of m elements that are read before they are stored
+pub stored-unread-run : {at n : ℕ} {d₀ : List ℕ} {i j : ℕ} {d : List ℕ} (from : ℕ) → Stored at n (part from n d₀) d₀ i j d → (k m : ℕ) → k + m ≤ n
+    → ((t : ℕ) → t < m → Outside (from + k + t) (at + i) (j - i)) → part (from + k) m d ≡ part k m (part from n d₀)
+stored-unread-run {at} {n} {d₀} {i} {j} {d} from s k m h o =
+    let run : List ℕ = part i (j - i) (part from n d₀) in
+    let size : length run ≡ j - i = length-part i (j - i) (part from n d₀) (omega (arith, s .size)) in
+    ap (part (from + k) m) (s .is) ∙ part-put-outside (from + k) m (at + i) run d₀ (rw size o) ∙ sym (part-part from n k m d₀ h)
+
+-- what such a loop has moved
+pub stored-moved : {at n : ℕ} {d₀ : List ℕ} {i j : ℕ} {d : List ℕ} (from : ℕ) → Stored at n (part from n d₀) d₀ i j d → d ≡ put (at + i) (part (from + i) (j - i) d₀) d₀
+stored-moved {at} {n} {d₀} {i} {j} {d} from s = s .is ∙ ap (λ (l : List ℕ). put (at + i) l d₀) (part-part from n i (j - i) d₀ (omega (arith, s .order, s .within)))

@@ -2,13 +2,13 @@
 use mathlib.Core.Path.{_≡_, refl, sym, ap, _∙_}
 use mathlib.Core.List.{List, [], _∷_, _++_, append-assoc, append-nil}
 use mathlib.Core.Logic.{_⊎_, inl, inr, ⊎-elim}
-use Prim.Native.Nat.{ℕ, suc, _+_, _-_, _≤_, _<_, min}
-use native.Mathlib.Nat.{add-zero, add-suc, suc-add}
+use Prim.Native.Nat.{ℕ, zero, suc, _+_, _-_, _≤_, _<_, min}
+use native.Mathlib.Nat.{add-zero, zero-add, add-suc, suc-add}
 use native.Mathlib.Numerals.{add-one}
 use native.Mathlib.Omega.{arith}
 use lib.ListN.{length, take, drop, getD, set, length-take, length-drop, length-set, drop-of-length-le}
-use lib.Seq.{sets, sets-eq, take-suc, take-all, set-comm, getD-set-other, getD-take, getD-drop, ext-getD, length-take-le, take-at, drop-at, drop-drop}
-use Rattle.base.proofs.ListLaws.{take-drop-cons}
+use lib.Seq.{sets, sets-eq, take-suc, take-all, set-comm, getD-set-other, getD-take, getD-drop, ext-getD, length-take-le, take-at, take-take, drop-at, drop-drop}
+use Rattle.base.proofs.ListLaws.{take-drop-cons, drop-take}
 use Rattle.memory.specs.Put.{part, put}
 
 -- ---- put, with no side conditions
@@ -116,6 +116,23 @@ pub part-snoc : (from n : ℕ) (s : List ℕ) → from + n < length s → part f
 unfolding part
 part-snoc from n s h = rw (add-one, take-suc (drop from s) n 0 (simp length-drop (omega arith)), getD-drop)
 
+-- the first a + b elements
+take-more : (a b : ℕ) (l : List ℕ) → take (a + b) l ≡ take a l ++ take b (drop a l)
+take-more zero b l = rw zero-add
+take-more (suc a) zero [] = rw suc-add
+take-more (suc a) (suc b) [] = rw suc-add
+take-more (suc a) b (x ∷ l) = rw suc-add (ap (λ (r : List ℕ). x ∷ r) (take-more a b l))
+
+-- two parts, one behind the other
+pub part-join : (from a b : ℕ) (s : List ℕ) → part from (a + b) s ≡ part from a s ++ part (from + a) b s
+unfolding part
+part-join from a b s = take-more a b (drop from s) ∙ rw drop-drop
+
+-- a part of a part
+pub part-part : (from n k m : ℕ) (s : List ℕ) → k + m ≤ n → part k m (part from n s) ≡ part (from + k) m s
+unfolding part
+part-part from n k m s h = rw (drop-take k n (drop from s), take-take m (n - k) (drop k (drop from s)) (omega arith), drop-drop)
+
 -- ---- a part after a run of stores
 
 -- two lists that agree on a part
@@ -175,3 +192,29 @@ pub put-lent : (at n : ℕ) (ys d : List ℕ) → length ys ≡ n → at + n ≤
 put-lent at n ys d size h =
     let room : at + length ys ≤ length d = omega arith in
     rw (put-is at ys d, append-assoc, drop-drop, size)
+
+-- a part that is stored over a whole list of its length, and read again
+pub part-over : (from n : ℕ) (s d : List ℕ) → from + n ≤ length s → length d ≡ n → part 0 n (put 0 (part from n s) d) ≡ part from n s
+part-over from n s d h e = part-put-here 0 n (part from n s) d (length-part from n s h) (omega arith)
+
+-- ---- a part moved in two steps
+
+-- down: the first a elements, then the others, which the first step left alone
+pub move-first : (at from a n : ℕ) (w : List ℕ) → at ≤ from → a ≤ n → from + n ≤ length w
+    → put (at + a) (part (from + a) (n - a) (put at (part from a w) w)) (put at (part from a w) w) ≡ put at (part from n w) w
+move-first at from a n w h l room =
+    let size : length (part from a w) ≡ a = length-part from a w (omega arith) in
+    let all : a + (n - a) ≡ n = omega arith in
+    let both : put (at + a) (part (from + a) (n - a) w) (put at (part from a w) w) ≡ put at (part from (a + (n - a)) w) w =
+    rw (part-join from a (n - a) w, ← put-put at (part from a w) (part (from + a) (n - a) w) w, size) in
+    rw (part-put-above (from + a) (n - a) at (part from a w) w (omega arith)) (rw all at both)
+
+-- up: the elements from number a on, then the first a
+pub move-last : (at from a n : ℕ) (w : List ℕ) → from ≤ at → a ≤ n → at + n ≤ length w
+    → put at (part from a (put (at + a) (part (from + a) (n - a) w) w)) (put (at + a) (part (from + a) (n - a) w) w) ≡ put at (part from n w) w
+move-last at from a n w h l room =
+    let size : length (part from a w) ≡ a = length-part from a w (omega arith) in
+    let all : a + (n - a) ≡ n = omega arith in
+    let both : put at (part from a w) (put (at + a) (part (from + a) (n - a) w) w) ≡ put at (part from (a + (n - a)) w) w =
+    rw (part-join from a (n - a) w, ← put-put-last-first at (part from a w) (part (from + a) (n - a) w) w, size) in
+    rw (part-put-below from a (at + a) (part (from + a) (n - a) w) w (omega arith)) (rw all at both)

@@ -1,63 +1,25 @@
--- `move_up` meets its contract: the last n - k of the n bytes are stored, and those that are read next lie below them. Assumes nothing.
-use Prim.Native.Nat.{_-_}
-use mathlib.Core.Logic.{inl}
-use Rattle.memory.specs.Put.{part}
-use Rattle.memory.proofs.PutLaws.{length-part, Outside}
-use Rattle.memory.proofs.LoopLaws.{Stored, stored-none, stored-down, stored-all, stored-unread}
+-- `move_up` meets its contract: a part moved in two steps, the last of it first. Assumes nothing.
+use mathlib.Core.Path.{_∙_}
+use Rattle.memory.proofs.PutLaws.{move-last}
 use native.Mathlib.Omega.{arith}
+use borrow.Author.Needs.{needs}
 use Rattle.memory.proofs.moving.move_up.Statement.{statement}
 use Rattle.memory.proofs.moving.move_up.Tie as tie
 
-abbrev Inv-loop : tie.InvT-loop
-Inv-loop w₀ from n at k₀ w k = Stored at n (part from n w₀) w₀ k n w
+blocks-up-requires : tie.Need-blocks-up-requires
+blocks-up-requires c κs = search needs
 
-abbrev μ-loop : tie.MeasureT-loop
-μ-loop w₀ from n at k₀ w k = k
+bytes-up-requires : tie.Need-bytes-up-requires
+bytes-up-requires c κs = search needs
 
-loop-holds : tie.Need-loop-holds Inv-loop μ-loop
-loop-holds c = stored-none _ _ _ _ _ (length-part _ _ _ (omega arith)) (omega arith)
+same-length : tie.Need-same-length
+same-length c = search needs
 
-sub-k : tie.Need-sub-k Inv-loop μ-loop
-sub-k c = omega arith
-
-add-w : tie.Need-add-w Inv-loop μ-loop
-add-w c = omega arith
-
-slice-read-w : tie.Need-slice-read-w Inv-loop μ-loop
-slice-read-w c = omega arith
-
-add-w-2 : tie.Need-add-w-2 Inv-loop μ-loop
-add-w-2 c = omega arith
-
-slice-write-w : tie.Need-slice-write-w Inv-loop μ-loop
-slice-write-w c = omega arith
-
-loop-less : tie.Need-loop-less Inv-loop μ-loop
-loop-less c = omega arith
-
-loop-again : tie.Need-loop-again Inv-loop μ-loop
-unfolding Outside
-loop-again c = let l = c .before .before .loop in stored-down (l .inv) (c .before .loop-test .taken) (stored-unread _ (l .inv) (l .k - 1) (omega arith) (inl (omega arith)))
-
-same-length : tie.Need-same-length Inv-loop μ-loop
-same-length c = c .before .loop .inv .long
-
-returns : tie.Need-returns Inv-loop μ-loop
-returns c = stored-all (c .before .loop .inv) (c .loop-test .left) (omega arith)
+returns : tie.Need-returns
+returns c =
+    let a = c .before .before .before .before .before .before .before .before .before .args in
+    let b = c .before .before .before .before .before .before .blocks-up in
+    c .before .before .bytes-up .ensures ∙ rw (b .ensures .1) (move-last (a .at) (a .from) (b .result) (a .n) (a .w .now) (omega arith) (omega arith) (omega arith))
 
 pub move-up-spec : {M : Type 1} → statement M
-move-up-spec =
-    tie.close
-    (tie.spec
-    Inv-loop
-    μ-loop
-    loop-holds
-    sub-k
-    add-w
-    slice-read-w
-    add-w-2
-    slice-write-w
-    loop-less
-    loop-again
-    same-length
-    returns)
+move-up-spec = tie.close (tie.spec blocks-up-requires bytes-up-requires same-length returns)
