@@ -1,4 +1,5 @@
 pub mod SearchLaws
+pub mod WalkLaws
 pub mod ListLaws
 pub mod ChangeLaws
 pub mod DeedLaws

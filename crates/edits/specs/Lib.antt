@@ -1,4 +1,5 @@
 pub mod Search
+pub mod Walks
 pub mod Read
 pub mod Says
 pub mod Applied

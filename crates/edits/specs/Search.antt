@@ -53,6 +53,14 @@ behindLast w i n d c m = pick (eqb m 0) (endOf w i n d) (endOf w (placeOf w i n 
 unfoldable pub spotOf : List ℕ → ℕ → ℕ → ℕ → ℕ → ℕ → ℕ → ℕ
 spotOf w i n d c k m = pick (eqb k 0) (behindLast w i n d c m) (pick (ltb m k) (behindLast w i n d c m) (placeOf w i n d c k))
 
+-- as number k; past the end of the items, where there are too few for that
+unfoldable pub seatOf : List ℕ → ℕ → ℕ → ℕ → ℕ → ℕ → ℕ
+seatOf w i n d c k = pick (ltb (twins w i n d c + 1) k) (n + 1) (spotOf w i n d c k (twins w i n d c))
+
+-- behind twin number m from j on and what is below it; e where there is none
+unfoldable pub behindMark : List ℕ → ℕ → ℕ → ℕ → ℕ → ℕ → ℕ → ℕ
+behindMark w n d c e j m = pick (eqb m 0) e (endOf w (placeOf w j n d c m + 1) n (d + 1))
+
 -- ---- what is below an item
 
 -- there is an item of depth d or more at j

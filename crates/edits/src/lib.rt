@@ -2,8 +2,10 @@
 use acting::Progress;
 
 pub mod acting;
+pub mod block;
 pub mod search;
 pub mod single;
+pub mod walking;
 
 ghost use mathlib.Core.Path.{_≡_};
 ghost use mathlib.Core.Bool.{true};

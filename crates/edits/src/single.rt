@@ -2,8 +2,7 @@
 use crate::search::addressed;
 use crate::search::is_beside;
 use crate::search::run_end;
-use crate::search::spot;
-use crate::search::tally;
+use crate::search::seat;
 use items::number;
 ghost use mathlib.Core.Path.{_≡_};
 ghost use mathlib.Core.List.{List};
@@ -24,7 +23,7 @@ pub enum Deed {
 
 // Takes item i out, with what is below it; how many are left.
 pub fn remove(w: &mut [u8], n: usize, i: usize, depth: usize) -> usize
-    requires { ⌜ (8 * n ≤ length (now w)) × (i < n) × (depth ≤ i) ⌝ }
+    requires { ⌜ (8 * n ≤ length (now w)) × (length (now w) < 524288) × (i < n) × (depth ≤ i) ⌝ }
     ensures { λ r. ⌜ (r ≡ n - goneCount (now (w .entry)) n i depth) × (now (w .exit) ≡ goneOut (now (w .entry)) n i depth) ⌝ }
 {
     let j = run_end(w, i + 1, n, depth + 1);
@@ -50,11 +49,10 @@ pub fn insert(
     }
     let code = number(u, at);
     let k = number(u, at + 2);
-    let m = tally(w, start, n, depth, code);
-    if m + 1 < k {
+    let i = seat(w, start, n, depth, code, k);
+    if n < i {
         return Deed::Not(9);
     }
-    let i = spot(w, start, n, depth, code, k, m);
     memory::open_gap(w, 8 * n, 8 * i, 8);
     items::put_item(w, i, depth, code, at + 7, 1);
     Deed::Lead(i, n + 1)
