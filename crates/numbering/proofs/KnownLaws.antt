@@ -25,7 +25,7 @@ module _ (w : List ℕ) (i d : ℕ) where
   twins-new c h = rw (add-one i) (twins-over-less w d c i h)
 
   -- item i is as deep, or deeper
-  parent-stays : d ≤ depthOf w i → parentBefore w d (i + 1) ≡ parentBefore w d i
+  pub parent-stays : d ≤ depthOf w i → parentBefore w d (i + 1) ≡ parentBefore w d i
   parent-stays h = rw (add-one i) (parent-over w d i h)
 
   twins-stay : (c : ℕ) → d < depthOf w i → twinsBefore w d c (i + 1) ≡ twinsBefore w d c i
@@ -40,27 +40,32 @@ module _ (w : List ℕ) (i d : ℕ) where
       rw (add-one i) (omega (arith, twins-over w d c i at-least))
 
 -- no more twins than items
-twins-few : (w : List ℕ) (d c i : ℕ) → twinsBefore w d c i ≤ i
+pub twins-few : (w : List ℕ) (d c i : ℕ) → twinsBefore w d c i ≤ i
 twins-few w d c zero = omega (arith, twins-start w d c)
 twins-few w d c (suc i) =
     ⊎-elim (λ (h : depthOf w i < d). omega (arith, twins-over-less w d c i h)) (λ (h : d ≤ depthOf w i). omega (arith, twins-over w d c i h, twin-once w i d c, twins-few w d c i))
     (lt-or-le (depthOf w i) d)
 
+-- no parent behind the item
+pub parent-few : (w : List ℕ) (d i : ℕ) → parentBefore w d i ≤ i
+parent-few w d zero = omega (arith, parent-start w d)
+parent-few w d (suc i) =
+    ⊎-elim (λ (h : depthOf w i < d). omega (arith, parent-over-less w d i h)) (λ (h : d ≤ depthOf w i). omega (arith, parent-over w d i h, parent-few w d i))
+    (lt-or-le (depthOf w i) d)
+
 -- ---- what is remembered is read
 
 module _ (w : List ℕ) (i : ℕ) (k : List ℕ) (known : Known w i k) (d : ℕ) (h : d < 8) where
-  pub parent-known : getD k (3 * d) 0 ≡ parentBefore w d i
-  parent-known = known .right d h h .parent
+  pub parent-known : (getD k (3 * d) 0 ≡ parentBefore w d i) × (getD k (3 * d) 0 ≤ i)
+  parent-known = let p = known .right d h h .parent in (p, omega (arith, parent-few w d i))
 
   pub twins-known : (c : ℕ) → getD k (3 * d + 1) 0 ≡ c → (getD k (3 * d + 2) 0 ≡ twinsBefore w d c i) × (getD k (3 * d + 2) 0 ≤ i)
   twins-known c e =
       let t : getD k (3 * d + 2) 0 ≡ twinsBefore w d c i = known .right d h h .twins ∙ ap (λ (x : ℕ). twinsBefore w d x i) e in
       (t, omega (arith, twins-few w d c i))
 
-pub ruleset known-ways = (parent-known, arith)
-
 -- zeros
-zero-at : (n j : ℕ) → _≡_ {A = ℕ} (getD (replicate n 0) j 0) 0
+pub zero-at : (n j : ℕ) → _≡_ {A = ℕ} (getD (replicate n 0) j 0) 0
 zero-at zero j = refl
 zero-at (suc n) zero = refl
 zero-at (suc n) (suc j) = zero-at n j
@@ -176,7 +181,7 @@ module _ (k : List ℕ) (i d c t : ℕ) where
 
 -- ---- `next_numbers`
 
-pub numbers-found : (w : List ℕ) (i d c t k : ℕ) → d ≡ depthOf w i → c ≡ codeOf w i → t ≡ twinsBefore w d c i → k ≡ parentBefore w d i
-    → NumbersOf w i (record { index = t + 1; parent = k })
-numbers-found w i d c t k ed ec et ek =
-    record { index-is = ap (λ (x : ℕ). x + 1) (rw (← ed, ← ec) et); parent-is = rw (← ed) ek }
+pub numbers-found : (w : List ℕ) (i d c t k n : ℕ) → d ≡ depthOf w i → c ≡ codeOf w i → t ≡ twinsBefore w d c i → k ≡ parentBefore w d i → n ≤ i
+    → NumbersOf w i (record { index = t + 1; parent = k; steps = n })
+numbers-found w i d c t k n ed ec et ek en =
+    record { index-is = ap (λ (x : ℕ). x + 1) (rw (← ed, ← ec) et); parent-is = rw (← ed) ek; few = en }

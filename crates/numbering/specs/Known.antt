@@ -2,7 +2,7 @@
 -- its items: of depth d the parent, a code, and how many twins of that code, in the three numbers from 3 d on.
 use mathlib.Core.Path.{_≡_}
 use mathlib.Core.List.{List}
-use Prim.Native.Nat.{ℕ, _+_, _*_, _<_}
+use Prim.Native.Nat.{ℕ, _+_, _*_, _≤_, _<_}
 use lib.ListN.{length, getD}
 use Rattle.items.specs.Items.{depthOf, codeOf}
 use Rattle.numbering.specs.Numbers.{parentBefore, twinsBefore}
@@ -22,7 +22,8 @@ pub record KnownTo (e : ℕ) (w : List ℕ) (i : ℕ) (k : List ℕ) : Type 0 wh
 abbrev pub Known : List ℕ → ℕ → List ℕ → Type 0
 Known w i k = KnownTo 8 w i k
 
--- the index and the parent of item i
+-- the index and the parent of item i, and a number of items
 pub record NumbersOf (w : List ℕ) (i : ℕ) (r : Numbers) : Type 0 where
   pub index-is : r .index ≡ twinsBefore w (depthOf w i) (codeOf w i) i + 1
   pub parent-is : r .parent ≡ parentBefore w (depthOf w i) i
+  pub few : r .steps ≤ i

@@ -1,7 +1,7 @@
 -- The tuples of an ATTR field that the items of the working form are written as.
 use mathlib.Core.Path.{_≡_}
-use mathlib.Core.List.{List, [], _∷_}
-use Prim.Native.Nat.{ℕ, _+_, _*_, _≤_}
+use mathlib.Core.List.{List, [], _∷_, _++_}
+use Prim.Native.Nat.{ℕ, zero, suc, _+_, _-_, _*_, _≤_}
 use lib.ListN.{length}
 use Rattle.base.specs.Lists.{each}
 use Rattle.memory.specs.Wrote.{Wrote}
@@ -13,6 +13,7 @@ use Rattle.forest.specs.Flat.{Item, flat}
 use Rattle.rules.specs.Written.{tupVals, treeBytes}
 use Rattle.items.specs.Items.{depthOf, codeOf, valueOf, its}
 use Rattle.numbering.specs.Numbers.{parentBefore, twinsBefore}
+use Rattle.numbering.specs.declared.emitting.Part.{Part}
 
 -- the bytes of a tuple
 unfoldable pub tupleBytes : Tup → List ℕ
@@ -34,6 +35,20 @@ tupleWith s u w i index parent = record { natc = codeOf w i; atix = index; paix 
 -- item i as a tuple
 unfoldable pub tupleAt : List ℕ → List ℕ → List ℕ → ℕ → Tup
 tupleAt s u w i = tupleWith s u w i (twinsBefore w (depthOf w i) (codeOf w i) i + 1) (parentBefore w (depthOf w i) i)
+
+-- the bytes of the tuples of m items from i on
+unfoldable pub bytesFrom : List ℕ → List ℕ → List ℕ → ℕ → ℕ → List ℕ
+bytesFrom s u w i zero = []
+bytesFrom s u w i (suc m) = tupleBytes (tupleAt s u w i) ++ bytesFrom s u w (i + 1) m
+
+-- those of the items from i up to k
+unfoldable pub bytesTo : List ℕ → List ℕ → List ℕ → ℕ → ℕ → List ℕ
+bytesTo s u w i k = bytesFrom s u w i (k - i)
+
+-- of the n items of w the first ones, as many as r says, were written from index `at` on over what was d and is e
+pub record Begun (s u w : List ℕ) (n at : ℕ) (d : List ℕ) (r : Part) (e : List ℕ) : Type 0 where
+  pub few : r .count ≤ n
+  pub is : Wrote at (bytesTo s u w 0 (r .count)) d (r .behind) e
 
 -- r is how many bytes the n items of w are written in: where they are a forest's, those of its tuples
 pub record Sized (s u w : List ℕ) (n r : ℕ) : Type 0 where

@@ -10,16 +10,17 @@ ghost use Rattle.items.specs.Items.{depthOf, codeOf};
 ghost use Rattle.numbering.specs.Numbers.{parentBefore, twinsBefore};
 ghost use Rattle.numbering.specs.Known.{KnownTo, Known, NumbersOf};
 
-// ATIX and PAIX of an item.
+// ATIX and PAIX of an item, and over how many items they were looked for.
 pub struct Numbers {
     pub index: usize,
     pub parent: usize,
+    pub steps: usize,
 }
 
 // The place of the parent of item i, which has this depth; 0 for none.
 fn parent_of(w: &[u8], i: usize, depth: usize, known: &[usize]) -> usize
     requires { ⌜ (8 * i ≤ length (now w)) × Known (now w) i (now known) ⌝ }
-    ensures { λ r. ⌜ r ≡ parentBefore (now (w .entry)) depth i ⌝ }
+    ensures { λ r. ⌜ (r ≡ parentBefore (now (w .entry)) depth i) × (r ≤ i) ⌝ }
 {
     if depth < 8 {
         return known[3 * depth];
@@ -38,6 +39,19 @@ fn twins_of(w: &[u8], i: usize, depth: usize, code: usize, known: &[usize]) -> u
         }
     }
     twins_before(w, i, depth, code)
+}
+
+// Over how many items the twins of item i, whose parent has this place, are looked for.
+fn steps_of(i: usize, depth: usize, code: usize, parent: usize, known: &[usize]) -> usize
+    requires { ⌜ (length (now known) ≡ 24) × (parent ≤ i) ⌝ }
+    ensures { λ r. ⌜ r ≤ i ⌝ }
+{
+    if depth < 8 {
+        if known[3 * depth + 1] == code {
+            return 0;
+        }
+    }
+    i - parent
 }
 
 // Item i is the parent at the depths from `deeper` on, and no twins stand there yet.
@@ -74,9 +88,11 @@ pub fn next_numbers(w: &[u8], i: usize, known: &mut [usize]) -> Numbers
     let code = number(w, 8 * i + 2);
     let twins = twins_of(w, i, depth, code, known);
     let parent = parent_of(w, i, depth, known);
+    let steps = steps_of(i, depth, code, parent, known);
     remember(known, i, depth, code, twins);
     Numbers {
         index: twins + 1,
         parent,
+        steps,
     }
 }

@@ -24,23 +24,24 @@ twins-of-requires c κs = search needs
 parent-of-requires : tie.Need-parent-of-requires
 parent-of-requires c κs = search needs
 
+steps-of-requires : tie.Need-steps-of-requires
+steps-of-requires c κs = search needs
+
 remember-requires : tie.Need-remember-requires
 remember-requires c κs = search needs
 
-add-t8 : tie.Need-add-t8
-add-t8 c = search needs
+add-t9 : tie.Need-add-t9
+add-t9 c = search needs
 
 same-length : tie.Need-same-length
 same-length c = search needs
 
 returns : tie.Need-returns
 returns c =
-    let c1 = c .before .before in
-    let c2 = c1 .before .before .before .before in
-    let depth = c2 .before .before .before .number .ensures .0 in
-    let code = c2 .before .before .number2 .ensures .0 in
-    let twins = c2 .twins-of .ensures .0 in
-    (numbers-found _ _ _ _ _ _ depth code twins (c1 .before .before .parent-of .ensures), c1 .remember .ensures _ depth code twins (c .before .before .before .before .before .before .before .before .before .before .before .before .pre .2))
+    let depth = c .before .before .before .before .before .before .before .before .before .before .before .number .ensures .0 in
+    let code = c .before .before .before .before .before .before .before .before .before .before .number2 .ensures .0 in
+    let twins = c .before .before .before .before .before .before .before .before .twins-of .ensures .0 in
+    (numbers-found _ _ _ _ _ _ _ depth code twins (c .before .before .before .before .before .before .parent-of .ensures .0) (c .before .before .before .before .steps-of .ensures), c .before .before .remember .ensures _ depth code twins (c .before .before .before .before .before .before .before .before .before .before .before .before .before .before .pre .2))
 
 pub next-numbers-spec : {M : Type 1} → statement M
 next-numbers-spec =
@@ -53,7 +54,8 @@ next-numbers-spec =
     number-requires-2
     twins-of-requires
     parent-of-requires
+    steps-of-requires
     remember-requires
-    add-t8
+    add-t9
     same-length
     returns)

@@ -1,4 +1,4 @@
-use Rattle.numbering.proofs.KnownLaws.{known-ways}
+use Rattle.numbering.proofs.KnownLaws.{parent-known}
 use borrow.Author.Needs.{needs}
 use Rattle.numbering.proofs.known.parent_of.Statement.{statement}
 use Rattle.numbering.proofs.known.parent_of.Tie as tie
@@ -13,7 +13,7 @@ shared-slice-read-result : tie.Need-shared-slice-read-result
 shared-slice-read-result c = search needs
 
 returns : tie.Need-returns
-returns c = search known-ways
+returns c = parent-known _ _ _ (c .before .before .before .before .pre .1) _ (c .before .if1 .taken)
 
 parent-before-requires : tie.Need-parent-before-requires
 parent-before-requires c κs = search needs
