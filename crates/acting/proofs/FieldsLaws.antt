@@ -60,7 +60,7 @@ acts-not d u new t b w v na ni nc np ns =
       acts = record {
         held = λ p h. (p, rw (ne-eqb t ATTR na, ne-eqb t INAS ni, ne-eqb t COCC nc, ne-eqb t C2IT np, ne-eqb t SPAS ns) refl, h);
         same = same-self v;
-        rooms = λ n q. record { attr = omega (arith, q .attr); inas = omega (arith, q .inas); spas = omega (arith, q .spas) };
+        rooms = λ n q. record { attr = omega (arith, q .attr); inas = omega (arith, q .inas); spas = omega (arith, q .spas); bytes = omega (arith, q .bytes) };
         coord = λ _ q. q;
       };
       flags = refl;
@@ -78,6 +78,7 @@ pub record Going (d u : List ℕ) (at len : ℕ) (h : Shape) (w : List ℕ) (v :
   pub bytes-d : Bytes d
   pub bytes-u : Bytes u
   pub small : length u ≤ 16777216
+  pub small-d : length d ≤ 16777216
   pub wide : 400000 ≤ length w
   pub long : length o ≡ length w
   pub sending : Sending u at len h
@@ -89,9 +90,9 @@ pub record Going (d u : List ℕ) (at len : ℕ) (h : Shape) (w : List ℕ) (v :
   pub coord : 0 < length (withTag COCC (fieldsAt (between u at (at + len)) h q)) → 8 * e .coord ≤ 99999
   pub number : i ≤ q
 
-pub going-start : (d u : List ℕ) (at len : ℕ) (h : Shape) (w : List ℕ) (v : Version) → length u ≤ 16777216 → 400000 ≤ length w → Modifies u at len h v → Small v → Holding d u w v → Bytes d → Bytes u
+pub going-start : (d u : List ℕ) (at len : ℕ) (h : Shape) (w : List ℕ) (v : Version) → length u ≤ 16777216 → 400000 ≤ length w → Modifies u at len h v → Small v → Holding d u w v → length d ≤ 16777216 → Bytes d → Bytes u
     → Going d u at len h w v w 24 1 v
-going-start d u at len h w v small wide m s held bd bu =
+going-start d u at len h w v small wide m s held small-d bd bu =
     let fs = fieldsAt (between u at (at + len)) h 24 in
     let a = right u at (recordAt u at) refl len (h .base) (h .a) (h .b) (m .there) in
     let b = record-filled u at (recordAt u at) refl len (h .base) (h .a) (h .b) (m .there) in
@@ -105,12 +106,13 @@ going-start d u at len h w v small wide m s held bd bu =
       bytes-d = bd;
       bytes-u = bu;
       small = small;
+      small-d = small-d;
       wide = wide;
       long = refl;
       sending = record { there = m .there; even = evens (v .kind) fs due };
       same = same-self v;
       flags = refl;
-      rooms = record { attr = omega (arith, s .attr, few); inas = omega (arith, s .inas, few); spas = omega (arith, s .spas, few) };
+      rooms = record { attr = omega (arith, s .attr, few); inas = omega (arith, s .inas, few); spas = omega (arith, s .spas, few); bytes = omega (arith, s .bytes, few) };
       due = due;
       once = once;
       coord = λ _. s .coord;
@@ -234,6 +236,7 @@ module _ (d u : List ℕ) (at len : ℕ) (h : Shape) (w : List ℕ) (v : Version
       going-held = let (s, have, is) = g .is (g .held .0) (g .held .1) in (s, have)
 
       pub going-ready : Ready u o e tag (at + start) (at + end) × Sending u at len h × Bytes d × Bytes u × (tag ≡ COCC → 8 * e .coord ≤ 99999) × Holding d u o e
+          × (length d ≤ 16777216)
       going-ready =
           let r = room-here in
           let lo : length o ≡ length w = g .long in
@@ -244,13 +247,14 @@ module _ (d u : List ℕ) (at len : ℕ) (h : Shape) (w : List ℕ) (v : Version
               small = g .small;
               wide = omega arith;
               due = subst (λ (k : Kind). Due k here) (sym (g .same .kind)) (due-here .0);
-              rooms = record { attr = omega (arith, r .attr); inas = omega (arith, r .inas); spas = omega (arith, r .spas) };
+              rooms = record { attr = omega (arith, r .attr); inas = omega (arith, r .inas); spas = omega (arith, r .spas); bytes = omega (arith, r .bytes) };
             },
             g .sending,
             g .bytes-d,
             g .bytes-u,
             λ z. coord-here (omega (arith, tag-here here rest z)),
             going-held,
+            g .small-d,
           )
 
       -- it is refused
@@ -283,6 +287,7 @@ module _ (d u : List ℕ) (at len : ℕ) (h : Shape) (w : List ℕ) (v : Version
             bytes-d = g .bytes-d;
             bytes-u = g .bytes-u;
             small = g .small;
+            small-d = g .small-d;
             wide = g .wide;
             long = lo ∙ g .long;
             sending = g .sending;

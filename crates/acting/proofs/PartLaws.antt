@@ -37,13 +37,18 @@ use Rattle.rules.specs.Trees.{attrActs}
 use Rattle.rules.specs.Associations.{inasKey}
 use Rattle.rules.specs.Record.{Parts, Assoc, Spatial, assocOf}
 use Rattle.rules.specs.Modify.{withAttributes, withAssociations, withCoordinates, withSpatial, actAttr, actInas, actSpas, actField}
-use Rattle.rules.specs.Written.{fieldAs}
+use Rattle.rules.specs.Written.{fieldAs, treeBytes}
 use Rattle.rules.proofs.CoordinateLaws.{coords-count}
-use Rattle.cells.specs.Cells.{bodiesOf, spatialIn}
+use Rattle.items.specs.Items.{its}
+use Rattle.numbering.specs.Tuples.{sizeOf, Sized}
+use Rattle.numbering.proofs.EmittingLaws.{forest-size}
+use Rattle.cells.specs.Cells.{bodiesOf, fieldsSize, spatialIn}
 use Rattle.cells.specs.Keys.{InasBody, SpasBody}
-use Rattle.cells.specs.Acts.{InasNow, InasActs, SpasNow, SpasActs}
+use Rattle.cells.specs.Acts.{InasNow, InasActs, counts, Totals, SpasNow, SpasActs}
 use Rattle.cells.specs.declared.acting.Acted.{Acted}
 use Rattle.cells.specs.declared.acting.Acted.the-variants.{Refused as Unfit, Now as Fit}
+use Rattle.cells.specs.declared.inas.ActedInas.{ActedInas}
+use Rattle.cells.specs.declared.inas.ActedInas.the-variants.{Refused as Unlinked, Now as Linked}
 use Rattle.cells.proofs.FindLaws.{bodies-bytes}
 use Rattle.cells.proofs.InasLaws.{inas-bytes}
 use Rattle.cells.proofs.LiftLaws.{acted-every}
@@ -55,12 +60,13 @@ use Rattle.edits.specs.Applied.{Outcome, Applied}
 use Rattle.edits.specs.declared.Edited.{Edited}
 use Rattle.edits.specs.declared.Edited.the-variants.{Refused as Uneditable, Done}
 use Rattle.stock.proofs.FilledLaws.{record-filled, record-short}
-use Rattle.version.specs.Held.{RightInas, RightSpas, takesTree, HeldParts, counted}
+use Rattle.version.specs.Held.{RightInas, RightSpas, takesTree, HeldParts, attrNow, inasNow, coordNow, spasNow}
+use Rattle.version.specs.Areas.{listArea}
 use Rattle.version.specs.Present.{FlagsKept}
 use Rattle.version.specs.declared.Version.{Version}
-use Rattle.version.proofs.AreaLaws.{lent, length-lent, lent-behind}
+use Rattle.version.proofs.AreaLaws.{lent, length-lent, lent-same, lent-behind}
 use Rattle.version.proofs.BodyLaws.{spas-every, spas-all}
-use Rattle.acting.specs.Ready.{Ready, Sending, Placing}
+use Rattle.acting.specs.Ready.{Ready, Sending, Placing, Measurable}
 use Rattle.acting.specs.Acted.{Holding, PartActs, FieldActs, editAt, attrPart, inasPart, coccPart, spasPart}
 use Rattle.acting.specs.declared.part.Part.{Part}
 use Rattle.acting.specs.declared.part.Part.the-variants.{Wrong, Right}
@@ -120,52 +126,74 @@ module _ (u w : List ℕ) (v : Version) (from to : ℕ) (r : Ready u w v ATTR fr
     pub attr-same : length (lent 0 200000 ys w) ≡ length w
     attr-same = list-same w (r .wide) ys long
 
+    pub attr-wide : 400000 ≤ length (lent 0 200000 ys w)
+    attr-wide = omega (arith, attr-same, r .wide)
+
     attr-flags : FlagsKept w (lent 0 200000 ys w)
     attr-flags = list-flags w (r .wide) ys long
 
-    attr-wrong : (k j : ℕ) → x ≡ Uneditable k j
-        → ((d : List ℕ) (new : List Coord) → PartActs d u new (fieldAs ATTR attrBody) w v (lent 0 200000 ys w) (Wrong k j)) × FlagsKept w (lent 0 200000 ys w)
-    unfolding PartActs Outcome
-    attr-wrong k j e = (
-      λ d new p h.
-          let a : actAttr attrBody (p .attributes) ≡ refuse k j = subst (Outcome d u ys (actAttr attrBody (p .attributes))) e (s .is d (p .attributes) (h .attributes)) in
-          attr-by new attrBody p ∙ bind-no (actAttr attrBody (p .attributes)) (λ t. ok (withAttributes t p)) k j a,
-      attr-flags,
-    )
+    -- there is room for the items
+    pub attr-room : (m : ℕ) → x ≡ Done m → 8 * m ≤ 200000
+    attr-room m e =
+        let more : 8 * m ≤ 8 * v .attr + (to - from) = s .size m e in
+        let room = r .rooms .attr in
+        omega (arith, attr-long)
 
-    attr-right : (m : ℕ) → x ≡ Done m
-        → ((d : List ℕ) (new : List Coord) → PartActs d u new (fieldAs ATTR attrBody) w v (lent 0 200000 ys w) (Right (counted v m (v .inas) (v .coord) (v .spas))))
-        × FlagsKept w (lent 0 200000 ys w)
+    attr-wrong : (k j : ℕ) → x ≡ Uneditable k j → (d : List ℕ) (new : List Coord) → PartActs d u new (fieldAs ATTR attrBody) w v (lent 0 200000 ys w) (Wrong k j)
     unfolding PartActs Outcome
-    attr-right m e =
+    attr-wrong k j e d new p h =
+        let a : actAttr attrBody (p .attributes) ≡ refuse k j = subst (Outcome d u ys (actAttr attrBody (p .attributes))) e (s .is d (p .attributes) (h .attributes)) in
+        attr-by new attrBody p ∙ bind-no (actAttr attrBody (p .attributes)) (λ t. ok (withAttributes t p)) k j a
+
+    attr-right : (m : ℕ) → x ≡ Done m → (d : List ℕ) (new : List Coord)
+        → PartActs d u new (fieldAs ATTR attrBody) w v (lent 0 200000 ys w) (Right (attrNow v m (sizeOf (its d u ys 0 m))))
+    unfolding PartActs Outcome
+    attr-right m e d new =
         let more : 8 * m ≤ 8 * v .attr + (to - from) = s .size m e in
         let tree : takesTree (v .kind) ≡ true = r .due .attr refl .2 in
-        let room = r .rooms .attr in
-        let full : 8 * m ≤ 200000 = omega (arith, attr-long) in (
-          λ d new. record {
-            held = λ p h.
-                let c : Check Forest = actAttr attrBody (p .attributes) in
-                let a = subst (Outcome d u ys c) e (s .is d (p .attributes) (h .attributes)) in (
-                  withAttributes (a .0) p,
-                  attr-by new attrBody p ∙ bind-ok c (λ t. ok (withAttributes t p)) (a .0) (a .1),
-                  with-items d u w v p h (r .wide) tree ys long m (a .0) (a .2) full (λ q. absurd (true≢false (sym tree ∙ q))),
-                );
-            same = same-ident v m (v .inas) (v .coord) (v .spas);
-            rooms = λ n q. record { attr = omega (arith, attr-long, q .attr); inas = omega (arith, q .inas); spas = omega (arith, q .spas) };
-            coord = λ _ q. q;
-          },
-          attr-flags,
-        )
+        let t : ℕ = sizeOf (its d u ys 0 m) in
+        record {
+          held = λ p h.
+              let c : Check Forest = actAttr attrBody (p .attributes) in
+              let a = subst (Outcome d u ys c) e (s .is d (p .attributes) (h .attributes)) in
+              let bytes : t ≡ length (treeBytes (a .0)) = sym (forest-size d u ys m (a .0) (a .2)) in (
+                withAttributes (a .0) p,
+                attr-by new attrBody p ∙ bind-ok c (λ t. ok (withAttributes t p)) (a .0) (a .1),
+                with-items d u w v p h (r .wide) tree ys long m t (a .0) (a .2) bytes (attr-room m e) (λ q. absurd (true≢false (sym tree ∙ q))),
+              );
+          same = same-ident v m (v .inas) (v .coord) (v .spas) t (v .inasbytes);
+          rooms = λ n q. record { attr = omega (arith, attr-long, q .attr); inas = omega (arith, q .inas); spas = omega (arith, q .spas); bytes = omega (arith, q .bytes) };
+          coord = λ _ q. q;
+        }
 
-    attr-of : (y : Edited) → x ≡ y
-        → ((d : List ℕ) (new : List Coord) → PartActs d u new (fieldAs ATTR attrBody) w v (lent 0 200000 ys w) (attrPart v y)) × FlagsKept w (lent 0 200000 ys w)
+    attr-of : (y : Edited) → x ≡ y → (d : List ℕ) (new : List Coord) → PartActs d u new (fieldAs ATTR attrBody) w v (lent 0 200000 ys w) (attrPart d u ys v y)
     unfolding attrPart
     attr-of (Uneditable k j) e = attr-wrong k j e
     attr-of (Done m) e = attr-right m e
 
-    pub attr-acts : (e : Part) → e ≡ attrPart v x → (d : List ℕ) (new : List Coord) → FieldActs d u new (fieldAs ATTR attrBody) w v (lent 0 200000 ys w) e
-    attr-acts e is d new =
-        subst (FieldActs d u new (fieldAs ATTR attrBody) w v (lent 0 200000 ys w)) (sym is) (record { acts = attr-of x refl .0 d new; flags = attr-flags })
+    -- `list`, which is lent of the workspace again, holds the items
+    module _ (d : List ℕ) (old : length d ≤ 16777216) (list : List ℕ) (is : list ≡ listArea (lent 0 200000 ys w)) where
+      list-is : list ≡ ys
+      list-is = let wide : 400000 ≤ length w = r .wide in is ∙ lent-same 0 200000 ys w long (omega arith)
+
+      pub attr-measurable : Measurable d u list x
+      attr-measurable =
+          let n : length list ≡ 200000 = ap length list-is ∙ long in
+          record { old = old; new = r .small; short = omega arith; room = λ m e. omega (arith, attr-room m e) }
+
+      pub attr-acts : (e : Part) → e ≡ attrPart d u list v x → (new : List Coord) → FieldActs d u new (fieldAs ATTR attrBody) w v (lent 0 200000 ys w) e
+      attr-acts e ee new =
+          subst (FieldActs d u new (fieldAs ATTR attrBody) w v (lent 0 200000 ys w)) (sym (ee ∙ ap (λ (l : List ℕ). attrPart d u l v x) list-is))
+          (record { acts = attr-of x refl d new; flags = attr-flags })
+
+-- `attr_part`
+module _ (d u list : List ℕ) (v : Version) (x : Edited) (g : Measurable d u list x) (m : ℕ) (e : x ≡ Done m) where
+  pub attr-sizes : (8 * m ≤ length list) × (length list < 524288) × (length d ≤ 16777216) × (length u ≤ 16777216)
+  attr-sizes = (g .room m e, g .short, g .old, g .new)
+
+  pub attr-done : (t : ℕ) → Sized d u list m t → Right (attrNow v m t) ≡ attrPart d u list v x
+  unfolding attrPart
+  attr-done t z = ap (λ (k : ℕ). Right (attrNow v m k)) (z .sum) ∙ sym (ap (attrPart d u list v) e)
 
 -- ---- INAS
 
@@ -180,15 +208,17 @@ module _ (d u w : List ℕ) (v : Version) (from to : ℕ) (r : Ready u w v INAS 
   pub inas-ready : Holding d u w v
       → (from ≤ to) × (to ≤ length u) × (to ≤ 16777216) × (to - from < 16777216) × (7 * v .inas + 7 ≤ length (take 92000 (drop 200000 w)))
       × (fill (headOf (inasFormat false (between u from to))) (tupleOf (inasFormat false (between u from to))) (between u from to) ≡ true)
-      × Each InasBody (bodiesOf d u (take 92000 (drop 200000 w)) (v .inas))
+      × Each InasBody (bodiesOf d u (take 92000 (drop 200000 w)) (v .inas)) × (v .inasbytes ≡ fieldsSize (bodiesOf d u (take 92000 (drop 200000 w)) (v .inas)))
+      × (v .inasbytes ≤ 1000000000000)
   inas-ready h =
       let small : length u ≤ 16777216 = r .small in
       let inside : to ≤ length u = r .inside in
       let room = r .rooms .inas in
       let l = inas-long in
-      (r .runs, r .inside, omega arith, omega (arith, l .0), omega (arith, inas-area u w v INAS from to r, l .1), r .due .inas refl .0, inas-every _ (h .1 .inas-right))
+      (r .runs, r .inside, omega arith, omega (arith, l .0), omega (arith, inas-area u w v INAS from to r, l .1), r .due .inas refl .0, inas-every _ (h .1 .inas-right), h .1 .inas-sized, omega (arith, r .rooms .bytes))
 
-  module _ (g : Bytes u) (ys : List ℕ) (long : length ys ≡ 92000) (x : Acted) (s : InasActs inasBody (bodiesOf d u (take 92000 (drop 200000 w)) (v .inas)) d u ys (v .inas) x) where
+  module _ (g : Bytes u) (ys : List ℕ) (long : length ys ≡ 92000) (x : ActedInas)
+      (s : InasActs inasBody (bodiesOf d u (take 92000 (drop 200000 w)) (v .inas)) d u ys (v .inas) (counts x) × Totals d u ys (v .inasbytes + (to - from) + 1) x) where
     pub inas-same : length (lent 200000 92000 ys w) ≡ length w
     inas-same = let wide : 400000 ≤ length w = r .wide in length-lent 200000 92000 ys w long (omega arith)
 
@@ -198,11 +228,11 @@ module _ (d u w : List ℕ) (v : Version) (from to : ℕ) (r : Ready u w v INAS 
     abbrev oldInas : List (List ℕ)
     oldInas = bodiesOf d u (take 92000 (drop 200000 w)) (v .inas)
 
-    inas-wrong : (k j : ℕ) → x ≡ Unfit k j
+    inas-wrong : (k j : ℕ) → x ≡ Unlinked k j
         → ((new : List Coord) → PartActs d u new (fieldAs INAS inasBody) w v (lent 200000 92000 ys w) (Wrong k j)) × FlagsKept w (lent 200000 92000 ys w)
     unfolding PartActs InasActs
     inas-wrong k j e =
-        let a : actInas inasBody (each assocOf oldInas) ≡ refuse k j = subst (InasActs inasBody oldInas d u ys (v .inas)) e s in (
+        let a : actInas inasBody (each assocOf oldInas) ≡ refuse k j = subst (λ (y : ActedInas). InasActs inasBody oldInas d u ys (v .inas) (counts y)) e (s .0) in (
           λ new p h.
               inas-by new inasBody p ∙ bind-no (actInas inasBody (p .associations)) (λ ls. ok (withAssociations ls p)) k j (ap (actInas inasBody) (h .associations) ∙ a),
           inas-flags,
@@ -215,12 +245,13 @@ module _ (d u w : List ℕ) (v : Version) (from to : ℕ) (r : Ready u w v INAS 
         let due = r .due .inas refl in
         record { bytes = bytes-between u from to g; filled = rw (eqb-true (getD inasBody 9 0) 1 e) at (due .0); tree = due .1 }
 
-    inas-right : (m : ℕ) → x ≡ Fit m
-        → ((new : List Coord) → PartActs d u new (fieldAs INAS inasBody) w v (lent 200000 92000 ys w) (Right (counted v (v .attr) m (v .coord) (v .spas))))
+    inas-right : (m t : ℕ) → x ≡ Linked m t
+        → ((new : List Coord) → PartActs d u new (fieldAs INAS inasBody) w v (lent 200000 92000 ys w) (Right (inasNow v m t)))
         × FlagsKept w (lent 200000 92000 ys w)
-    unfolding PartActs InasActs
-    inas-right m e =
-        let a : InasNow inasBody oldInas (bodiesOf d u ys m) × (m ≤ v .inas + 1) = subst (InasActs inasBody oldInas d u ys (v .inas)) e s in
+    unfolding PartActs InasActs Totals
+    inas-right m t e =
+        let bytes : (t ≡ fieldsSize (bodiesOf d u ys m)) × (t ≤ v .inasbytes + (to - from) + 1) = subst (Totals d u ys (v .inasbytes + (to - from) + 1)) e (s .1) in
+        let a : InasNow inasBody oldInas (bodiesOf d u ys m) × (m ≤ v .inas + 1) = subst (λ (y : ActedInas). InasActs inasBody oldInas d u ys (v .inas) (counts y)) e (s .0) in
         let few : m ≤ v .inas + 1 = a .1 in
         let room = r .rooms .inas in
         let l = inas-long in
@@ -234,20 +265,20 @@ module _ (d u w : List ℕ) (v : Version) (from to : ℕ) (r : Ready u w v INAS 
                 acted-every RightInas inasKey 0 (eqb (getD inasBody 9 0) 1) inasBody oldInas (bodiesOf d u ys m) (h .inas-right) right-inas (a .0 .bodies) in (
                   withAssociations ls p,
                   inas-by new inasBody p ∙ bind-ok (actInas inasBody (p .associations)) (λ ls. ok (withAssociations ls p)) ls b,
-                  with-inas d u w v p h (r .wide) ys long m ls refl every full,
+                  with-inas d u w v p h (r .wide) ys long m t ls refl every full (bytes .0),
                 );
-            same = same-ident v (v .attr) m (v .coord) (v .spas);
-            rooms = λ n q. record { attr = omega (arith, q .attr); inas = omega (arith, q .inas); spas = omega (arith, q .spas) };
+            same = same-ident v (v .attr) m (v .coord) (v .spas) (v .attrbytes) t;
+            rooms = λ n q. record { attr = omega (arith, q .attr); inas = omega (arith, q .inas); spas = omega (arith, q .spas); bytes = omega (arith, q .bytes, bytes .1, l .0) };
             coord = λ _ q. q;
           },
           inas-flags,
         )
 
-    inas-of : (y : Acted) → x ≡ y
+    inas-of : (y : ActedInas) → x ≡ y
         → ((new : List Coord) → PartActs d u new (fieldAs INAS inasBody) w v (lent 200000 92000 ys w) (inasPart v y)) × FlagsKept w (lent 200000 92000 ys w)
     unfolding inasPart
-    inas-of (Unfit k j) e = inas-wrong k j e
-    inas-of (Fit m) e = inas-right m e
+    inas-of (Unlinked k j) e = inas-wrong k j e
+    inas-of (Linked m t) e = inas-right m t e
 
     pub inas-acts : (e : Part) → e ≡ inasPart v x → (new : List Coord) → FieldActs d u new (fieldAs INAS inasBody) w v (lent 200000 92000 ys w) e
     inas-acts e is new =
@@ -286,7 +317,7 @@ module _ (fs : List Field) (x n : ℕ) (w : List ℕ) (v : Version) (r : Placing
         let a : sentTo ≡ refuse 9 0 = subst (PlacedAs sentTo ys) z s in
         λ d u b is p g. cocc-by (sent fs) b p ∙ bind-no (placed (placeIn b) (sent fs) (p .coordinates)) (λ cs. ok (withCoordinates cs p)) 9 0 (sent-so d u b is p g ∙ a)
 
-    sent-right : (m : ℕ) → e ≡ Inside m → ((d u b : List ℕ) → placeIn b ≡ editAt i x n → PartActs d u (sent fs) (fieldAs COCC b) w v (lent 0 200000 ys w) (Right (counted v (v .attr) (v .inas) m (v .spas))))
+    sent-right : (m : ℕ) → e ≡ Inside m → ((d u b : List ℕ) → placeIn b ≡ editAt i x n → PartActs d u (sent fs) (fieldAs COCC b) w v (lent 0 200000 ys w) (Right (coordNow v m)))
     unfolding PartActs PlacedAs
     sent-right m z =
         let a : (sentTo ≡ ok (tuplesOf ys m)) × (8 * m ≤ length ys) = subst (PlacedAs sentTo ys) z s in
@@ -298,8 +329,8 @@ module _ (fs : List Field) (x n : ℕ) (w : List ℕ) (v : Version) (r : Placing
             cocc-by (sent fs) b p ∙ bind-ok (placed (placeIn b) (sent fs) (p .coordinates)) (λ cs. ok (withCoordinates cs p)) (tuplesOf ys m) (sent-so d u b is p g ∙ a .0),
             with-tuples d u w v p g (r .wide) bare ys long m (tuplesOf ys m) refl full (λ q. absurd (true≢false (sym q ∙ bare))),
           );
-          same = same-ident v (v .attr) (v .inas) m (v .spas);
-          rooms = λ k q. record { attr = omega (arith, q .attr); inas = omega (arith, q .inas); spas = omega (arith, q .spas) };
+          same = same-ident v (v .attr) (v .inas) m (v .spas) (v .attrbytes) (v .inasbytes);
+          rooms = λ k q. record { attr = omega (arith, q .attr); inas = omega (arith, q .inas); spas = omega (arith, q .spas); bytes = omega (arith, q .bytes) };
           coord = λ q _. absurd (q refl);
         }
 
@@ -398,7 +429,7 @@ module _ (u w : List ℕ) (v : Version) (from to : ℕ) (r : Ready u w v C2IT fr
 
   pub point-right : (ys : List ℕ) → length ys ≡ 200000 → (m : ℕ)
       → (8 * m ≡ 8 * 0 + (to - from)) × (tuplesOf ys m ≡ take 0 (tuplesOf (take 200000 w) 0) ++ (coordsIn (between u from to) ++ drop 0 (tuplesOf (take 200000 w) 0)))
-      → (d : List ℕ) (new : List Coord) → FieldActs d u new (fieldAs C2IT pointBody) w v (lent 0 200000 ys w) (Right (counted v (v .attr) (v .inas) m (v .spas)))
+      → (d : List ℕ) (new : List Coord) → FieldActs d u new (fieldAs C2IT pointBody) w v (lent 0 200000 ys w) (Right (coordNow v m))
   unfolding PartActs
   point-right ys long m s d new =
       let wide : 400000 ≤ length w = r .wide in
@@ -413,8 +444,8 @@ module _ (u w : List ℕ) (v : Version) (from to : ℕ) (r : Ready u w v C2IT fr
             c2it-by new pointBody p,
             with-tuples d u w v p g wide bare ys long m (coordsIn pointBody) (sym cs) (omega arith) (λ q. absurd (true≢false (sym q ∙ bare))),
           );
-          same = same-ident v (v .attr) (v .inas) m (v .spas);
-          rooms = λ k q. record { attr = omega (arith, q .attr); inas = omega (arith, q .inas); spas = omega (arith, q .spas) };
+          same = same-ident v (v .attr) (v .inas) m (v .spas) (v .attrbytes) (v .inasbytes);
+          rooms = λ k q. record { attr = omega (arith, q .attr); inas = omega (arith, q .inas); spas = omega (arith, q .spas); bytes = omega (arith, q .bytes) };
           coord = λ _ _. omega arith;
         };
         flags = list-flags w wide ys long;
@@ -463,7 +494,7 @@ module _ (d u w : List ℕ) (v : Version) (from to : ℕ) (r : Ready u w v SPAS 
         (λ new p h. spas-by new spasBody p ∙ bind-no (spasTo (p .spatial)) (λ ss. ok (withSpatial ss p)) k j (ap spasTo (h .spatial) ∙ a), spas-flags)
 
     spas-right : (m : ℕ) → x ≡ Fit m
-        → ((new : List Coord) → PartActs d u new (fieldAs SPAS spasBody) w v (lent 292000 94000 ys w) (Right (counted v (v .attr) (v .inas) (v .coord) m)))
+        → ((new : List Coord) → PartActs d u new (fieldAs SPAS spasBody) w v (lent 292000 94000 ys w) (Right (spasNow v m)))
         × FlagsKept w (lent 292000 94000 ys w)
     unfolding PartActs SpasActs
     spas-right m e =
@@ -479,8 +510,8 @@ module _ (d u w : List ℕ) (v : Version) (from to : ℕ) (r : Ready u w v SPAS 
               spas-by new spasBody p ∙ bind-ok (spasTo (p .spatial)) (λ ss. ok (withSpatial ss p)) ss (ap spasTo (h .spatial) ∙ a .is),
               with-spas d u w v p h (r .wide) ys long m ss refl all full,
             );
-            same = same-ident v (v .attr) (v .inas) (v .coord) m;
-            rooms = λ n q. record { attr = omega (arith, q .attr); inas = omega (arith, q .inas); spas = omega (arith, q .spas, spas-long) };
+            same = same-ident v (v .attr) (v .inas) (v .coord) m (v .attrbytes) (v .inasbytes);
+            rooms = λ n q. record { attr = omega (arith, q .attr); inas = omega (arith, q .inas); spas = omega (arith, q .spas, spas-long); bytes = omega (arith, q .bytes) };
             coord = λ _ q. q;
           },
           spas-flags,

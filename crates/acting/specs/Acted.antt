@@ -12,11 +12,15 @@ use Rattle.rules.specs.Record.{Parts}
 use Rattle.rules.specs.Modify.{actField}
 use Rattle.cells.specs.declared.acting.Acted.{Acted}
 use Rattle.cells.specs.declared.acting.Acted.the-variants.{Refused as Unfit, Now as Fit}
+use Rattle.cells.specs.declared.inas.ActedInas.{ActedInas}
+use Rattle.cells.specs.declared.inas.ActedInas.the-variants.{Refused as Unlinked, Now as Linked}
 use Rattle.coords.specs.declared.placing.Placed.{Placed}
 use Rattle.coords.specs.declared.placing.Placed.the-variants.{Refused as Outside, Now as Inside}
 use Rattle.edits.specs.declared.Edited.{Edited}
 use Rattle.edits.specs.declared.Edited.the-variants.{Refused as Uneditable, Done}
-use Rattle.version.specs.Held.{HeldParts, counted}
+use Rattle.items.specs.Items.{its}
+use Rattle.numbering.specs.Tuples.{sizeOf}
+use Rattle.version.specs.Held.{HeldParts, attrNow, inasNow, coordNow, spasNow}
 use Rattle.version.specs.Present.{FlagsKept}
 use Rattle.version.specs.declared.Version.{Version}
 use Rattle.acting.specs.Ready.{Rooms}
@@ -45,25 +49,25 @@ editAt i x n = record { instruction = i; index = x; count = n }
 
 -- ---- one field
 
--- what an edited tree makes of the version
-unfoldable pub attrPart : Version → Edited → Part
-attrPart v (Uneditable k j) = Wrong k j
-attrPart v (Done m) = Right (counted v m (v .inas) (v .coord) (v .spas))
+-- what an edited tree, which the first items of `list` are, makes of the version
+unfoldable pub attrPart : (d u list : List ℕ) → Version → Edited → Part
+attrPart d u list v (Uneditable k j) = Wrong k j
+attrPart d u list v (Done m) = Right (attrNow v m (sizeOf (its d u list 0 m)))
 
 -- what the associations are now
-unfoldable pub inasPart : Version → Acted → Part
-inasPart v (Unfit k j) = Wrong k j
-inasPart v (Fit m) = Right (counted v (v .attr) m (v .coord) (v .spas))
+unfoldable pub inasPart : Version → ActedInas → Part
+inasPart v (Unlinked k j) = Wrong k j
+inasPart v (Linked m t) = Right (inasNow v m t)
 
 -- what the coordinate tuples are now
 unfoldable pub coccPart : Version → Placed → Part
 coccPart v Outside = Wrong 9 0
-coccPart v (Inside m) = Right (counted v (v .attr) (v .inas) m (v .spas))
+coccPart v (Inside m) = Right (coordNow v m)
 
 -- what the spatial associations are now
 unfoldable pub spasPart : Version → Acted → Part
 spasPart v (Unfit k j) = Wrong k j
-spasPart v (Fit m) = Right (counted v (v .attr) (v .inas) (v .coord) m)
+spasPart v (Fit m) = Right (spasNow v m)
 
 -- the field f acted on version v of workspace w, which is version e of workspace o now; new: the coordinate tuples that its record sends
 pub record PartNow (d u : List ℕ) (new : List Coord) (f : Field) (w : List ℕ) (v : Version) (o : List ℕ) (e : Version) : Type 0 where

@@ -22,6 +22,8 @@ use Rattle.rules.specs.Record.{updateRecord}
 use Rattle.rules.specs.Written.{fieldAs}
 use Rattle.rules.specs.declared.Kind.{Kind}
 use Rattle.coords.specs.Placing.{EvenLists}
+use Rattle.edits.specs.declared.Edited.{Edited}
+use Rattle.edits.specs.declared.Edited.the-variants.{Done}
 use Rattle.version.specs.Held.{takesTree}
 use Rattle.version.specs.declared.Version.{Version}
 
@@ -40,12 +42,15 @@ pub record Small (v : Version) : Type 0 where
   pub inas : 25 * v .inas ≤ 99999
   pub coord : 8 * v .coord ≤ 99999
   pub spas : 15 * v .spas ≤ 99999
+  pub bytes : v .inasbytes ≤ 99999
 
--- fields of n bytes can still act on a version: an item comes of 8 bytes at least, an INAS takes 11, a tuple of SPAS 15
+-- fields of n bytes can still act on a version: an item comes of 8 bytes at least, an INAS takes 11, a tuple of SPAS 15,
+-- and the INAS fields take those that they are written in
 pub record Rooms (v : Version) (n : ℕ) : Type 0 where
   pub attr : 8 * v .attr + n ≤ 199998
   pub inas : 11 * v .inas + n ≤ 143988
   pub spas : 15 * v .spas + n ≤ 199998
+  pub bytes : v .inasbytes + n ≤ 199998
 
 -- the field with tag t from `from` up to `to` of the update u can act on the version v in the workspace w
 pub record Ready (u w : List ℕ) (v : Version) (t from to : ℕ) : Type 0 where
@@ -55,6 +60,13 @@ pub record Ready (u w : List ℕ) (v : Version) (t from to : ℕ) : Type 0 where
   pub wide : 400000 ≤ length w
   pub due : Due (v .kind) (fieldAs t (between u from to))
   pub rooms : Rooms v (size (fieldAs t (between u from to)))
+
+-- the items that an edited tree has in `list` can be measured
+pub record Measurable (d u list : List ℕ) (x : Edited) : Type 0 where
+  pub old : length d ≤ 16777216
+  pub new : length u ≤ 16777216
+  pub short : length list < 524288
+  pub room : (m : ℕ) → x ≡ Done m → 8 * m ≤ length list
 
 -- the record of the update whose field it is: there it stands, and its C2IL fields are made of whole tuples
 pub record Sending (u : List ℕ) (at len : ℕ) (h : Shape) : Type 0 where

@@ -33,7 +33,8 @@ pub fn act_fields(
     v: Version,
     work: &mut [u8],
 ) -> Acts
-    requires { ⌜ (length (now u) ≤ 16777216) × (400000 ≤ length (now work)) × Modifies (now u) at len h v × Small v × Holding (now d) (now u) (now work) v ⌝ }
+    requires { ⌜ (length (now u) ≤ 16777216) × (400000 ≤ length (now work)) × Modifies (now u) at len h v × Small v × Holding (now d) (now u) (now work) v
+        × (length (now d) ≤ 16777216) ⌝ }
     ensures { λ r. ⌜ ActedBy (now (d .entry)) (now (u .entry)) (now (work .entry)) v
         (actFields (sent (fieldsAt (between (now (u .entry)) at (at + len)) h 24)) 1 (fieldsAt (between (now (u .entry)) at (at + len)) h 24)) (now (work .exit)) r × FlagsKept (now (work .entry)) (now (work .exit)) ⌝ }
 {

@@ -1,6 +1,7 @@
 // One field of a modify, from `from` up to `to` of the update u, acts on the version in the workspace.
 use cells::acting::Acted;
 use cells::inas;
+use cells::inas::ActedInas;
 use cells::spas;
 use coords::placing::Placed;
 use coords::placing::place_tuples;
@@ -11,16 +12,18 @@ use fields::number::le8;
 use fields::number::le16;
 use skeleton::directory::Shape;
 use version::Version;
+use version::areas::list_of;
 ghost use mathlib.Core.Path.{_≡_};
 ghost use mathlib.Core.List.{List};
 ghost use Prim.Native.Nat.{ℕ, _+_, _*_, _≤_};
+ghost use lib.ListN.{length};
 ghost use Rattle.skeleton.specs.Place.{between, fieldsAt};
 ghost use Rattle.skeleton.specs.Shape.{Bounded};
 ghost use Rattle.fields.specs.Valid.{Bytes};
 ghost use Rattle.rules.specs.Tags.{ATTR, INAS, COCC, C2IT, SPAS};
 ghost use Rattle.rules.specs.Coordinates.{Coord, placeIn, sent};
 ghost use Rattle.rules.specs.Written.{fieldAs};
-ghost use Rattle.acting.specs.Ready.{Ready, Sending, Placing};
+ghost use Rattle.acting.specs.Ready.{Ready, Sending, Placing, Measurable};
 ghost use Rattle.acting.specs.Acted.{Holding, FieldActs, editAt, attrPart, inasPart, coccPart, spasPart};
 
 // The number and the tuple of a refusal, or the version as it is now.
@@ -29,29 +32,32 @@ pub enum Part {
     Right(Version),
 }
 
-// The version with the items that an edited tree has.
-fn attr_part(v: Version, x: Edited) -> Part
-    ensures { λ r. ⌜ r ≡ attrPart v x ⌝ }
+// The version with the items that an edited tree has in `list`.
+fn attr_part(d: &[u8], u: &[u8], list: &[u8], v: Version, x: Edited) -> Part
+    requires { ⌜ Measurable (now d) (now u) (now list) x ⌝ }
+    ensures { λ r. ⌜ r ≡ attrPart (now (d .entry)) (now (u .entry)) (now (list .entry)) v x ⌝ }
 {
     match x {
         Edited::Refused(k, j) => Part::Wrong(k, j),
         Edited::Done(m) => {
             let mut e = v;
             e.attr = m;
+            e.attrbytes = numbering::size(d, u, list, m);
             Part::Right(e)
         }
     }
 }
 
 // The version with the associations that there are now.
-fn inas_part(v: Version, x: Acted) -> Part
+fn inas_part(v: Version, x: ActedInas) -> Part
     ensures { λ r. ⌜ r ≡ inasPart v x ⌝ }
 {
     match x {
-        Acted::Refused(k, j) => Part::Wrong(k, j),
-        Acted::Now(m) => {
+        ActedInas::Refused(k, j) => Part::Wrong(k, j),
+        ActedInas::Now(m, t) => {
             let mut e = v;
             e.inas = m;
+            e.inasbytes = t;
             Part::Right(e)
         }
     }
@@ -86,12 +92,12 @@ fn spas_part(v: Version, x: Acted) -> Part
 }
 
 // An ATTR edits the tree.
-fn act_attr(u: &[u8], from: usize, to: usize, v: Version, work: &mut [u8]) -> Part
-    requires { ⌜ Ready (now u) (now work) v ATTR from to ⌝ }
-    ensures { λ r. ⌜ ((d : List ℕ) (new : List Coord) → FieldActs d (now (u .entry)) new (fieldAs ATTR (between (now (u .entry)) from to)) (now (work .entry)) v (now (work .exit)) r) ⌝ }
+fn act_attr(d: &[u8], u: &[u8], from: usize, to: usize, v: Version, work: &mut [u8]) -> Part
+    requires { ⌜ Ready (now u) (now work) v ATTR from to × (length (now d) ≤ 16777216) ⌝ }
+    ensures { λ r. ⌜ ((new : List Coord) → FieldActs (now (d .entry)) (now (u .entry)) new (fieldAs ATTR (between (now (u .entry)) from to)) (now (work .entry)) v (now (work .exit)) r) ⌝ }
 {
     let x = edit_attr(u, from, to, &mut work[0..200000], v.attr);
-    attr_part(v, x)
+    attr_part(d, u, list_of(work), v, x)
 }
 
 // An INAS joins the associations, or one leaves them.
@@ -100,7 +106,15 @@ fn act_inas(d: &[u8], u: &[u8], from: usize, to: usize, v: Version, work: &mut [
         × Holding (now d) (now u) (now work) v ⌝ }
     ensures { λ r. ⌜ ((new : List Coord) → FieldActs (now (d .entry)) (now (u .entry)) new (fieldAs INAS (between (now (u .entry)) from to)) (now (work .entry)) v (now (work .exit)) r) ⌝ }
 {
-    let x = inas::act_inas(d, u, from, to, &mut work[200000..292000], v.inas);
+    let x = inas::act_inas(
+        d,
+        u,
+        from,
+        to,
+        &mut work[200000..292000],
+        v.inas,
+        v.inasbytes,
+    );
     inas_part(v, x)
 }
 
@@ -186,11 +200,11 @@ pub fn act_field(
     work: &mut [u8],
 ) -> Part
     requires { ⌜ Ready (now u) (now work) v tag from to × Sending (now u) at len h × Bytes (now d) × Bytes (now u) × (tag ≡ COCC → 8 * v .coord ≤ 99999)
-        × Holding (now d) (now u) (now work) v ⌝ }
+        × Holding (now d) (now u) (now work) v × (length (now d) ≤ 16777216) ⌝ }
     ensures { λ r. ⌜ FieldActs (now (d .entry)) (now (u .entry)) (sent (fieldsAt (between (now (u .entry)) at (at + len)) h 24)) (fieldAs tag (between (now (u .entry)) from to)) (now (work .entry)) v (now (work .exit)) r ⌝ }
 {
     if tag == 0x41545452 {
-        return act_attr(u, from, to, v, work);
+        return act_attr(d, u, from, to, v, work);
     }
     if tag == 0x494e4153 {
         return act_inas(d, u, from, to, v, work);

@@ -10,11 +10,14 @@ use Rattle.base.specs.Check.{ok}
 use Rattle.base.specs.Keys.{join, leave}
 use Rattle.skeleton.specs.Place.{between}
 use Rattle.items.specs.Items.{source}
-use Rattle.cells.specs.Cells.{bodiesOf}
+use Rattle.skeleton.proofs.BetweenLaws.{length-between}
+use Rattle.cells.specs.Cells.{bodyAt, bodiesOf, fieldsSize}
 use Rattle.cells.specs.Keys.{keyIn, keySize, firstWith}
-use Rattle.cells.specs.Acts.{Acts}
+use Rattle.cells.specs.Acts.{Acts, Totals}
 use Rattle.cells.specs.declared.acting.Acted.the-variants.{Refused, Now}
+use Rattle.cells.specs.declared.inas.ActedInas.the-variants.{Refused as Unfit, Now as Fit}
 use Rattle.cells.proofs.CellLaws.{length-bodies, bodies-closed}
+use Rattle.cells.proofs.LengthLaws.{size-joined, size-left}
 use Rattle.cells.proofs.KeyLaws.{key-part}
 use Rattle.cells.proofs.FindLaws.{found-among, absent-among, found-leaves, absent-stays}
 
@@ -63,4 +66,30 @@ module _ (d u c : List ℕ) (n at end : ℕ) (inas : Bool) (j : ℕ) (inside : a
     omega arith,
   )
 
+-- ---- the bytes of INAS fields
+
+module _ (d u c : List ℕ) (n t : ℕ) (is : t ≡ fieldsSize (bodiesOf d u c n)) where
+  pub join-total : (at end : ℕ) → end ≤ length u → (e : List ℕ) (m : ℕ)
+      → (m ≡ n + 1) × ((d u : List ℕ) → bodiesOf d u e (n + 1) ≡ bodiesOf d u c n ++ (between (source 1 d u) at end ∷ []))
+      → Totals d u e (t + (end - at) + 1) (Fit m (t + (end - at) + 1))
+  unfolding Totals source
+  join-total at end l e m p =
+      let long : length (between u at end) ≡ end - at = length-between u at end l in
+      (omega (arith, ap (λ (k : ℕ). fieldsSize (bodiesOf d u e k)) (p .0), ap fieldsSize (p .1 d u), size-joined (bodiesOf d u c n) (between u at end)), omega arith)
+
+  -- the body of cell i leaves
+  module _ (i k : ℕ) (h : i < n) (ek : (k ≡ length (bodyAt d u c i)) × (k ≤ 16777215)) where
+    pub leave-part : k + 1 ≤ t
+    leave-part = omega (arith, size-left d u c n i h, ek .0)
+
+    pub leave-total : 7 * n ≤ length c → (e : List ℕ) → e ≡ splicedIn (7 * n) (7 * i) 7 [] c → (more : ℕ) → Totals d u e (t + more + 1) (Fit (n - 1) (t - (k + 1)))
+    unfolding Totals
+    leave-total room e ee more = (omega (arith, size-left d u c n i h, ek .0, ap fieldsSize (bodies-closed d u c e n i h room ee)), omega arith)
+
+pub no-total : (d u c : List ℕ) (most k j : ℕ) → Totals d u c most (Unfit k j)
+unfolding Totals
+no-total d u c most k j = tt
+
 pub ruleset act-ways = (join-refused, join-done, leave-refused, leave-done, arith)
+
+pub ruleset total-ways = (no-total, join-total, leave-part, leave-total, arith)

@@ -1,4 +1,5 @@
 pub mod CellLaws
+pub mod LengthLaws
 pub mod KeyLaws
 pub mod FindLaws
 pub mod ActLaws

@@ -18,10 +18,12 @@ use Rattle.rules.specs.Associations.{inasKey}
 use Rattle.rules.specs.Record.{Spatial, assocOf, spatialOf}
 use Rattle.rules.specs.Modify.{actInas, spatialKey}
 use Rattle.items.specs.Items.{source}
-use Rattle.cells.specs.Cells.{bodiesOf, spatialIn, tupleBodies}
+use Rattle.cells.specs.Cells.{bodiesOf, fieldsSize, spatialIn, tupleBodies}
 use Rattle.cells.specs.Keys.{SpasBody}
 use Rattle.cells.specs.declared.acting.Acted.{Acted}
 use Rattle.cells.specs.declared.acting.Acted.the-variants.{Refused, Now}
+use Rattle.cells.specs.declared.inas.ActedInas.{ActedInas}
+use Rattle.cells.specs.declared.inas.ActedInas.the-variants.{Refused as Unfit, Now as Fit}
 
 -- ---- loading
 
@@ -46,6 +48,16 @@ Acts x d u c most (Refused k j) = x ≡ refuse k j
 Acts x d u c most (Now m) = (x ≡ ok (bodiesOf d u c m)) × (m ≤ most)
 
 -- ---- an INAS
+
+-- its answer without the bytes of the bodies
+abbrev pub counts : ActedInas → Acted
+counts (Unfit k j) = Refused k j
+counts (Fit m t) = Now m
+
+-- the bytes of the bodies as fields are those of the m cells of c, at most `most`
+unfoldable pub Totals : (d u c : List ℕ) → ℕ → ActedInas → Type 0
+Totals d u c most (Unfit k j) = Unit {0}
+Totals d u c most (Fit m t) = (t ≡ fieldsSize (bodiesOf d u c m)) × (t ≤ most)
 
 -- what an INAS b makes of associations bs: of the bodies, and of what they say
 pub record InasNow (b : List ℕ) (bs cs : List (List ℕ)) : Type 0 where

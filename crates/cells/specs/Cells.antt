@@ -2,7 +2,7 @@
 -- (0 the dataset d, else the update u), and a length of three bytes. A body is an INAS field, or one tuple of a SPAS. Bodies are never moved.
 use mathlib.Core.List.{List, [], _∷_, _++_}
 use Prim.Native.Nat.{ℕ, zero, suc, _+_, _*_, _/_, _%_}
-use lib.ListN.{getD}
+use lib.ListN.{length, getD}
 use Rattle.skeleton.specs.Place.{between}
 use Rattle.fields.specs.Table.{tupleOf}
 use Rattle.fields.specs.Values.{values}
@@ -38,6 +38,11 @@ bodiesFrom d u c i (suc m) = bodyAt d u c i ∷ bodiesFrom d u c (i + 1) m
 -- the bodies of the first n cells
 abbrev pub bodiesOf : List ℕ → List ℕ → List ℕ → ℕ → List (List ℕ)
 bodiesOf d u c n = bodiesFrom d u c 0 n
+
+-- the bytes of bodies as fields, the 1E of each included
+unfoldable pub fieldsSize : List (List ℕ) → ℕ
+fieldsSize [] = 0
+fieldsSize (b ∷ bs) = length b + 1 + fieldsSize bs
 
 -- the bytes of a number of three
 unfoldable pub threeBytes : ℕ → List ℕ

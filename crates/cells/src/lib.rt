@@ -2,5 +2,6 @@
 pub mod acting;
 pub mod cell;
 pub mod inas;
+pub mod length;
 pub mod search;
 pub mod spas;

@@ -40,9 +40,9 @@ fn act_tuple(d: &[u8], u: &[u8], p: usize, j: usize, c: &mut [u8], n: usize) -> 
         (now (d .entry)) (now (u .entry)) (now (c .exit)) (n + 1) r ⌝ }
 {
     if u[p + 14] == 1 {
-        return join_cells(d, u, p, p + 15, false, j, c, n);
+        return join_cells(d, u, p, p + 15, j, c, n);
     }
-    leave_cells(d, u, p, p + 15, false, j, c, n)
+    leave_cells(d, u, p, p + 15, j, c, n)
 }
 
 // A SPAS of a modify, from at to end of u, acts on the n of c.

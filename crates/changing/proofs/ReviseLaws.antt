@@ -19,7 +19,7 @@ use Rattle.rules.specs.declared.Kind.{Kind}
 use Rattle.sequence.specs.Keyed.{Under}
 use Rattle.updates.specs.Acts.{chart}
 use Rattle.sound.proofs.Changed.{key-names}
-use Rattle.emission.proofs.SmallLaws.{small-attr, small-inas, small-coord, small-spas}
+use Rattle.emission.proofs.SmallLaws.{small-attr, small-inas, small-coord, small-spas, small-bytes}
 use Rattle.version.specs.Held.{RightFoid, foidBodies, HeldParts, Held}
 use Rattle.version.specs.Present.{HeldAs, ChangedTo, FlagsKept}
 use Rattle.version.specs.declared.Version.{Version}
@@ -39,7 +39,21 @@ use Rattle.changing.proofs.ActLaws.{Stands, here-stands}
 -- a version with an RVER
 abbrev pub rverNow : Version → ℕ → Version
 rverNow v n =
-    record { kind = v .kind; rcid = v .rcid; code = v .code; rver = n; foids = v .foids; foid = v .foid; slice = v .slice; attr = v .attr; inas = v .inas; coord = v .coord; spas = v .spas }
+    record {
+      kind = v .kind;
+      rcid = v .rcid;
+      code = v .code;
+      rver = n;
+      foids = v .foids;
+      foid = v .foid;
+      slice = v .slice;
+      attr = v .attr;
+      inas = v .inas;
+      coord = v .coord;
+      spas = v .spas;
+      attrbytes = v .attrbytes;
+      inasbytes = v .inasbytes;
+    }
 
 -- what it holds of parts has nothing to do with it
 parts-now : (d u w : List ℕ) (v : Version) (n : ℕ) (p : Parts) → HeldParts d u w v p → HeldParts d u w (rverNow v n) p
@@ -55,6 +69,8 @@ parts-now d u w v n p h =
       inas-room = h .inas-room;
       coord-room = h .coord-room;
       spas-room = h .spas-room;
+      attr-sized = h .attr-sized;
+      inas-sized = h .inas-sized;
       no-tree = h .no-tree;
       no-coord = h .no-coord;
     }
@@ -145,4 +161,5 @@ module _ (d u w : List ℕ) (at len : ℕ) (h : Shape) (k : Kind) (s : Said) (p 
         inas = small-inas d u w v r held fit;
         coord = small-coord d u w v r held fit (omega (arith, g .0 .wide));
         spas = small-spas d u w v r held fit;
+        bytes = small-bytes d u w v r held fit;
       }

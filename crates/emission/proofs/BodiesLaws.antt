@@ -3,10 +3,9 @@ use Prim.Native.Nat.{ℕ, suc, _+_, _-_, _*_, _^_, _≤_, _<_, min}
 use mathlib.Core.Path.{_≡_, refl, sym, ap, _∙_}
 use mathlib.Core.Bool.{Bool}
 use mathlib.Core.List.{List, [], _∷_, _++_, append-assoc}
-use native.Mathlib.Nat.{sub-zero, zero-add}
+use native.Mathlib.Nat.{sub-zero}
 use native.Mathlib.Omega.{arith}
-use borrow.Author.Tests.{eq-eqb, ne-eqb}
-use lib.ListN.{length, getD, take, drop, length-append, length-take, length-drop}
+use lib.ListN.{length, getD, take, drop, length-append, length-take}
 use lib.Seq.{take-all}
 use Rattle.base.specs.Lists.{each, gather}
 use Rattle.memory.specs.Put.{part}
@@ -19,29 +18,14 @@ use Rattle.skeleton.proofs.EmitFieldsLaws.{length-contents}
 use Rattle.fields.proofs.TupleLaws.{split}
 use Rattle.rules.specs.Tags.{INAS}
 use Rattle.rules.specs.Written.{fieldWidth}
-use Rattle.items.specs.Items.{source}
 use Rattle.cells.specs.Cells.{u24, bodyAt, bodiesFrom, bodiesOf}
+use Rattle.cells.proofs.LengthLaws.{between-long, body-old, body-new}
 use Rattle.writing.specs.Parts.{entryBytes}
 use Rattle.writing.proofs.PartsLaws.{wrote-as}
 use Rattle.emission.specs.Bodies.{bodiesLeft, joined, inasFields}
 use Rattle.emission.proofs.LeftLaws.{Left, left-start, left-done, left-room, left-more}
 
 -- ---- bytes that may run past the end of a slice
-
--- how many there are
-between-long : (b : List ℕ) (start n : ℕ) → length (between b start (start + n)) ≡ min (start + n - start) (length b - start)
-between-long b start n = simp (length-take, length-drop)
-
-pub inside-none : (b : List ℕ) (start n : ℕ) → length b ≤ start → (0 ≡ length (between b start (start + n))) × (0 ≤ n)
-inside-none b start n h = (omega (arith, between-long b start n), omega arith)
-
-pub inside-all : (b : List ℕ) (start n : ℕ) → n ≤ length b - start → (n ≡ length (between b start (start + n))) × (n ≤ n)
-inside-all b start n h = (omega (arith, between-long b start n), omega arith)
-
-pub inside-some : (b : List ℕ) (start n : ℕ) → length b - start < n → (length b - start ≡ length (between b start (start + n))) × (length b - start ≤ n)
-inside-some b start n h = (omega (arith, between-long b start n), omega arith)
-
-pub ruleset inside-ways = (inside-none, inside-all, inside-some)
 
 -- k of them are there
 module _ (b : List ℕ) (start n k : ℕ) (e : (k ≡ length (between b start (start + n))) × (k ≤ n)) where
@@ -71,36 +55,21 @@ pub ruleset put-ways = (put-none, put-inside, put-some)
 
 -- the body of cell i, in the slice that the cell names
 module _ (d u c : List ℕ) (i start n : ℕ) (s : (start ≡ u24 c (7 * i)) × (start < 16777216)) (e : (n ≡ u24 c (7 * i + 4)) × (n < 16777216)) where
-  pub body-old : getD c (7 * i + 3) 0 ≡ 0 → between d start (start + n) ≡ bodyAt d u c i
-  unfolding bodyAt source
-  body-old z = rw (eq-eqb (getD c (7 * i + 3) 0) 0 z, s .0, e .0)
-
-  pub body-new : (getD c (7 * i + 3) 0 ≡ 0 → ⊥) → between u start (start + n) ≡ bodyAt d u c i
-  unfolding bodyAt source
-  body-new z = rw (ne-eqb (getD c (7 * i + 3) 0) 0 z, s .0, e .0)
-
-  module _ (k : ℕ) where
-    pub length-old : getD c (7 * i + 3) 0 ≡ 0 → (k ≡ length (between d start (start + n))) × (k ≤ n) → (k ≡ length (bodyAt d u c i)) × (k ≤ 16777215)
-    length-old z h = (h .0 ∙ ap length (body-old z), omega (arith, h .1, e .1))
-
-    pub length-new : (getD c (7 * i + 3) 0 ≡ 0 → ⊥) → (k ≡ length (between u start (start + n))) × (k ≤ n) → (k ≡ length (bodyAt d u c i)) × (k ≤ 16777215)
-    length-new z h = (h .0 ∙ ap length (body-new z), omega (arith, h .1, e .1))
-
   module _ (at : ℕ) (out : List ℕ) where
     pub room-old : getD c (7 * i + 3) 0 ≡ 0 → at + length (bodyAt d u c i) ≤ length out → at + length (between d start (start + n)) ≤ length out
-    room-old z h = rw (body-old z) h
+    room-old z h = rw (body-old d u c i start n s e z) h
 
     pub room-new : (getD c (7 * i + 3) 0 ≡ 0 → ⊥) → at + length (bodyAt d u c i) ≤ length out → at + length (between u start (start + n)) ≤ length out
-    room-new z h = rw (body-new z) h
+    room-new z h = rw (body-new d u c i start n s e z) h
 
     module _ (p : ℕ) (out′ : List ℕ) where
       pub wrote-old : getD c (7 * i + 3) 0 ≡ 0 → Wrote at (between d start (start + n)) out p out′ → Wrote at (bodyAt d u c i) out p out′
-      wrote-old z w = wrote-as (body-old z) w
+      wrote-old z w = wrote-as (body-old d u c i start n s e z) w
 
       pub wrote-new : (getD c (7 * i + 3) 0 ≡ 0 → ⊥) → Wrote at (between u start (start + n)) out p out′ → Wrote at (bodyAt d u c i) out p out′
-      wrote-new z w = wrote-as (body-new z) w
+      wrote-new z w = wrote-as (body-new d u c i start n s e z) w
 
-pub ruleset body-ways = (length-old, length-new, room-old, room-new, wrote-old, wrote-new)
+pub ruleset body-ways = (room-old, room-new, wrote-old, wrote-new)
 
 -- ---- the bodies of cells
 
@@ -116,42 +85,6 @@ module _ (d u c : List ℕ) where
   pub bodies-all : (n : ℕ) → bodiesOf d u c n ≡ bodiesLeft d u c 0 n
   unfolding bodiesLeft
   bodies-all n = rw sub-zero
-
--- ---- `inas_size`
-
-pub record SizeAt (d u c : List ℕ) (n t i : ℕ) : Type 0 where
-  pub inside : i ≤ n
-  pub sum : t + sizes (inasFields (bodiesLeft d u c i n)) ≡ sizes (inasFields (bodiesOf d u c n))
-  pub small : t ≤ 16777216 * i
-
-pub size-start : (d u c : List ℕ) (n : ℕ) → SizeAt d u c n 0 0
-size-start d u c n = record { inside = omega arith; sum = zero-add _ ∙ sym (ap (λ (bs : List (List ℕ)). sizes (inasFields bs)) (bodies-all d u c n)); small = omega arith }
-
-module _ (d u c : List ℕ) (n t i : ℕ) (inv : SizeAt d u c n t i) where
-  pub size-done : n ≤ i → (t ≡ sizes (inasFields (bodiesOf d u c n))) × (t ≤ 16777216 * n)
-  unfolding inasFields each sizes
-  size-done h =
-      let z : sizes (inasFields (bodiesLeft d u c i n)) ≡ 0 = ap (λ (bs : List (List ℕ)). sizes (inasFields bs)) (bodies-done d u c i n h) in
-      (omega (arith, inv .sum), omega (arith, inv .small, inv .inside))
-
-  pub size-cell : i < n → 7 * n ≤ length c → 7 * i + 7 ≤ length c
-  size-cell h g = omega arith
-
-  module _ (k : ℕ) (e : (k ≡ length (bodyAt d u c i)) × (k ≤ 16777215)) (g : length c ≤ 400000) (q : 7 * n ≤ length c) where
-    pub size-word : k + 1 < 2 ^ 64
-    size-word = omega (arith, e .1)
-
-    pub size-sum : t + (k + 1) < 2 ^ 64
-    size-sum = omega (arith, e .1, inv .small, inv .inside)
-
-    pub size-more : i < n → SizeAt d u c n (t + (k + 1)) (i + 1)
-    unfolding inasFields each sizes
-    size-more h =
-        let z : sizes (inasFields (bodiesLeft d u c i n)) ≡ length (bodyAt d u c i) + 1 + sizes (inasFields (bodiesLeft d u c (i + 1) n)) =
-        ap (λ (bs : List (List ℕ)). sizes (inasFields bs)) (bodies-more d u c i n h) in
-        record { inside = omega arith; sum = omega (arith, inv .sum, e .0); small = omega (arith, inv .small, e .1) }
-
-pub ruleset size-turn = (size-start, size-done, size-cell, size-word, size-sum, size-more)
 
 -- ---- `put_bodies`
 

@@ -1,6 +1,6 @@
 -- Laws of the fields of the record that the workspace holds: how many they are, and how many bytes they have. Assumes nothing.
-use Prim.Native.Nat.{ℕ, zero, suc, _+_, _*_, _≤_, _<_}
-use mathlib.Core.Path.{_≡_, refl, sym, ap, ap₂, _∙_, subst}
+use Prim.Native.Nat.{ℕ, zero, suc, _+_, _*_, _≤_}
+use mathlib.Core.Path.{_≡_, refl, sym, ap, ap₂, _∙_}
 use mathlib.Core.Bool.{Bool, true, false}
 use mathlib.Core.List.{List, [], _∷_, _++_}
 use native.Mathlib.Omega.{arith}
@@ -14,14 +14,11 @@ use Rattle.rules.specs.Tags.{FOID, ATTR, SPAS}
 use Rattle.rules.specs.Kind.{tagOf, coded}
 use Rattle.rules.specs.Written.{fieldAs, listField, coordTag}
 use Rattle.cells.specs.Cells.{bodiesFrom, bodiesOf}
-use Rattle.numbering.specs.Tuples.{Sized}
-use Rattle.version.specs.Areas.{listArea, inasArea}
 use Rattle.version.specs.declared.Version.{Version}
-use Rattle.version.proofs.AreaLaws.{list-long, inas-long}
 use Rattle.writing.specs.Found.{Summed}
 use Rattle.writing.specs.declared.measuring.Sum.{Sum}
 use Rattle.emission.specs.Bodies.{inasFields}
-use Rattle.emission.specs.Fields.{identPart, foidPart, lastFields, versionFields, listSize, listCount, identSize, foidSize, lastSize, lastCount, total, Rooms, Few, Measured, Indexed}
+use Rattle.emission.specs.Fields.{identPart, foidPart, lastFields, versionFields, listSize, listCount, identSize, foidSize, lastSize, lastCount, total, Few, Indexed}
 use Rattle.emission.specs.declared.measuring.Sizes.{Sizes}
 use Rattle.emission.proofs.ListLaws.{size-most, count-most, length-list, sizes-list}
 use Rattle.emission.proofs.IdentLaws.{length-ident}
@@ -160,26 +157,3 @@ module _ (d u inas : List ℕ) (v : Version) (c s : List ℕ) (lc : length c ≡
               k .attr-small,
               k .inas-small,
             )
-
--- ---- `measure`
-
-module _ (d u w : List ℕ) (v : Version) (room : Rooms d u w v) where
-  pub measure-list : (list : List ℕ) → list ≡ listArea w
-      → (8 * v .attr ≤ length list) × (length list < 524288) × (length d ≤ 16777216) × (length u ≤ 16777216)
-  measure-list list e =
-      let n : length list ≡ 200000 = ap length e ∙ list-long w (room .work) in
-      (omega (arith, room .attr-room), omega arith, room .old, room .new)
-
-  pub measure-inas : (inas : List ℕ) → inas ≡ inasArea w → (7 * v .inas ≤ length inas) × (length inas ≤ 400000)
-  measure-inas inas e =
-      let n : length inas ≡ 92000 = ap length e ∙ inas-long w (room .work) in
-      (omega (arith, room .inas-room), omega arith)
-
-  pub measured : (list inas : List ℕ) → list ≡ listArea w → inas ≡ inasArea w → (a i : ℕ) → Sized d u list (v .attr) a
-      → (i ≡ sizes (inasFields (bodiesOf d u inas (v .inas)))) × (i ≤ 16777216 * v .inas) → Measured d u w v (record { attr = a; inas = i })
-  measured list inas l e a i s x =
-      record {
-        attr-is = subst (λ (c : List ℕ). Sized d u c (v .attr) a) l s;
-        inas-is = x .0 ∙ ap (λ (c : List ℕ). sizes (inasFields (bodiesOf d u c (v .inas)))) e;
-        inas-small = omega (arith, x .1, room .inas-room);
-      }

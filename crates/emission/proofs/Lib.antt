@@ -6,5 +6,6 @@ pub mod FieldsLaws
 pub mod HeldLaws
 pub mod VersionLaws
 pub mod LengthLaws
+pub mod SizeLaws
 pub mod SmallLaws
 pub mod RecordLaws

@@ -33,6 +33,7 @@ use Rattle.version.specs.declared.Version.{Version}
 use Rattle.emission.specs.Bodies.{joined, inasFields}
 use Rattle.emission.proofs.FieldsLaws.{length-bodies, length-inas}
 use Rattle.emission.proofs.HeldLaws.{inas-as, spas-as, spas-total}
+use Rattle.emission.proofs.SizeLaws.{fields-size}
 
 -- ---- the bytes that each part has at least
 
@@ -113,6 +114,12 @@ module _ (d u w : List ℕ) (v : Version) (r : Rec) (h : Held d u w v r) (fit : 
       let e : associations ≡ inasFields bs = ap (each assocField) (h .parts .associations) ∙ inas-as bs (h .parts .inas-right) in
       let n : length bs ≡ v .inas = length-bodies d u (inasArea w) 0 (v .inas) in
       omega (arith, shares, ap sizes e, ap length e, length-inas bs, inas-least bs (h .parts .inas-right))
+
+  pub small-bytes : v .inasbytes ≤ 99999
+  small-bytes =
+      let bs = bodiesOf d u (inasArea w) (v .inas) in
+      let e : associations ≡ inasFields bs = ap (each assocField) (h .parts .associations) ∙ inas-as bs (h .parts .inas-right) in
+      omega (arith, shares, ap sizes e, h .parts .inas-sized ∙ fields-size bs)
 
   pub small-coord : 200000 ≤ length w → 8 * v .coord ≤ 99999
   small-coord l =

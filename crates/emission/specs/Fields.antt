@@ -111,6 +111,10 @@ pub record Few (v : Version) : Type 0 where
   pub coord : v .coord ≤ 100000
   pub spas : v .spas ≤ 100000
 
+-- the sizes that a version keeps
+abbrev pub sizesOf : Version → Sizes
+sizesOf v = record { attr = v .attrbytes; inas = v .inasbytes }
+
 -- m is the bytes of the attributes' tuples, and those of the INAS fields, the 1E of each included
 pub record Measured (d u w : List ℕ) (v : Version) (m : Sizes) : Type 0 where
   pub attr-is : Sized d u (listArea w) (v .attr) (m .attr)

@@ -1,5 +1,7 @@
 // The bodies that cells refer to: how long they are, and copies of them.
 use cells::cell::u24_at;
+use cells::length::body_length;
+use cells::length::inside;
 use memory::writing::put_byte;
 use memory::writing::put_part;
 use writing::parts::put_entry;
@@ -12,33 +14,6 @@ ghost use Rattle.skeleton.specs.Place.{between};
 ghost use Rattle.rules.specs.Written.{fieldWidth};
 ghost use Rattle.cells.specs.Cells.{bodyAt, bodiesOf};
 ghost use Rattle.emission.specs.Bodies.{joined, inasFields};
-
-// How many of n bytes from `start` on are in b.
-fn inside(b: &[u8], start: usize, n: usize) -> usize
-    ensures { λ r. ⌜ (r ≡ length (between (now (b .entry)) start (start + n))) × (r ≤ n) ⌝ }
-{
-    if b.len() <= start {
-        return 0;
-    }
-    let left = b.len() - start;
-    if n <= left {
-        return n;
-    }
-    left
-}
-
-// How long the body of cell i is.
-pub fn body_length(d: &[u8], u: &[u8], c: &[u8], i: usize) -> usize
-    requires { ⌜ 7 * i + 7 ≤ length (now c) ⌝ }
-    ensures { λ r. ⌜ (r ≡ length (bodyAt (now (d .entry)) (now (u .entry)) (now (c .entry)) i)) × (r ≤ 16777215) ⌝ }
-{
-    let start = u24_at(c, 7 * i);
-    let n = u24_at(c, 7 * i + 4);
-    if c[7 * i + 3] == 0 {
-        return inside(d, start, n);
-    }
-    inside(u, start, n)
-}
 
 // Those of n bytes from `start` on that are in b.
 fn put_inside(b: &[u8], start: usize, n: usize, out: &mut [u8], at: usize) -> usize
@@ -63,20 +38,6 @@ pub fn put_body(d: &[u8], u: &[u8], c: &[u8], i: usize, out: &mut [u8], at: usiz
         return put_inside(d, start, n, out, at);
     }
     put_inside(u, start, n, out, at)
-}
-
-// The bytes of the bodies of n cells as INAS fields, the 1E of each included.
-pub fn inas_size(d: &[u8], u: &[u8], c: &[u8], n: usize) -> usize
-    requires { ⌜ (7 * n ≤ length (now c)) × (length (now c) ≤ 400000) ⌝ }
-    ensures { λ r. ⌜ (r ≡ sizes (inasFields (bodiesOf (now (d .entry)) (now (u .entry)) (now (c .entry)) n))) × (r ≤ 16777216 * n) ⌝ }
-{
-    let mut t = 0;
-    let mut i = 0;
-    while i < n {
-        t += body_length(d, u, c, i) + 1;
-        i += 1;
-    }
-    t
 }
 
 // The bodies of n cells one after the other.

@@ -1,11 +1,8 @@
 // How long the record that the workspace holds is when it is written.
-use crate::bodies::inas_size;
 use crate::identifier::ident_size;
 use crate::lists::list_count;
 use crate::lists::list_size;
 use version::Version;
-use version::areas::inas_of;
-use version::areas::list_of;
 use writing::measuring::Sum;
 ghost use mathlib.Core.Path.{_≡_};
 ghost use Prim.Native.Nat.{_≤_, _+_, _*_};
@@ -13,7 +10,7 @@ ghost use lib.ListN.{length};
 ghost use Rattle.rules.specs.Record.{Rec};
 ghost use Rattle.rules.specs.Written.{writtenFields, writtenLength};
 ghost use Rattle.version.specs.Held.{Held};
-ghost use Rattle.emission.specs.Fields.{foidSize, listCount, lastCount, lastSize, total, Rooms, Measured, Few};
+ghost use Rattle.emission.specs.Fields.{foidSize, listCount, lastCount, lastSize, total, sizesOf, Few};
 
 // The bytes of the attributes' tuples, and those of the INAS fields, the 1E of each included.
 pub struct Sizes {
@@ -31,14 +28,14 @@ pub fn foid_size(foids: usize) -> usize
     8
 }
 
-// The parts whose bytes have to be counted.
-pub fn measure(d: &[u8], u: &[u8], work: &[u8], v: Version) -> Sizes
-    requires { ⌜ Rooms (now d) (now u) (now work) v ⌝ }
-    ensures { λ m. ⌜ Measured (now (d .entry)) (now (u .entry)) (now (work .entry)) v m ⌝ }
+// The parts whose bytes are no multiples of their counts: the version keeps them, so that a record is not measured again after each modify.
+pub fn measure(v: Version) -> Sizes
+    ensures { λ m. ⌜ m ≡ sizesOf v ⌝ }
 {
-    let attr = numbering::size(d, u, list_of(work), v.attr);
-    let inas = inas_size(d, u, inas_of(work), v.inas);
-    Sizes { attr, inas }
+    Sizes {
+        attr: v.attrbytes,
+        inas: v.inasbytes,
+    }
 }
 
 // How many fields follow the attributes.
@@ -87,13 +84,13 @@ pub fn sum_up(v: Version, m: Sizes) -> Sum
     Sum { fields, bytes }
 }
 
-// How long the record that the workspace holds is when it is written; d the dataset, u the update.
+// How long the record that the workspace holds is when it is written; d the dataset, u the update: it stands in them, and they are not read.
 pub fn version_length(d: &[u8], u: &[u8], work: &[u8], v: Version) -> usize
     requires { ⌜ (length (now d) ≤ 16777216) × (length (now u) ≤ 16777216) × (400000 ≤ length (now work)) ⌝ }
     requires { ⌜ ((r : Rec) × Held (now d) (now u) (now work) v r) ⌝ }
     ensures { λ n. ⌜ ((r : Rec) → Held (now (d .entry)) (now (u .entry)) (now (work .entry)) v r → n ≡ writtenLength (writtenFields r)) ⌝ }
 {
-    let m = measure(d, u, work, v);
+    let m = measure(v);
     let s = sum_up(v, m);
     25 + 14 * s.fields + s.bytes
 }

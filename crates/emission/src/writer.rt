@@ -124,7 +124,7 @@ pub fn write_version(
     requires { ⌜ ((r : Rec) × Held (now d) (now u) (now work) v r × (at + writtenLength (writtenFields r) ≤ length (now out))) ⌝ }
     ensures { λ n. ⌜ ((r : Rec) → Held (now (d .entry)) (now (u .entry)) (now (work .entry)) v r → (n ≡ at + writtenLength (writtenFields r)) × Wrote at (emit fieldWidth fieldWidth false (writtenFields r)) (now (out .entry)) n (now (out .exit))) ⌝ }
 {
-    let m = measure(d, u, work, v);
+    let m = measure(v);
     put_record(
         d,
         u,

@@ -27,13 +27,13 @@ use Rattle.items.specs.Items.{its}
 use Rattle.items.proofs.ItemLaws.{its-end}
 use Rattle.coords.specs.Tuples.{tuplesOf}
 use Rattle.version.specs.Areas.{listArea, inasArea, spasArea}
-use Rattle.version.specs.Held.{Held}
+use Rattle.version.specs.Held.{coordNow, Held}
 use Rattle.version.specs.declared.Version.{Version}
 use Rattle.version.proofs.AreaLaws.{lent}
 use Rattle.version.proofs.RowLaws.{point-row, list-row}
 use Rattle.loading.specs.Taken.{takeParts, takeField}
 use Rattle.loading.specs.Loads.{Loads, LoadsCoords, Took}
-use Rattle.loading.proofs.KeptLaws.{assocs-kept, inas-kept, spatials-kept, spas-kept, coordNow, parted, held-with, list-area, list-now, list-inas, list-spas, list-others}
+use Rattle.loading.proofs.KeptLaws.{assocs-kept, inas-kept, inas-sized-kept, spatials-kept, spas-kept, parted, held-with, list-area, list-now, list-inas, list-spas, list-others}
 
 -- either tag takes them
 coords-taken : (t : ℕ) → isCoordinates t ≡ true → (body : List ℕ) (r : Rec) → parted r (takeParts (fieldAs C2IL body) (r .parts)) ≡ takeField (fieldAs t body) r
@@ -72,7 +72,7 @@ module _ (b : List ℕ) (from to : ℕ) (v : Version) (w ys : List ℕ) (n : ℕ
       let have : length (take (8 * v .coord) (listArea w)) ≡ 8 * v .coord = length-take (8 * v .coord) (listArea w) ∙ omega arith in
       let count : length (tuplesOf (listArea w) (v .coord)) ≡ v .coord = coords-count (take (8 * v .coord) (listArea w)) (v .coord) have in
       let sum : 8 * n ≡ 8 * v .coord + (to - from) = s .0 in
-      held-with d u w o v r (v .attr) (v .inas) n (v .spas) (takeParts (fieldAs C2IL (between b from to)) (r .parts)) h (record {
+      held-with d u w o v r (v .attr) (v .inas) n (v .spas) (v .attrbytes) (v .inasbytes) (takeParts (fieldAs C2IL (between b from to)) (r .parts)) h (record {
         attributes = ap (its d u (listArea o) 0) z ∙ its-end d u (listArea o) 0 0 (omega arith)
             ∙ sym (ap (its d u (listArea w) 0) z ∙ its-end d u (listArea w) 0 0 (omega arith)) ∙ p .attributes;
         associations = assocs-kept d u w o v (r .parts) p inas;
@@ -87,6 +87,8 @@ module _ (b : List ℕ) (from to : ℕ) (v : Version) (w ys : List ℕ) (n : ℕ
         inas-room = p .inas-room;
         coord-room = omega arith;
         spas-room = p .spas-room;
+        attr-sized = p .attr-sized;
+        inas-sized = inas-sized-kept d u w o v (r .parts) p inas;
         no-tree = p .no-tree;
         no-coord = λ q. absurd (true≢false (sym q ∙ l .plain));
       })
@@ -97,7 +99,7 @@ module _ (b : List ℕ) (from to : ℕ) (v : Version) (w ys : List ℕ) (n : ℕ
       let c = length-between b from to (l .inside) in
       record {
         held = λ d u r e h. subst (Held d u (lent 0 200000 ys w) (coordNow v n)) (coords-taken t q (between b from to) r) (coords-held d u r h);
-        room = λ m r. record { inas = omega (arith, r .inas); coord = omega (arith, r .coord); spas = omega (arith, r .spas) };
+        room = λ m r. record { inas = omega (arith, r .inas); coord = omega (arith, r .coord); spas = omega (arith, r .spas); bytes = omega (arith, r .bytes) };
         kind = refl;
         others = list-others w ys (l .wide) long;
       }

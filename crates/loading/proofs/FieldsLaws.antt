@@ -105,7 +105,7 @@ module _ (b : List ℕ) (at len : ℕ) (h : Shape) (x p : ℕ) (w₀ : List ℕ)
             bytes = s .loads .bytes;
             wide = s .loads .wide;
             fits = fits-here .0;
-            room = record { inas = omega (arith, r .inas); coord = omega (arith, r .coord); spas = omega (arith, r .spas) };
+            room = record { inas = omega (arith, r .inas); coord = omega (arith, r .coord); spas = omega (arith, r .spas); bytes = omega (arith, r .bytes) };
           }
 
       pub load-turn : (o : List ℕ) (r : Version) → length o ≡ length w → Took b x (fieldAs tag (between b (at + start) (at + end))) w v o r → LoadAt b at len h x p w₀ v₀ o next r

@@ -29,7 +29,7 @@ use Rattle.loading.specs.Loads.{Loads, Took}
 -- a version with a FOID
 abbrev pub foidNow : Version → ℕ → ℕ → Version
 foidNow v from x =
-    record { kind = v .kind; rcid = v .rcid; code = v .code; rver = v .rver; foids = 1; foid = from; slice = x; attr = v .attr; inas = v .inas; coord = v .coord; spas = v .spas }
+    record { kind = v .kind; rcid = v .rcid; code = v .code; rver = v .rver; foids = 1; foid = from; slice = x; attr = v .attr; inas = v .inas; coord = v .coord; spas = v .spas; attrbytes = v .attrbytes; inasbytes = v .inasbytes }
 
 module _ (b : List ℕ) (from to : ℕ) (v : Version) (w : List ℕ) (l : Loads b FOID from to v w) where
   foid-fill : fill (headOf Foid) [] (between b from to) ≡ true
@@ -67,6 +67,8 @@ module _ (b : List ℕ) (from to : ℕ) (v : Version) (w : List ℕ) (l : Loads 
           inas-room = h .parts .inas-room;
           coord-room = h .parts .coord-room;
           spas-room = h .parts .spas-room;
+          attr-sized = h .parts .attr-sized;
+          inas-sized = h .parts .inas-sized;
           no-tree = h .parts .no-tree;
           no-coord = h .parts .no-coord;
         };
@@ -76,7 +78,7 @@ module _ (b : List ℕ) (from to : ℕ) (v : Version) (w : List ℕ) (l : Loads 
   foid-took x =
       record {
         held = foid-held x;
-        room = λ m r. record { inas = omega (arith, r .inas); coord = omega (arith, r .coord); spas = omega (arith, r .spas) };
+        room = λ m r. record { inas = omega (arith, r .inas); coord = omega (arith, r .coord); spas = omega (arith, r .spas); bytes = omega (arith, r .bytes) };
         kind = refl;
         others = refl;
       }
@@ -100,7 +102,7 @@ module _ (b : List ℕ) (t from to : ℕ) (v : Version) (w : List ℕ) (l : Load
       λ r. rw (ne-eqb t FOID f, ne-eqb t ATTR a, ne-eqb t INAS i, ne-eqb t SPAS s, ne-eqb t C2IT p, ne-eqb t C2IL c) refl in
       record {
         held = λ d u r e h. subst (Held d u w v) (same r) h;
-        room = λ m r. record { inas = omega (arith, r .inas); coord = omega (arith, r .coord); spas = omega (arith, r .spas) };
+        room = λ m r. record { inas = omega (arith, r .inas); coord = omega (arith, r .coord); spas = omega (arith, r .spas); bytes = omega (arith, r .bytes) };
         kind = refl;
         others = refl;
       }

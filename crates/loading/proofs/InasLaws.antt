@@ -23,15 +23,16 @@ use Rattle.rules.specs.Record.{Rec, Assoc, assocOf}
 use Rattle.rules.specs.Written.{fieldAs}
 use Rattle.rules.specs.Coordinates.{isCoordinates}
 use Rattle.items.specs.Items.{source}
-use Rattle.cells.specs.Cells.{bodiesOf}
+use Rattle.cells.specs.Cells.{bodiesOf, fieldsSize}
 use Rattle.cells.proofs.InasLaws.{inas-bytes}
+use Rattle.cells.proofs.LengthLaws.{size-joined}
 use Rattle.version.specs.Areas.{listArea, inasArea, spasArea}
-use Rattle.version.specs.Held.{RightInas, Held}
+use Rattle.version.specs.Held.{RightInas, inasNow, Held}
 use Rattle.version.specs.declared.Version.{Version}
 use Rattle.version.proofs.AreaLaws.{lent, lent-same, lent-behind, lent-before, lent-after}
 use Rattle.loading.specs.Taken.{takeParts, takeField}
 use Rattle.loading.specs.Loads.{Loads, Took}
-use Rattle.loading.proofs.KeptLaws.{attributes-kept, coords-kept, spatials-kept, spas-kept, inasNow, held-with}
+use Rattle.loading.proofs.KeptLaws.{attributes-kept, coords-kept, spatials-kept, spas-kept, held-with}
 
 module _ (b : List ℕ) (from to : ℕ) (v : Version) (w : List ℕ) (l : Loads b INAS from to v w) where
   abbrev inasBody : List ℕ
@@ -47,6 +48,9 @@ module _ (b : List ℕ) (from to : ℕ) (v : Version) (w : List ℕ) (l : Loads 
 
   inas-long : 10 ≤ length (between b from to)
   inas-long = inas-bytes false (between b from to) inas-fill
+
+  long-is : length (between b from to) ≡ to - from
+  long-is = length-between b from to (l .inside)
 
   inas-fits : (7 * v .inas + 7 ≤ 92000) × (to - from < 16777216)
   inas-fits = let a = l .room .inas in let c = length-between b from to (l .inside) in (omega (arith, inas-long), omega arith)
@@ -66,7 +70,7 @@ module _ (b : List ℕ) (from to : ℕ) (v : Version) (w : List ℕ) (l : Loads 
     long : length ys ≡ 92000
     long = same ∙ inas-area
 
-    inas-held : (d u : List ℕ) (r : Rec) → source x d u ≡ b → Held d u w v r → Held d u (lent 200000 92000 ys w) (inasNow v n) (takeField (fieldAs INAS inasBody) r)
+    inas-held : (d u : List ℕ) (r : Rec) → source x d u ≡ b → Held d u w v r → Held d u (lent 200000 92000 ys w) (inasNow v n (v .inasbytes + (to - from) + 1)) (takeField (fieldAs INAS inasBody) r)
     unfolding takeField takeParts isCoordinates each Each
     inas-held d u r e h =
         let wide : 400000 ≤ length w = l .wide in
@@ -81,7 +85,7 @@ module _ (b : List ℕ) (from to : ℕ) (v : Version) (w : List ℕ) (l : Loads 
         let p = h .parts in
         let fits = inas-fits in
         let more : n ≡ v .inas + 1 = s .0 in
-        held-with d u w o v r (v .attr) n (v .coord) (v .spas) (takeParts (fieldAs INAS inasBody) (r .parts)) h (record {
+        held-with d u w o v r (v .attr) n (v .coord) (v .spas) (v .attrbytes) (v .inasbytes + (to - from) + 1) (takeParts (fieldAs INAS inasBody) (r .parts)) h (record {
           attributes = attributes-kept d u w o v (r .parts) p list;
           associations = ap (λ (k : List Assoc). k ++ (assocOf inasBody ∷ [])) (p .associations) ∙ sym (ap (each assocOf) is ∙ each-append assocOf old (inasBody ∷ []));
           inas-right = subst (Each RightInas) (sym is) (each-join RightInas old (inasBody ∷ []) (p .inas-right) (right, tt));
@@ -92,17 +96,19 @@ module _ (b : List ℕ) (from to : ℕ) (v : Version) (w : List ℕ) (l : Loads 
           inas-room = omega (arith, fits .0);
           coord-room = p .coord-room;
           spas-room = p .spas-room;
+          attr-sized = p .attr-sized;
+          inas-sized = omega (arith, p .inas-sized, long-is, ap fieldsSize is, size-joined old inasBody);
           no-tree = p .no-tree;
           no-coord = p .no-coord;
         })
 
-    pub inas-took : Took b x (fieldAs INAS inasBody) w v (lent 200000 92000 ys w) (inasNow v n)
+    pub inas-took : Took b x (fieldAs INAS inasBody) w v (lent 200000 92000 ys w) (inasNow v n (v .inasbytes + (to - from) + 1))
     inas-took =
         let wide : 400000 ≤ length w = l .wide in
         let more : n ≡ v .inas + 1 = s .0 in
         record {
           held = inas-held;
-          room = λ m r. record { inas = omega (arith, r .inas, inas-long); coord = omega (arith, r .coord); spas = omega (arith, r .spas) };
+          room = λ m r. record { inas = omega (arith, r .inas, inas-long); coord = omega (arith, r .coord); spas = omega (arith, r .spas); bytes = omega (arith, r .bytes, long-is) };
           kind = refl;
           others = lent-behind 200000 92000 ys w long (omega arith) 386000 (omega arith);
         }

@@ -10,9 +10,9 @@ use Rattle.forest.specs.Flat.{flat}
 use Rattle.rules.specs.Coordinates.{coordsIn}
 use Rattle.rules.specs.Record.{Rec, Parts, assocOf}
 use Rattle.items.specs.Items.{its}
-use Rattle.cells.specs.Cells.{bodiesOf, spatialIn}
+use Rattle.cells.specs.Cells.{bodiesOf, fieldsSize, spatialIn}
 use Rattle.version.specs.Areas.{listArea, inasArea, spasArea}
-use Rattle.version.specs.Held.{RightInas, RightSpas, foidBodies, counted, HeldParts, Held}
+use Rattle.version.specs.Held.{RightInas, RightSpas, foidBodies, sized, HeldParts, Held}
 use Rattle.version.specs.declared.Version.{Version}
 use Rattle.version.proofs.AreaLaws.{lent, lent-same, lent-behind, lent-after}
 
@@ -30,6 +30,9 @@ module _ (d u w o : List ℕ) (v : Version) (p : Parts) (h : HeldParts d u w v p
   pub inas-kept : inasArea o ≡ inasArea w → Each RightInas (bodiesOf d u (inasArea o) (v .inas))
   inas-kept e = subst (λ (a : List ℕ). Each RightInas (bodiesOf d u a (v .inas))) (sym e) (h .inas-right)
 
+  pub inas-sized-kept : inasArea o ≡ inasArea w → v .inasbytes ≡ fieldsSize (bodiesOf d u (inasArea o) (v .inas))
+  inas-sized-kept e = h .inas-sized ∙ ap (λ (a : List ℕ). fieldsSize (bodiesOf d u a (v .inas))) (sym e)
+
   pub spatials-kept : spasArea o ≡ spasArea w → p .spatial ≡ each spatialIn (bodiesOf d u (spasArea o) (v .spas))
   spatials-kept e = h .spatial ∙ ap (λ (a : List ℕ). each spatialIn (bodiesOf d u a (v .spas))) (sym e)
 
@@ -38,26 +41,14 @@ module _ (d u w o : List ℕ) (v : Version) (p : Parts) (h : HeldParts d u w v p
 
 -- ---- versions
 
--- a version with other counts of items
-abbrev pub attrNow : Version → ℕ → Version
-attrNow v n = counted v n (v .inas) (v .coord) (v .spas)
-
-abbrev pub inasNow : Version → ℕ → Version
-inasNow v n = counted v (v .attr) n (v .coord) (v .spas)
-
-abbrev pub coordNow : Version → ℕ → Version
-coordNow v n = counted v (v .attr) (v .inas) n (v .spas)
-
-abbrev pub spasNow : Version → ℕ → Version
-spasNow v n = counted v (v .attr) (v .inas) (v .coord) n
-
 -- the record with other parts
 abbrev pub parted : Rec → Parts → Rec
 parted r p = record { kind = r .kind; rcid = r .rcid; code = r .code; rver = r .rver; foid = r .foid; parts = p }
 
-pub held-with : (d u w o : List ℕ) (v : Version) (r : Rec) (a i c s : ℕ) (p : Parts) → Held d u w v r → HeldParts d u o (counted v a i c s) p → Held d u o (counted v a i c s) (parted r p)
+pub held-with : (d u w o : List ℕ) (v : Version) (r : Rec) (a i c s x y : ℕ) (p : Parts) → Held d u w v r → HeldParts d u o (sized v a i c s x y) p
+    → Held d u o (sized v a i c s x y) (parted r p)
 unfolding foidBodies
-held-with d u w o v r a i c s p h q =
+held-with d u w o v r a i c s x y p h q =
     record { kind = h .kind; rcid = h .rcid; code = h .code; rver = h .rver; foid = h .foid; foid-right = h .foid-right; parts = q }
 
 -- ---- the list area, lent

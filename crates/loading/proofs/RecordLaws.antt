@@ -25,14 +25,15 @@ use Rattle.skeleton.proofs.PlaceLaws.{place-runs, place-in, fields-more, fields
 use Rattle.skeleton.proofs.ReadLaws.{bytes-between}
 use Rattle.skeleton.proofs.RecordLaws.{right}
 use Rattle.skeleton.proofs.BetweenLaws.{length-between}
+use Rattle.fields.specs.Values.{putAll}
 use Rattle.fields.specs.Valid.{Bytes}
-use Rattle.forest.specs.Forest.{nil}
+use Rattle.forest.specs.Forest.{Forest, nil, tuplesFrom, tuplesOf}
 use Rattle.forest.specs.Flat.{flat}
 use Rattle.rules.specs.ByTag.{front}
 use Rattle.rules.specs.Kind.{kindOf}
 use Rattle.rules.specs.Grammar.{ruinByte, asStored, number4}
 use Rattle.rules.specs.Record.{Ident, identOf, recOf}
-use Rattle.rules.specs.Written.{fieldAs}
+use Rattle.rules.specs.Written.{fieldAs, treeBytes}
 use Rattle.rules.specs.declared.Kind.{Kind}
 use Rattle.rules.specs.declared.Mode.the-variants.{InDataset, InUpdate}
 use Rattle.rules.proofs.CoordinateLaws.{coords-none}
@@ -43,7 +44,7 @@ use Rattle.sound.proofs.Parts.{attr-nothing, standing-ok}
 use Rattle.contents.specs.Fit.{identified}
 use Rattle.items.specs.Items.{source}
 use Rattle.items.proofs.ItemLaws.{its-end}
-use Rattle.cells.specs.Cells.{bodiesFrom}
+use Rattle.cells.specs.Cells.{bodiesFrom, fieldsSize}
 use Rattle.stock.specs.Stored.{Loadable, stored, inserted}
 use Rattle.stock.proofs.FilledLaws.{record-short, record-filled}
 use Rattle.version.specs.Held.{foidBodies, Held}
@@ -86,12 +87,12 @@ none-loadable k (inserted e r) = refused ((tests [] k e) .0)
 -- ---- nothing but the identifier
 
 pub opened-is : (k : Kind) (i : Ident) (a b c : ℕ) → a ≡ i .rcid → b ≡ i .code → c ≡ i .rver
-    → record { kind = k; rcid = a; code = b; rver = c; foids = 0; foid = 0; slice = 0; attr = 0; inas = 0; coord = 0; spas = 0 } ≡ opened k i
+    → record { kind = k; rcid = a; code = b; rver = c; foids = 0; foid = 0; slice = 0; attr = 0; inas = 0; coord = 0; spas = 0; attrbytes = 0; inasbytes = 0 } ≡ opened k i
 unfolding opened
 opened-is k i a b c ea eb ec = rw (ea, eb, ec) refl
 
 blank-held : (d u w : List ℕ) (k : Kind) (i : Ident) → Held d u w (opened k i) (blank k i)
-unfolding opened blank foidBodies bodiesFrom each gather Each flat
+unfolding opened blank foidBodies bodiesFrom fieldsSize each gather Each flat treeBytes tuplesOf tuplesFrom putAll
 blank-held d u w k i =
     record {
       kind = refl;
@@ -111,6 +112,8 @@ blank-held d u w k i =
         inas-room = omega arith;
         coord-room = omega arith;
         spas-room = omega arith;
+        attr-sized = ap (λ (t : Forest). length (treeBytes t)) (sym (standing-ok [] nil attr-nothing));
+        inas-sized = refl;
         no-tree = λ e. refl;
         no-coord = λ e. refl;
       };
@@ -175,7 +178,7 @@ module _ (b : List ℕ) (at len : ℕ) (h : Shape) (k : Kind) (w : List ℕ)
               bytes = g;
               wide = pre .2;
               fits = facts .fits;
-              room = record { inas = omega arith; coord = omega arith; spas = omega arith };
+              room = record { inas = omega arith; coord = omega arith; spas = omega arith; bytes = omega arith };
             })
 
         pub record-held : (x : ℕ) (o : List ℕ) (r : Version) → TookAll b x (fieldsAt (between b at (at + len)) h next) w v o r

@@ -25,13 +25,13 @@ use Rattle.cells.specs.Cells.{bodiesOf, spatialIn, tupleBodies}
 use Rattle.cells.specs.Acts.{SpasLoaded}
 use Rattle.cells.proofs.TupleLaws.{stored-even}
 use Rattle.version.specs.Areas.{listArea, inasArea, spasArea}
-use Rattle.version.specs.Held.{RightSpas, Held}
+use Rattle.version.specs.Held.{RightSpas, spasNow, Held}
 use Rattle.version.specs.declared.Version.{Version}
 use Rattle.version.proofs.AreaLaws.{lent, lent-same, lent-behind, lent-before}
 use Rattle.version.proofs.BodyLaws.{spas-every, spas-all}
 use Rattle.loading.specs.Taken.{takeParts, takeField}
 use Rattle.loading.specs.Loads.{Loads, Took}
-use Rattle.loading.proofs.KeptLaws.{attributes-kept, coords-kept, assocs-kept, inas-kept, spasNow, held-with}
+use Rattle.loading.proofs.KeptLaws.{attributes-kept, coords-kept, assocs-kept, inas-kept, inas-sized-kept, held-with}
 
 spas-bytes : (bs : List (List ℕ)) → Each RightSpas bs → Each Bytes bs
 unfolding Each
@@ -93,7 +93,7 @@ module _ (b : List ℕ) (from to : ℕ) (v : Version) (w : List ℕ) (l : Loads 
         spas-all (bodiesOf d u ys n) (t .right new inside (spas-every old (p .spas-right))) (subst (Each Bytes) (sym (t .bodies)) bytes) in
         let fits = spas-fits in
         let more : n ≡ v .spas + (to - from) / 15 = s .0 in
-        held-with d u w o v r (v .attr) (v .inas) (v .coord) n (takeParts (fieldAs SPAS spasBody) (r .parts)) h (record {
+        held-with d u w o v r (v .attr) (v .inas) (v .coord) n (v .attrbytes) (v .inasbytes) (takeParts (fieldAs SPAS spasBody) (r .parts)) h (record {
           attributes = attributes-kept d u w o v (r .parts) p list;
           associations = assocs-kept d u w o v (r .parts) p inas;
           inas-right = inas-kept d u w o v (r .parts) p inas;
@@ -107,6 +107,8 @@ module _ (b : List ℕ) (from to : ℕ) (v : Version) (w : List ℕ) (l : Loads 
           inas-room = p .inas-room;
           coord-room = p .coord-room;
           spas-room = omega arith;
+          attr-sized = p .attr-sized;
+          inas-sized = inas-sized-kept d u w o v (r .parts) p inas;
           no-tree = p .no-tree;
           no-coord = p .no-coord;
         })
@@ -118,7 +120,7 @@ module _ (b : List ℕ) (from to : ℕ) (v : Version) (w : List ℕ) (l : Loads 
         let c = length-between b from to (l .inside) in
         record {
           held = spas-held;
-          room = λ m r. record { inas = omega (arith, r .inas); coord = omega (arith, r .coord); spas = omega (arith, r .spas, spas-even) };
+          room = λ m r. record { inas = omega (arith, r .inas); coord = omega (arith, r .coord); spas = omega (arith, r .spas, spas-even); bytes = omega (arith, r .bytes) };
           kind = refl;
           others = lent-behind 292000 94000 ys w long (omega arith) 386000 (omega arith);
         }

@@ -32,11 +32,13 @@ pub record Fits (k : Kind) (f : Field) : Type 0 where
   pub formed : fill (headOf (formatOf true (f .tag) (f .body))) (tupleOf (formatOf true (f .tag) (f .body))) (f .body) ≡ true
   pub treed : treeStands true f ≡ pass
 
--- fields of n bytes still fit a record of which the version has been loaded: an INAS takes 11 bytes at least, a coordinate tuple 8, one of SPAS 15
+-- fields of n bytes still fit a record of which the version has been loaded: an INAS takes 11 bytes at least, a coordinate tuple 8, one of SPAS 15,
+-- and the INAS fields take those that they are written in
 pub record Room (v : Version) (n : ℕ) : Type 0 where
   pub inas : 11 * v .inas + n ≤ 99999
   pub coord : 8 * v .coord + n ≤ 99999
   pub spas : 15 * v .spas + n ≤ 99999
+  pub bytes : v .inasbytes + n ≤ 99999
 
 -- the field with tag t from `from` up to `to` of b can be loaded
 pub record Loads (b : List ℕ) (t from to : ℕ) (v : Version) (w : List ℕ) : Type 0 where
@@ -97,4 +99,6 @@ opened k i =
       inas = 0;
       coord = 0;
       spas = 0;
+      attrbytes = 0;
+      inasbytes = 0;
     }

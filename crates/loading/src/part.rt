@@ -9,7 +9,7 @@ ghost use Rattle.rules.specs.Written.{fieldAs};
 ghost use Rattle.rules.specs.Coordinates.{isCoordinates};
 ghost use Rattle.loading.specs.Loads.{Loads, LoadsCoords, Took};
 
-// The tree of an ATTR.
+// The tree of an ATTR. A stored one has the bytes that its tree is written in.
 fn load_attr(b: &[u8], from: usize, to: usize, x: u8, v: Version, work: &mut [u8]) -> Version
     requires { ⌜ Loads (now b) ATTR from to v (now work) ⌝ }
     ensures { λ r. ⌜ Took (now (b .entry)) x (fieldAs ATTR (between (now (b .entry)) from to)) (now (work .entry)) v (now (work .exit)) r ⌝ }
@@ -17,6 +17,7 @@ fn load_attr(b: &[u8], from: usize, to: usize, x: u8, v: Version, work: &mut [u8
     let n = items::loading::load(b, from, to, x, &mut work[0..200000]);
     let mut r = v;
     r.attr = n;
+    r.attrbytes = to - from;
     r
 }
 
@@ -28,6 +29,7 @@ fn load_inas(b: &[u8], from: usize, to: usize, x: u8, v: Version, work: &mut [u8
     let n = cells::inas::load_inas(from, to, x, &mut work[200000..292000], v.inas);
     let mut r = v;
     r.inas = n;
+    r.inasbytes = v.inasbytes + (to - from) + 1;
     r
 }
 

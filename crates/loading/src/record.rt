@@ -39,6 +39,8 @@ fn open_version(r: &[u8], start: usize, end: usize, k: Kind) -> Version
         inas: 0,
         coord: 0,
         spas: 0,
+        attrbytes: 0,
+        inasbytes: 0,
     }
 }
 
@@ -112,6 +114,8 @@ pub fn load_record(
             inas: 0,
             coord: 0,
             spas: 0,
+            attrbytes: 0,
+            inasbytes: 0,
         },
     }
 }

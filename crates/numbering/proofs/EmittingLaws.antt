@@ -59,7 +59,7 @@ module _ (s u w : List ℕ) (n : ℕ) where
   forest-bytes : (f : Forest) → its s u w 0 n ≡ flat 0 f → treeBytes f ≡ tuplesBytes (tuplesTo s u w 0 n)
   forest-bytes f e = tree-tuples f ∙ ap tuplesBytes (sym (tuples-forest s u w n f e))
 
-  forest-size : (f : Forest) → its s u w 0 n ≡ flat 0 f → length (treeBytes f) ≡ left 0
+  pub forest-size : (f : Forest) → its s u w 0 n ≡ flat 0 f → length (treeBytes f) ≡ left 0
   forest-size f e = ap length (forest-bytes f e) ∙ written-size n 0 (omega arith)
 
 -- ---- `size`

@@ -17,10 +17,11 @@ use Rattle.forest.specs.Flat.{flat}
 use Rattle.rules.specs.Coordinates.{coordsIn}
 use Rattle.rules.specs.Trees.{inasTree}
 use Rattle.rules.specs.Record.{Rec, Parts, foidOf, assocOf}
+use Rattle.rules.specs.Written.{treeBytes}
 use Rattle.rules.specs.declared.Kind.{Kind}
 use Rattle.rules.specs.declared.Kind.the-variants.{Info, Point, Multi, Feature}
 use Rattle.items.specs.Items.{its, source}
-use Rattle.cells.specs.Cells.{bodiesOf, spatialIn}
+use Rattle.cells.specs.Cells.{bodiesOf, fieldsSize, spatialIn}
 use Rattle.version.specs.Areas.{listArea, inasArea, spasArea}
 use Rattle.version.specs.declared.Version.{Version}
 
@@ -41,10 +42,40 @@ pub record RightFoid (b : List ℕ) : Type 0 where
   pub bytes : Bytes b
   pub filled : fill (headOf Foid) [] b ≡ true
 
--- a version with so many items, associations, coordinate tuples and spatial associations
-abbrev pub counted : Version → ℕ → ℕ → ℕ → ℕ → Version
-counted v a i c s =
-    record { kind = v .kind; rcid = v .rcid; code = v .code; rver = v .rver; foids = v .foids; foid = v .foid; slice = v .slice; attr = a; inas = i; coord = c; spas = s }
+-- a version with so many items, associations, coordinate tuples and spatial associations, the first two of which are written in x and y bytes
+abbrev pub sized : Version → ℕ → ℕ → ℕ → ℕ → ℕ → ℕ → Version
+sized v a i c s x y =
+    record {
+      kind = v .kind;
+      rcid = v .rcid;
+      code = v .code;
+      rver = v .rver;
+      foids = v .foids;
+      foid = v .foid;
+      slice = v .slice;
+      attr = a;
+      inas = i;
+      coord = c;
+      spas = s;
+      attrbytes = x;
+      inasbytes = y;
+    }
+
+-- so many items, which are written in x bytes
+abbrev pub attrNow : Version → ℕ → ℕ → Version
+attrNow v n x = sized v n (v .inas) (v .coord) (v .spas) x (v .inasbytes)
+
+-- so many associations, which are written in y bytes
+abbrev pub inasNow : Version → ℕ → ℕ → Version
+inasNow v n y = sized v (v .attr) n (v .coord) (v .spas) (v .attrbytes) y
+
+-- so many coordinate tuples
+abbrev pub coordNow : Version → ℕ → Version
+coordNow v n = sized v (v .attr) (v .inas) n (v .spas) (v .attrbytes) (v .inasbytes)
+
+-- so many spatial associations
+abbrev pub spasNow : Version → ℕ → Version
+spasNow v n = sized v (v .attr) (v .inas) (v .coord) n (v .attrbytes) (v .inasbytes)
 
 -- the kind has attributes of its own; the others have coordinates
 unfoldable pub takesTree : Kind → Bool
@@ -69,6 +100,8 @@ pub record HeldParts (d u w : List ℕ) (v : Version) (p : Parts) : Type 0 where
   pub inas-room : 7 * v .inas ≤ 92000
   pub coord-room : 8 * v .coord ≤ 200000
   pub spas-room : 7 * v .spas ≤ 94000
+  pub attr-sized : v .attrbytes ≡ length (treeBytes (p .attributes))
+  pub inas-sized : v .inasbytes ≡ fieldsSize (bodiesOf d u (inasArea w) (v .inas))
   pub no-tree : takesTree (v .kind) ≡ false → v .attr ≡ 0
   pub no-coord : takesTree (v .kind) ≡ true → v .coord ≡ 0
 

@@ -3,7 +3,8 @@ use rules::Kind;
 
 pub mod areas;
 
-// What is kept of a version by value: its identifier, where the eight bytes of its FOID stand, and how many items each area of the workspace holds.
+// What is kept of a version by value: its identifier, where the eight bytes of its FOID stand, how many items each area of the workspace holds, and
+// the sizes that are no multiples of these counts: the bytes of the attributes' tuples, and those of the INAS fields, the 1E of each included.
 pub struct Version {
     pub kind: Kind,
     pub rcid: u32,
@@ -16,6 +17,8 @@ pub struct Version {
     pub inas: usize,
     pub coord: usize,
     pub spas: usize,
+    pub attrbytes: usize,
+    pub inasbytes: usize,
 }
 
 // What stands under a key: nothing, or a record that the workspace holds.

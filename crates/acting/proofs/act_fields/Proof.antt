@@ -19,7 +19,7 @@ add-end : tie.Need-add-end Inv-loop μ-loop
 add-end c = record { fits = modify-word _ _ _ _ _ (c .before .before .before .pre .2) (c .before .before .before .pre .0) }
 
 loop-holds : tie.Need-loop-holds Inv-loop μ-loop
-loop-holds c = going-start _ _ _ _ _ _ _ (c .before .before .before .pre .0) (c .before .before .before .pre .1) (c .before .before .before .pre .2) (c .before .before .before .pre .3) (c .before .before .before .pre .4) (λ k. omega (arith, c .before .before .shared-slice-known .given k)) (λ k. omega (arith, c .before .shared-slice-known2 .given k))
+loop-holds c = going-start _ _ _ _ _ _ _ (c .before .before .before .pre .0) (c .before .before .before .pre .1) (c .before .before .before .pre .2) (c .before .before .before .pre .3) (c .before .before .before .pre .4) (c .before .before .before .pre .5) (λ k. omega (arith, c .before .before .shared-slice-known .given k)) (λ k. omega (arith, c .before .shared-slice-known2 .given k))
 
 sub-place-at : tie.Need-sub-place-at Inv-loop μ-loop
 sub-place-at c = from-start _ _

@@ -5,13 +5,13 @@ use Rattle.acting.proofs.part.act_field.Statement.{statement}
 use Rattle.acting.proofs.part.act_field.Tie as tie
 
 act-attr-requires : tie.Need-act-attr-requires
-act-attr-requires c κs = ready-as _ _ _ _ _ _ (c .before .before .before .before .before .pre .0) ATTR (c .before .if1 .taken)
+act-attr-requires c κs = (ready-as _ _ _ _ _ _ (c .before .before .before .before .before .pre .0) ATTR (c .before .if1 .taken), c .before .before .before .before .before .pre .6)
 
 same-length : tie.Need-same-length
-same-length c = c .before .before .act-attr .kept .1 .1 .1 .1 .0
+same-length c = c .before .before .act-attr .kept .1 .1 .1 .1 .1 .0
 
 returns : tie.Need-returns
-returns c = acts-as _ _ _ _ _ _ _ _ _ ATTR (c .before .before .before .before .if1 .taken) (c .before .before .act-attr .ensures _ _)
+returns c = acts-as _ _ _ _ _ _ _ _ _ ATTR (c .before .before .before .before .if1 .taken) (c .before .before .act-attr .ensures _)
 
 act-inas-requires : tie.Need-act-inas-requires
 act-inas-requires c κs = (ready-as _ _ _ _ _ _ (c .before .before .before .before .before .before .pre .0) INAS (c .before .if2 .taken), c .before .before .before .before .before .before .pre .3, c .before .before .before .before .before .before .pre .5)

@@ -16,8 +16,8 @@ mul-close-gap-2 c = search needs
 close-gap-requires : tie.Need-close-gap-requires
 close-gap-requires c κs = search needs
 
-sub-t13 : tie.Need-sub-t13
-sub-t13 c = search needs
+sub-t12 : tie.Need-sub-t12
+sub-t12 c = search needs
 
 same-length : tie.Need-same-length
 same-length c = search needs
@@ -39,7 +39,7 @@ leave-cells-spec =
     mul-close-gap
     mul-close-gap-2
     close-gap-requires
-    sub-t13
+    sub-t12
     same-length
     returns
     same-length-2

@@ -8,7 +8,7 @@ use Rattle.changing.proofs.acts.revise.Statement.{statement}
 use Rattle.changing.proofs.acts.revise.Tie as tie
 
 act-fields-requires : tie.Need-act-fields-requires
-act-fields-requires c κs = let g = c .before .before .before .before .pre in (g .0 .2, g .0 .3, g .0 .0, g .0 .4, (g .1 .0 .parts, g .1 .1 .parts))
+act-fields-requires c κs = let g = c .before .before .before .before .pre in (g .0 .2, g .0 .3, g .0 .0, g .0 .4, (g .1 .0 .parts, g .1 .1 .parts), g .0 .1)
 
 enum-known-n : tie.Need-enum-known-n
 enum-known-n c = search needs

@@ -17,6 +17,9 @@ part-load-end c = search needs
 load-requires : tie.Need-load-requires
 load-requires c κs = attr-ready _ _ _ _ _ (c .before .before .before .pre)
 
+sub-r : tie.Need-sub-r
+sub-r c = search needs
+
 same-length : tie.Need-same-length
 same-length c = search needs
 
@@ -26,4 +29,4 @@ returns c = attr-took _ _ _ _ _ (c .before .before .before .before .before .befo
 
 pub load-attr-spec : {M : Type 1} → statement M
 load-attr-spec =
-    tie.close (tie.spec sub-load part-load-start part-load-end load-requires same-length returns)
+    tie.close (tie.spec sub-load part-load-start part-load-end load-requires sub-r same-length returns)

@@ -1,7 +1,7 @@
-use Rattle.emission.proofs.BodiesLaws.{inside-none, inside-all, inside-some}
+use Rattle.cells.proofs.LengthLaws.{inside-none, inside-all, inside-some}
 use borrow.Author.Needs.{needs}
-use Rattle.emission.proofs.bodies.inside.Statement.{statement}
-use Rattle.emission.proofs.bodies.inside.Tie as tie
+use Rattle.cells.proofs.length.inside.Statement.{statement}
+use Rattle.cells.proofs.length.inside.Tie as tie
 
 returns : tie.Need-returns
 returns c = inside-none _ _ _ (c .if1 .taken)

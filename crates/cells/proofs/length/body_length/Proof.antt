@@ -1,7 +1,7 @@
-use Rattle.emission.proofs.BodiesLaws.{length-old, length-new}
+use Rattle.cells.proofs.LengthLaws.{length-old, length-new}
 use borrow.Author.Needs.{needs}
-use Rattle.emission.proofs.bodies.body_length.Statement.{statement}
-use Rattle.emission.proofs.bodies.body_length.Tie as tie
+use Rattle.cells.proofs.length.body_length.Statement.{statement}
+use Rattle.cells.proofs.length.body_length.Tie as tie
 
 mul-u24-at : tie.Need-mul-u24-at
 mul-u24-at c = search needs
