@@ -1,25 +1,16 @@
 // Blocks of 64 items, weighed at once: the compiler makes vector code of the loop, so that a search passes thousands of items in no time.
 ghost use mathlib.Core.Path.{_≡_};
 ghost use Prim.Native.Nat.{_+_, _*_, _≤_, _<_};
-ghost use lib.ListN.{length, getD};
-ghost use Rattle.items.specs.Items.{depthOf, codeOf};
+ghost use lib.ListN.{length};
+ghost use Rattle.items.specs.Items.{u16};
 ghost use Rattle.edits.specs.Walks.{heft, weight};
 
-// A byte as a wider number.
-fn byte(w: &[u8], at: usize) -> u32
-    requires { ⌜ at + 1 ≤ length (now w) ⌝ }
-    ensures { λ r. ⌜ (r ≡ getD (now (w .entry)) at 0) × (r < 256) ⌝ }
+// Two numbers of two bytes, such as the depth and the code of an item, as one: the compiler reads the four bytes at once.
+fn label(w: &[u8], at: usize) -> u32
+    requires { ⌜ at + 4 ≤ length (now w) ⌝ }
+    ensures { λ r. ⌜ (r ≡ u16 (now (w .entry)) at + 65536 * u16 (now (w .entry)) (at + 2)) × (u16 (now (w .entry)) at < 65536) ⌝ }
 {
-    w[at] as u32
-}
-
-// The depth and the code of item i in one number, so that the four bytes are read at once.
-fn label(w: &[u8], i: usize) -> u32
-    requires { ⌜ 8 * i + 8 ≤ length (now w) ⌝ }
-    ensures { λ r. ⌜ (r ≡ depthOf (now (w .entry)) i + 65536 * codeOf (now (w .entry)) i) × (depthOf (now (w .entry)) i < 65536) ⌝ }
-{
-    let at = 8 * i;
-    byte(w, at) + 256 * byte(w, at + 1) + 65536 * byte(w, at + 2) + 16777216 * byte(w, at + 3)
+    fields::le32(w, at)
 }
 
 // What item i weighs.
@@ -27,7 +18,7 @@ fn heft_of(w: &[u8], i: usize, depth: u32, code: u32) -> u32
     requires { ⌜ (8 * i + 8 ≤ length (now w)) × (depth < 65536) × (code < 65536) ⌝ }
     ensures { λ r. ⌜ (r ≡ heft (now (w .entry)) i depth code) × (r ≤ 65536) ⌝ }
 {
-    let x = label(w, i);
+    let x = label(w, 8 * i);
     if x % 65536 < depth {
         return 65536;
     }

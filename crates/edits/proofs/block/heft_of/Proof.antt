@@ -5,6 +5,9 @@ use borrow.Author.Needs.{needs}
 use Rattle.edits.proofs.block.heft_of.Statement.{statement}
 use Rattle.edits.proofs.block.heft_of.Tie as tie
 
+mul-label : tie.Need-mul-label
+mul-label c = search needs
+
 label-requires : tie.Need-label-requires
 label-requires c κs = search needs
 
@@ -36,4 +39,4 @@ returns-3 c =
     (sym (heft-other (a .w .now) (a .i) (a .depth) (a .code) (l .result) (omega (arith, c .before .if1 .left)) (l .ensures .0) (c .if2 .left)), omega arith)
 
 pub heft-of-spec : {M : Type 1} → statement M
-heft-of-spec = tie.close (tie.spec label-requires returns mul-if2 add-if2 returns-2 returns-3)
+heft-of-spec = tie.close (tie.spec mul-label label-requires returns mul-if2 add-if2 returns-2 returns-3)

@@ -1,76 +1,22 @@
-use mathlib.Core.Path.{_≡_}
-use Prim.Native.Nat.{_+_, _*_}
+use Prim.Native.Nat.{_+_}
+use Rattle.fields.proofs.ByteLaws.{le2, le4}
 use Rattle.items.specs.Items.{u16}
 use native.Mathlib.Omega.{arith}
 use borrow.Author.Needs.{needs}
 use Rattle.edits.proofs.block.label.Statement.{statement}
 use Rattle.edits.proofs.block.label.Tie as tie
 
-mul-at : tie.Need-mul-at
-mul-at c = search needs
-
-byte-requires : tie.Need-byte-requires
-byte-requires c κs = search needs
-
-add-byte : tie.Need-add-byte
-add-byte c = search needs
-
-byte-requires-2 : tie.Need-byte-requires-2
-byte-requires-2 c κs = search needs
-
-mul-result : tie.Need-mul-result
-mul-result c = search needs
-
-add-result : tie.Need-add-result
-add-result c = search needs
-
-add-byte-2 : tie.Need-add-byte-2
-add-byte-2 c = search needs
-
-byte-requires-3 : tie.Need-byte-requires-3
-byte-requires-3 c κs = search needs
-
-mul-result-2 : tie.Need-mul-result-2
-mul-result-2 c = search needs
-
-add-result-2 : tie.Need-add-result-2
-add-result-2 c = search needs
-
-add-byte-3 : tie.Need-add-byte-3
-add-byte-3 c = search needs
-
-byte-requires-4 : tie.Need-byte-requires-4
-byte-requires-4 c κs = search needs
-
-mul-result-3 : tie.Need-mul-result-3
-mul-result-3 c = search needs
-
-add-result-3 : tie.Need-add-result-3
-add-result-3 c = search needs
+le32-requires : tie.Need-le32-requires
+le32-requires c κs = search needs
 
 returns : tie.Need-returns
 unfolding u16
 returns c =
-    let a = c .before .before .before .before .before .args in
-    let p : 8 * a .i + 2 + 1 ≡ 8 * a .i + 3 = omega arith in
-    rw p (omega arith, omega arith)
+    let a = c .before .before .args in
+    let byte = c .before .shared-slice-known .given in (
+      omega (arith, c .le32 .ensures, le4 (a .w .now) (a .at) (omega arith), le2 (a .w .now) (a .at) (omega arith), le2 (a .w .now) (a .at + 2) (omega arith)),
+      omega (arith, byte (a .at), byte (a .at + 1)),
+    )
 
 pub label-spec : {M : Type 1} → statement M
-label-spec =
-    tie.close
-    (tie.spec
-    mul-at
-    byte-requires
-    add-byte
-    byte-requires-2
-    mul-result
-    add-result
-    add-byte-2
-    byte-requires-3
-    mul-result-2
-    add-result-2
-    add-byte-3
-    byte-requires-4
-    mul-result-3
-    add-result-3
-    returns)
+label-spec = tie.close (tie.spec le32-requires returns)
