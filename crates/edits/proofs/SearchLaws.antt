@@ -266,10 +266,6 @@ spot-bound w i n d c k m h =
     (lt-or-le m k))
     (eq-or-ne k 0)
 
--- an index that is such a place
-pub spot-within : (w : List ℕ) (i n d c k m r : ℕ) → i ≤ n → r ≡ spotOf w i n d c k m → (r ≡ spotOf w i n d c k m) × (i ≤ r) × (r ≤ n)
-spot-within w i n d c k m r h e = let b = spot-bound w i n d c k m h in (e, omega arith, omega arith)
-
 -- after item i and what is below it, where that is the last twin
 pub spot-last : (w : List ℕ) (i n d c k : ℕ) → i < n → d ≤ depthOf w i → twinAt w i d c ≡ 1 → twins w (i + 1) n d c ≡ 0 → (k ≡ 1 → ⊥)
     → spotOf w i n d c k (twins w i n d c) ≡ endOf w (i + 1) n (d + 1)
