@@ -45,23 +45,6 @@ stored-up {at} {n} {ys} {d₀} {i} {j} {d} s {v} h e =
       is = rw (longer, put-one (at + j) v d, s .is, next) (put-put (at + i) run (v ∷ []) d₀);
     }
 
--- a turn upwards that stores m elements
-pub stored-up-run : {at n : ℕ} {ys d₀ : List ℕ} {i j : ℕ} {d : List ℕ} → Stored at n ys d₀ i j d → (m : ℕ) {vs : List ℕ} → j + m ≤ n → vs ≡ part j m ys
-    → Stored at n ys d₀ i (j + m) (put (at + j) vs d)
-stored-up-run {at} {n} {ys} {d₀} {i} {j} {d} s m {vs} h e =
-    let run : List ℕ = part i (j - i) ys in
-    let next : at + j ≡ at + i + length run = omega (arith, length-part i (j - i) ys (omega (arith, s .size))) in
-    let more : j + m - i ≡ j - i + m = omega arith in
-    let last : i + (j - i) ≡ j = omega arith in
-    let longer : part i (j + m - i) ys ≡ run ++ vs = rw (more, part-join i (j - i) m ys, last, e) in
-    record {
-      size = s .size;
-      order = omega arith;
-      within = h;
-      long = length-put (at + j) vs d ∙ s .long;
-      is = rw (longer, s .is, next) (put-put (at + i) run vs d₀);
-    }
-
 -- a turn downwards
 pub stored-down : {at n : ℕ} {ys d₀ : List ℕ} {i j : ℕ} {d : List ℕ} → Stored at n ys d₀ i j d → {v : ℕ} → 0 < i → v ≡ getD ys (i - 1) 0
     → Stored at n ys d₀ (i - 1) j (set d (at + (i - 1)) v)

@@ -199,17 +199,7 @@ part-over from n s d h e = part-put-here 0 n (part from n s) d (length-part from
 
 -- ---- a part moved in two steps
 
--- down: the first a elements, then the others, which the first step left alone
-pub move-first : (at from a n : ℕ) (w : List ℕ) → at ≤ from → a ≤ n → from + n ≤ length w
-    → put (at + a) (part (from + a) (n - a) (put at (part from a w) w)) (put at (part from a w) w) ≡ put at (part from n w) w
-move-first at from a n w h l room =
-    let size : length (part from a w) ≡ a = length-part from a w (omega arith) in
-    let all : a + (n - a) ≡ n = omega arith in
-    let both : put (at + a) (part (from + a) (n - a) w) (put at (part from a w) w) ≡ put at (part from (a + (n - a)) w) w =
-    rw (part-join from a (n - a) w, ← put-put at (part from a w) (part (from + a) (n - a) w) w, size) in
-    rw (part-put-above (from + a) (n - a) at (part from a w) w (omega arith)) (rw all at both)
-
--- up: the elements from number a on, then the first a
+-- the elements from number a on, then the first a, which the first step left alone
 pub move-last : (at from a n : ℕ) (w : List ℕ) → from ≤ at → a ≤ n → at + n ≤ length w
     → put at (part from a (put (at + a) (part (from + a) (n - a) w) w)) (put (at + a) (part (from + a) (n - a) w) w) ≡ put at (part from n w) w
 move-last at from a n w h l room =

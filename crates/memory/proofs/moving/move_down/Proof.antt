@@ -1,43 +1,63 @@
--- `move_down` meets its contract: a part moved in two steps, the first of it first. Assumes nothing.
-use mathlib.Core.Path.{_∙_}
-use Rattle.memory.proofs.PutLaws.{move-first}
+-- `move_down` meets its contract: the first k of the n bytes are stored, and those that are read next lie above them. Assumes nothing.
+use Prim.Native.Nat.{_-_}
+use mathlib.Core.Logic.{inr}
+use Rattle.memory.specs.Put.{part}
+use Rattle.memory.proofs.PutLaws.{length-part, Outside}
+use Rattle.memory.proofs.LoopLaws.{Stored, stored-none, stored-up, stored-all, stored-unread}
 use native.Mathlib.Omega.{arith}
-use borrow.Author.Needs.{needs}
 use Rattle.memory.proofs.moving.move_down.Statement.{statement}
 use Rattle.memory.proofs.moving.move_down.Tie as tie
 
-blocks-down-requires : tie.Need-blocks-down-requires
-blocks-down-requires c κs = search needs
+abbrev Inv-loop : tie.InvT-loop
+Inv-loop w₀ from n at k₀ w k = Stored at n (part from n w₀) w₀ 0 k w
 
-add-bytes-down : tie.Need-add-bytes-down
-add-bytes-down c = search needs
+abbrev μ-loop : tie.MeasureT-loop
+μ-loop w₀ from n at k₀ w k = n - k
 
-sub-bytes-down : tie.Need-sub-bytes-down
-sub-bytes-down c = search needs
+loop-holds : tie.Need-loop-holds Inv-loop μ-loop
+loop-holds c = stored-none _ _ _ _ _ (length-part _ _ _ (omega arith)) (omega arith)
 
-add-bytes-down-2 : tie.Need-add-bytes-down-2
-add-bytes-down-2 c = search needs
+add-w : tie.Need-add-w Inv-loop μ-loop
+add-w c = omega arith
 
-bytes-down-requires : tie.Need-bytes-down-requires
-bytes-down-requires c κs = search needs
+slice-read-w : tie.Need-slice-read-w Inv-loop μ-loop
+slice-read-w c = omega arith
 
-same-length : tie.Need-same-length
-same-length c = search needs
+add-w-2 : tie.Need-add-w-2 Inv-loop μ-loop
+add-w-2 c = omega arith
 
-returns : tie.Need-returns
-returns c =
-    let a = c .before .before .before .before .before .before .before .before .before .args in
-    let b = c .before .before .before .before .before .before .blocks-down in
-    c .before .before .bytes-down .ensures ∙ rw (b .ensures .1) (move-first (a .at) (a .from) (b .result) (a .n) (a .w .now) (omega arith) (omega arith) (omega arith))
+slice-write-w : tie.Need-slice-write-w Inv-loop μ-loop
+slice-write-w c = omega arith
+
+add-k : tie.Need-add-k Inv-loop μ-loop
+add-k c = omega arith
+
+loop-less : tie.Need-loop-less Inv-loop μ-loop
+loop-less c = omega arith
+
+loop-again : tie.Need-loop-again Inv-loop μ-loop
+unfolding Outside
+loop-again c = let l = c .before .before .loop in let turn = c .before .loop-test .taken in stored-up (l .inv) turn (stored-unread _ (l .inv) (l .k) turn (inr (omega arith)))
+
+same-length : tie.Need-same-length Inv-loop μ-loop
+same-length c = c .before .loop .inv .long
+
+returns : tie.Need-returns Inv-loop μ-loop
+returns c = stored-all (c .before .loop .inv) (omega arith) (c .loop-test .left)
 
 pub move-down-spec : {M : Type 1} → statement M
 move-down-spec =
     tie.close
     (tie.spec
-    blocks-down-requires
-    add-bytes-down
-    sub-bytes-down
-    add-bytes-down-2
-    bytes-down-requires
+    Inv-loop
+    μ-loop
+    loop-holds
+    add-w
+    slice-read-w
+    add-w-2
+    slice-write-w
+    add-k
+    loop-less
+    loop-again
     same-length
     returns)
