@@ -22,7 +22,7 @@ pub record KnownTo (e : ℕ) (w : List ℕ) (i : ℕ) (k : List ℕ) : Type 0 wh
 abbrev pub Known : List ℕ → ℕ → List ℕ → Type 0
 Known w i k = KnownTo 8 w i k
 
--- the index and the parent of item i, and a number of items
+-- the index and the parent of item i; no more items were looked over than stand before it
 pub record NumbersOf (w : List ℕ) (i : ℕ) (r : Numbers) : Type 0 where
   pub index-is : r .index ≡ twinsBefore w (depthOf w i) (codeOf w i) i + 1
   pub parent-is : r .parent ≡ parentBefore w (depthOf w i) i

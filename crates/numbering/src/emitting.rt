@@ -57,7 +57,7 @@ fn put_tuple(
     put_value(s, u, w, i, out, p4)
 }
 
-// The n items of w as tuples, from `at` on, up to one where looking back took long; known: what is remembered of the items before.
+// The n items of w as tuples, from `at` on, up to one where looking back took longer than a book would; known: what is remembered of the items before.
 fn emit_items(
     s: &[u8],
     u: &[u8],
@@ -75,7 +75,7 @@ fn emit_items(
     let mut i = 0;
     let mut steps = 0;
     while i < n {
-        if 8192 < steps {
+        if 8192 + 32 * i < steps {
             return Part {
                 count: i,
                 behind: p,

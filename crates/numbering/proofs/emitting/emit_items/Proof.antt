@@ -1,4 +1,4 @@
-use Prim.Native.Nat.{_-_, _<_}
+use Prim.Native.Nat.{_+_, _-_, _*_, _<_}
 use Rattle.numbering.specs.Known.{Known}
 use Rattle.numbering.proofs.EmittingLaws.{EmitAt, emit-start, emit-long, emit-room, emit-known, begun-at}
 use borrow.Author.Needs.{needs}
@@ -7,13 +7,19 @@ use Rattle.numbering.proofs.emitting.emit_items.Statement.{statement}
 use Rattle.numbering.proofs.emitting.emit_items.Tie as tie
 
 abbrev Inv-loop : tie.InvT-loop
-Inv-loop s u w n known₀ out₀ at p₀ i₀ steps₀ known out p i steps = EmitAt s u w 0 n out₀ at out p i × Known w i known × (steps < 131072)
+Inv-loop s u w n known₀ out₀ at p₀ i₀ steps₀ known out p i steps = EmitAt s u w 0 n out₀ at out p i × Known w i known × (steps < 131072 + 32 * i)
 
 abbrev μ-loop : tie.MeasureT-loop
 μ-loop s u w n known₀ out₀ at p₀ i₀ steps₀ known out p i steps = n - i
 
 loop-holds : tie.Need-loop-holds Inv-loop μ-loop
 loop-holds c = (emit-start _ _ _ _ _ _ _ (omega arith), c .before .before .before .before .before .pre .0 .2, omega arith)
+
+mul-if1 : tie.Need-mul-if1 Inv-loop μ-loop
+mul-if1 c = search needs
+
+add-if1 : tie.Need-add-if1 Inv-loop μ-loop
+add-if1 c = search needs
 
 same-length : tie.Need-same-length Inv-loop μ-loop
 same-length c = search needs
@@ -60,6 +66,8 @@ emit-items-spec =
     Inv-loop
     μ-loop
     loop-holds
+    mul-if1
+    add-if1
     same-length
     same-length-2
     returns
