@@ -9,7 +9,7 @@ use second::generate::chart::{Chart, Kind, Node};
 use second::generate::{corpus, directed, form, random_case, table, Directed, Intent};
 use second::Answered;
 
-const CORPUS: usize = 5000;
+const CORPUS: usize = 5400;
 const SEEDS: [u64; 3] = [1, 2, 3];
 
 /// What an answer has in common with an intended one.
@@ -149,7 +149,7 @@ fn a_corpus_has_every_answer() {
     let cases = corpus(SEEDS[0], CORPUS, &OPERATIONS);
     assert_eq!(cases.len(), CORPUS);
     let bytes: usize = cases.iter().map(|case| case.dataset.len() + case.update.len()).sum();
-    assert!(bytes < 150_000_000, "{bytes} bytes");
+    assert!(bytes < 170_000_000, "{bytes} bytes");
     let (met, printed) = answers_met(&cases);
     println!("{met:?} {printed:?}");
     let missing: Vec<(u8, u32, u32)> = wanted().into_iter().filter(|answer| !met.contains_key(answer)).collect();

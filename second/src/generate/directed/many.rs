@@ -35,7 +35,7 @@ fn alike(count: u32) -> Vec<u32> {
 /// The first repeat is refused, wherever the first of the key stands and whatever is repeated later.
 fn repeats(table: &mut Table) {
     let multis = |rcids: &[u32]| headed(rcids.iter().map(|rcid| vec![mrid(*rcid, 1, 1)]));
-    for count in [9, 40, 2_100, 4_200] {
+    for count in [9, 40, 4_200, 8_300] {
         let rcids = alike(count);
         let all = rcids.len();
         read_done(table, &format!("{count} falling keys that are alike"), &multis(&rcids));
@@ -69,8 +69,8 @@ fn repeats_by_kind(table: &mut Table) {
     }
 }
 
-/// How many records one record names here: more than twice 2,047.
-const NAMED: u32 = 4_200;
+/// How many records one record names here: more than a book of 6,144 has, and nearly as many as fit.
+const NAMED: u32 = 6_400;
 
 /// The RCID of record n of those, above what any map has room for. Odd ones are absent.
 fn above(n: u32) -> u32 {
@@ -102,17 +102,17 @@ fn naming(rcid: u32, lists: &[&[Spatial]]) -> Vec<Field> {
 fn places(table: &mut Table) {
     let with = |features: Vec<Vec<Field>>| headed(falling_multis().into_iter().chain(features));
     let (all, last) = (all_named(), NAMED as usize - 1);
-    read_done(table, "4,200 places in one SPAS", &with(vec![naming(1, &[&all])]));
-    read_done(table, "4,200 places in two SPAS", &with(vec![naming(1, &[&all[..1_000], &all[1_000..]])]));
-    for place in [0, 2_046, 2_047, 2_048, last] {
+    read_done(table, "6,400 places in one SPAS", &with(vec![naming(1, &[&all])]));
+    read_done(table, "6,400 places in two SPAS", &with(vec![naming(1, &[&all[..1_000], &all[1_000..]])]));
+    for place in [0, 6_143, 6_144, 6_145, last] {
         let records = with(vec![naming(1, &[&one_loose(place)])]);
-        let name = format!("loose: place {place} of 4,200 in one SPAS");
+        let name = format!("loose: place {place} of 6,400 in one SPAS");
         table.dataset_by(READ, &name, file(&records), 11, NAMED as usize + 4);
     }
     let shared = |list: &[Spatial]| (1..).zip(list.chunks(300)).map(|(n, part)| naming(n, &[part])).collect();
-    read_done(table, "4,200 places in 14 features", &with(shared(&all)));
+    read_done(table, "6,400 places in 22 features", &with(shared(&all)));
     let records = with(shared(&one_loose(last)));
-    table.dataset_by(READ, "loose: the last of 4,200 places in 14 features", file(&records), 11, records.len());
+    table.dataset_by(READ, "loose: the last of 6,400 places in 22 features", file(&records), 11, records.len());
 }
 
 fn associations(table: &mut Table) {
@@ -130,29 +130,29 @@ fn associations(table: &mut Table) {
 fn places_in_results(table: &mut Table) {
     let given = headed(falling_multis());
     let moved = |n: u32| vec![mrid(above(n), 2, 3), cocc(1, 1, 1), c2il(&[(9, 9)])];
-    let acts = |list: &[Spatial]| with_heading(&[moved(7), naming(1, &[list]), moved(4_000)]);
+    let acts = |list: &[Spatial]| with_heading(&[moved(7), naming(1, &[list]), moved(6_000)]);
     let last = NAMED as usize - 1;
     let mut result = given.clone();
     result[1] = after()[1].clone();
-    for n in [7, 4_000] {
+    for n in [7, 6_000] {
         result[(NAMED - n) as usize + 2] = vec![mrid(above(n), 2, 1), c2il(&[(9, 9)])];
     }
     result.push(naming(1, &[&all_named()]));
-    table.update_done("4,200 places in an inserted SPAS", &given, &acts(&all_named()), &result);
+    table.update_done("6,400 places in an inserted SPAS", &given, &acts(&all_named()), &result);
     let written = file(&result);
     let length = written.len();
-    for room in [length - 1, length, length + 8, length + 33_000] {
+    for room in [length - 1, length, length + 8, length + 52_000] {
         let intent = match room < length {
             true => Intent::Refused(13, 3, 0),
             false => Intent::Done { written: written.clone(), count: result.len() },
         };
         let case = Case::update(file(&given), file(&acts(&all_named())), room as u32, WORK);
-        table.row(&format!("update: 4,200 places in an inserted SPAS, a room of {room}"), case, intent);
+        table.row(&format!("update: 6,400 places in an inserted SPAS, a room of {room}"), case, intent);
     }
-    for (place, room) in [(0, 500_000), (2_047, 500_000), (last, 500_000), (0, length), (last, length), (last, length - 1)] {
+    for (place, room) in [(0, 500_000), (6_143, 500_000), (last, 500_000), (0, length), (last, length), (last, length - 1)] {
         let case = Case::update(file(&given), file(&acts(&one_loose(place))), room as u32, WORK);
         let refused = Intent::Refused(11, 3, result.len());
-        table.row(&format!("update: place {place} of 4,200 in an inserted SPAS loose, a room of {room}"), case, refused);
+        table.row(&format!("update: place {place} of 6,400 in an inserted SPAS loose, a room of {room}"), case, refused);
     }
 }
 

@@ -6,6 +6,7 @@ mod disagreements;
 mod fields;
 mod files;
 mod keys;
+mod large;
 mod listings;
 mod many;
 mod order;
@@ -76,6 +77,7 @@ fn small_table() -> Table {
     sizes::rows(&mut table);
     listings::rows(&mut table);
     many::rows(&mut table);
+    large::rows(&mut table);
     table
 }
 
