@@ -1,12 +1,11 @@
 -- Laws of bodies found by their keys, of joining and of leaving. Assumes nothing.
-use Prim.Native.Nat.{ℕ, zero, suc, _+_, _-_, _*_, _%_, _≤_, _<_}
+use Prim.Native.Nat.{ℕ, zero, suc, _+_, _-_, _*_, _≤_, _<_}
 use mathlib.Core.Path.{_≡_, refl, sym, ap, _∙_}
 use mathlib.Core.Bool.{Bool, true, false}
 use mathlib.Core.List.{List, [], _∷_, _++_}
 use native.Mathlib.Nat.{zero-add, sub-zero}
 use native.Mathlib.Omega.{arith}
-use lib.ListN.{length, getD, take, drop, length-take, length-drop}
-use lib.Seq.{drop-drop}
+use lib.ListN.{length, take, drop, length-take, length-drop}
 use lib.Dec.{eqb}
 use borrow.Author.Tests.{eq-eqb, ne-eqb}
 use Rattle.base.specs.Choice.{pick}
@@ -14,9 +13,8 @@ use Rattle.base.specs.Check.{ok, bind, refuse}
 use Rattle.base.specs.Keys.{same, among, leave}
 use Rattle.base.specs.Lists.{each, Each}
 use Rattle.base.proofs.KeysLaws.{same-comm}
-use Rattle.fields.specs.Bytes.{le}
 use Rattle.fields.specs.Valid.{Bytes}
-use Rattle.fields.proofs.ByteLaws.{le2, le4, bytes-drop, bytes-take}
+use Rattle.fields.proofs.ByteLaws.{bytes-drop, bytes-take}
 use Rattle.fields.proofs.TupleLaws.{split}
 use Rattle.items.specs.Items.{source}
 use Rattle.cells.specs.Cells.{u24, startOf, sliceOf, sizeOf, bodyAt, bodiesFrom}
@@ -85,43 +83,6 @@ module _ (d u c : List ℕ) (i start : ℕ) (inas : Bool) (es : start ≡ u24 c 
 
     pub update-key : (sliceOf c i ≡ 0 → ⊥) → r ≡ same (keyIn inas (drop start u)) k → r ≡ same (keyIn inas (bodyAt d u c i)) k
     update-key n x = x ∙ ap (λ (y : List ℕ). same y k) (sym (key-there ∙ rw (in-update n)))
-
--- ---- the second number of a key, where the cell's place and slice are read as one number
-
--- it is the place, and the slice above it
-module _ (c : List ℕ) (i v : ℕ) (h : 7 * i + 7 ≤ length c) (small : (k : ℕ) → getD c k 0 < 256) (ev : v ≡ le 4 (drop (7 * i) c)) where
-  two-in-one : (v ≡ u24 c (7 * i) + 16777216 * sliceOf c i) × (u24 c (7 * i) < 16777216)
-  unfolding u24
-  two-in-one =
-      let a = le4 c (7 * i) (omega arith) in
-      let b = le2 c (7 * i) (omega arith) in
-      let e = le2 c (7 * i + 2) (omega arith) in
-      let three : 7 * i + 2 + 1 ≡ 7 * i + 3 = omega arith in
-      let e′ = rw three at e in
-      (omega arith, omega (arith, small (7 * i), small (7 * i + 1), small (7 * i + 2)))
-
-  in-front : v < 16777216 → (v ≡ u24 c (7 * i)) × (sliceOf c i ≡ 0)
-  in-front l = let t = two-in-one in (omega arith, omega arith)
-
-  above : 16777216 ≤ v → (v % 16777216 ≡ u24 c (7 * i)) × (sliceOf c i ≡ 0 → ⊥)
-  above l = let t = two-in-one in (omega arith, λ e. omega arith)
-
-  module _ (d u : List ℕ) (long : Long 5 (bodyAt d u c i)) where
-    id-there : (start : ℕ) → start ≡ u24 c (7 * i) → le 4 (drop 1 (bodyAt d u c i)) ≡ le 4 (drop (start + 1) (source (sliceOf c i) d u))
-    unfolding keyIn
-    id-there start es = ap (λ (l : List ℕ). getD l 1 0) (key-there d u c i start false es long) ∙ ap (le 4) (drop-drop 1 start (source (sliceOf c i) d u))
-
-    pub id-dataset-room : v < 16777216 → v + 1 + 4 ≤ length d
-    id-dataset-room l = let t = in-front l in omega (arith, dataset-room d u c i v false (t .0) long (t .1))
-
-    pub id-update-room : 16777216 ≤ v → v % 16777216 + 1 + 4 ≤ length u
-    id-update-room l = let t = above l in omega (arith, update-room d u c i (v % 16777216) false (t .0) long (t .1))
-
-    pub id-dataset : v < 16777216 → (r : ℕ) → r ≡ le 4 (drop (v + 1) d) → r ≡ le 4 (drop 1 (bodyAt d u c i))
-    id-dataset l r e = let t = in-front l in e ∙ sym (id-there v (t .0) ∙ rw (in-dataset d u c i v false (t .0) long (t .1)))
-
-    pub id-update : 16777216 ≤ v → (r : ℕ) → r ≡ le 4 (drop (v % 16777216 + 1) u) → r ≡ le 4 (drop 1 (bodyAt d u c i))
-    id-update l r e = let t = above l in e ∙ sym (id-there (v % 16777216) (t .0) ∙ rw (in-update d u c i (v % 16777216) false (t .0) long (t .1)))
 
 pub ruleset cell-ways = (dataset-room, update-room, dataset-key, update-key)
 

@@ -9,7 +9,7 @@ use borrow.Author.Tests.{eq-eqb, ne-eqb, not-true, not-false}
 use lib.ListN.{take, drop}
 use lib.Seq.{drop-drop}
 use lib.Dec.{eqb}
-use Rattle.base.specs.Choice.{pick, both}
+use Rattle.base.specs.Choice.{both}
 use Rattle.base.specs.Keys.{same}
 use Rattle.fields.specs.Bytes.{le}
 use Rattle.cells.specs.Keys.{keyIn, keySize}
@@ -70,18 +70,6 @@ module _ (a b : List ℕ) (i j : ℕ) (x y : ℕ) (ex : x ≡ le 1 (drop i a)) (
         fourth-decides g r s er es =
             rw (not-false inas long)
             (simp (drop-drop, ← ex, ← ey, eq-eqb x y e, ← ez, ← ew, eq-eqb z w f, ← ep, ← eq, eq-eqb p q g, ← er, ← es) (last-both (eqb r s)))
-
--- ---- a key whose second number differs
-
-neither : (t u : Bool) → false ≡ both t (both false u)
-neither true u = refl
-neither false u = refl
-
-pub id-differs : (a b : List ℕ) (j x y : ℕ) → x ≡ le 4 (drop 1 a) → y ≡ le 4 (drop (j + 1) b) → (inas : Bool) → (x ≡ y → ⊥) → false ≡ same (keyIn inas a) (keyIn inas (drop j b))
-unfolding keyIn same
-id-differs a b j x y ex ey inas n =
-    simp (drop-drop, ← ex, ← ey, ne-eqb x y n)
-    (neither (eqb (le 1 a) (le 1 (drop j b))) (same (pick inas (le 2 (drop 5 a) ∷ le 2 (drop 7 a) ∷ []) []) (pick inas (le 2 (drop (j + 5) b) ∷ le 2 (drop (j + 7) b) ∷ []) [])))
 
 -- ---- the bytes of a key are there
 

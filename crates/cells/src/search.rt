@@ -8,7 +8,6 @@ ghost use Prim.Native.Nat.{_+_, _*_, _≤_, _<_};
 ghost use lib.ListN.{length, drop};
 ghost use Rattle.base.specs.Keys.{same};
 ghost use Rattle.base.specs.Lists.{Each};
-ghost use Rattle.fields.specs.Bytes.{le};
 ghost use Rattle.cells.specs.Cells.{bodyAt, bodiesOf};
 ghost use Rattle.cells.specs.Keys.{keyIn, keySize, firstWith, Long};
 
@@ -44,38 +43,14 @@ fn has_key(d: &[u8], u: &[u8], c: &[u8], i: usize, at: usize, inas: bool) -> boo
     same_key(u, start, u, at, inas)
 }
 
-// RRID of the body of cell i. A cell's place and slice are read as one number, which is small where the slice is the dataset.
-fn id_at(d: &[u8], u: &[u8], c: &[u8], i: usize) -> u32
-    requires { ⌜ (7 * i + 7 ≤ length (now c)) × Long 5 (bodyAt (now d) (now u) (now c) i) ⌝ }
-    ensures { λ r. ⌜ r ≡ le 4 (drop 1 (bodyAt (now (d .entry)) (now (u .entry)) (now (c .entry)) i)) ⌝ }
-{
-    let place = le32(c, 7 * i) as usize;
-    if place < 16777216 {
-        return le32(d, place + 1);
-    }
-    le32(u, place % 16777216 + 1)
-}
-
-// Whether the body of cell i has the key at `at` of u, in which RRID is id. Most bodies differ in that.
-fn has_key_of(d: &[u8], u: &[u8], c: &[u8], i: usize, at: usize, inas: bool, id: u32) -> bool
-    requires { ⌜ (7 * i + 7 ≤ length (now c)) × Long (keySize inas) (bodyAt (now d) (now u) (now c) i) × (at + keySize inas ≤ length (now u)) × (id ≡ le 4 (drop (at + 1) (now u))) ⌝ }
-    ensures { λ r. ⌜ r ≡ same (keyIn inas (bodyAt (now (d .entry)) (now (u .entry)) (now (c .entry)) i)) (keyIn inas (drop at (now (u .entry)))) ⌝ }
-{
-    if id_at(d, u, c, i) != id {
-        return false;
-    }
-    has_key(d, u, c, i, at, inas)
-}
-
 // The first of n cells whose body has the key at `at` of u; n where none has it.
 pub fn find(d: &[u8], u: &[u8], c: &[u8], n: usize, at: usize, inas: bool) -> usize
     requires { ⌜ (7 * n ≤ length (now c)) × (at + keySize inas ≤ length (now u)) × Each (Long (keySize inas)) (bodiesOf (now d) (now u) (now c) n) ⌝ }
     ensures { λ r. ⌜ r ≡ firstWith (keyIn inas) (keyIn inas (drop at (now (u .entry)))) (bodiesOf (now (d .entry)) (now (u .entry)) (now (c .entry)) n) ⌝ }
 {
-    let id = le32(u, at + 1);
     let mut i = 0;
     while i < n {
-        if has_key_of(d, u, c, i, at, inas, id) {
+        if has_key(d, u, c, i, at, inas) {
             return i;
         }
         i += 1;

@@ -1,5 +1,4 @@
 -- `find` meets its contract. Assumes nothing.
-use Rattle.cells.proofs.KeyLaws.{key-ways}
 use Rattle.cells.proofs.FindLaws.{search-turn}
 use mathlib.Core.Path.{_≡_}
 use Prim.Native.Nat.{_+_, _-_, _≤_}
@@ -11,22 +10,16 @@ use Rattle.cells.proofs.search.find.Statement.{statement}
 use Rattle.cells.proofs.search.find.Tie as tie
 
 abbrev Inv-loop : tie.InvT-loop
-Inv-loop d u c n at inas id i₀ i = (i ≤ n) × (i + firstWith (keyIn inas) (keyIn inas (drop at u)) (bodiesFrom d u c i (n - i)) ≡ firstWith (keyIn inas) (keyIn inas (drop at u)) (bodiesFrom d u c 0 n))
+Inv-loop d u c n at inas i₀ i = (i ≤ n) × (i + firstWith (keyIn inas) (keyIn inas (drop at u)) (bodiesFrom d u c i (n - i)) ≡ firstWith (keyIn inas) (keyIn inas (drop at u)) (bodiesFrom d u c 0 n))
 
 abbrev μ-loop : tie.MeasureT-loop
-μ-loop d u c n at inas id i₀ i = n - i
-
-add-le32 : tie.Need-add-le32 Inv-loop μ-loop
-add-le32 c = search key-ways
-
-le32-requires : tie.Need-le32-requires Inv-loop μ-loop
-le32-requires c κs = search key-ways
+μ-loop d u c n at inas i₀ i = n - i
 
 loop-holds : tie.Need-loop-holds Inv-loop μ-loop
 loop-holds c = (omega arith, search search-turn)
 
-has-key-of-requires : tie.Need-has-key-of-requires Inv-loop μ-loop
-has-key-of-requires c κs = (omega arith, search search-turn, omega arith, c .before .before .le32 .ensures)
+has-key-requires : tie.Need-has-key-requires Inv-loop μ-loop
+has-key-requires c κs = (omega arith, search search-turn, omega arith)
 
 returns : tie.Need-returns Inv-loop μ-loop
 returns c = search search-turn
@@ -49,10 +42,8 @@ find-spec =
     (tie.spec
     Inv-loop
     μ-loop
-    add-le32
-    le32-requires
     loop-holds
-    has-key-of-requires
+    has-key-requires
     returns
     add-i
     loop-less
