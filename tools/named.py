@@ -36,8 +36,8 @@ def main():
             faults.append(f"docs/RULES.md: {crate}/{module}.{name} is no definition")
     decisions = ROOT / "docs/DECISIONS.md"
     if decisions.exists():
-        mapped = set(re.findall(r"^\| ([A-G]\d+) \|", text, re.M))
-        for label in re.findall(r"^\| ([A-G]\d+) \|", decisions.read_text(), re.M):
+        mapped = set(re.findall(r"^\| ([A-Z]\d+) \|", text, re.M))
+        for label in re.findall(r"^\| ([A-Z]\d+) \|", decisions.read_text(), re.M):
             if label not in mapped:
                 faults.append(f"docs/RULES.md: point {label} of docs/DECISIONS.md is not on it")
     for fault in faults:

@@ -1,3 +1,4 @@
 pub mod NumberedLaws
 pub mod ShownLaws
 pub mod FieldLaws
+pub mod MonthLaws

@@ -1,3 +1,4 @@
 pub mod Numbered
 pub mod Shown
 pub mod Field
+pub mod Monthly

@@ -4,6 +4,7 @@ use display::begin;
 use display::hand;
 use fieldwise::file::field_of_record;
 use fieldwise::numbered::Found;
+use month::month;
 use reader::read;
 use rules::Answer;
 use updater::update;
@@ -13,10 +14,12 @@ ghost use lib.ListN.{length};
 ghost use Rattle.memory.specs.Hold.{hold};
 ghost use Rattle.listing.specs.Listed.{listed};
 ghost use Rattle.rules.specs.Answers.{read as theAnswer, Output, write as theOutput, update as theUpdated, workAfter};
-ghost use Rattle.console.specs.Numbered.{numbered};
+ghost use Rattle.base.specs.Choice.{pick};
+ghost use Rattle.console.specs.Numbered.{numbered, threeOf};
 ghost use Rattle.console.specs.Shown.{Begins, Hands};
 ghost use Rattle.fieldwise.specs.InFile.{fieldInFile};
-ghost use Rattle.console.specs.Field.{there, threeOf, fieldNumbers};
+ghost use Rattle.console.specs.Field.{there, fieldNumbers};
+ghost use Rattle.console.specs.Monthly.{Monthly};
 
 // The answer's five numbers go into the first five places of `answer`: number, file, record, length, count. A shorter slice is left as it is.
 fn put_answer(a: Answer, answer: &mut [u64])
@@ -110,26 +113,56 @@ pub extern "C" fn ezdurvash_hand(
     r.chart.length
 }
 
-// A field's tag, where its body starts and where that ends go into the first three places of `field`. A shorter slice is left as it is.
-fn put_field(tag: u32, start: usize, end: usize, field: &mut [u64])
-    ensures { λ _. ⌜ now (field .exit) ≡ threeOf tag start end (now (field .entry)) ⌝ }
+// Three numbers go into the first three places of `out`. A shorter slice is left as it is.
+fn put_three(a: usize, b: usize, c: usize, out: &mut [u64])
+    ensures { λ _. ⌜ now (out .exit) ≡ threeOf a b c (now (out .entry)) ⌝ }
 {
-    if field.len() < 3 {
+    if out.len() < 3 {
         return;
     }
-    field[0] = tag as u64;
-    field[1] = start as u64;
-    field[2] = end as u64;
+    out[0] = a as u64;
+    out[1] = b as u64;
+    out[2] = c as u64;
 }
 
-// The field of a number in the record of a number of a file, both from 1; the result is 1 where there is one, else 0.
+// The number of a pool.
+fn pool_number(second: bool) -> usize
+    ensures { λ n. ⌜ n ≡ pick second 2 1 ⌝ }
+{
+    if second {
+        return 2;
+    }
+    1
+}
+
+// A month of updates: the files of a list, each preceded by its length in four bytes, are applied one by one to the dataset of `size` bytes in the
+// first pool. How many were applied, the pool of the result, 1 or 2, and its length there go into the first three places of `result`.
+#[no_mangle]
+pub extern "C" fn ezdurvash_month(
+    list: &[u8],
+    first: &mut [u8],
+    size: usize,
+    second: &mut [u8],
+    work: &mut [u8],
+    answer: &mut [u64],
+    result: &mut [u64],
+)
+    ensures { λ _. ⌜ Monthly (now (list .entry)) (now (first .entry)) size (now (second .entry)) (now (work .entry)) (now (answer .entry)) (now (result .entry)) (now (first .exit)) (now (second .exit)) (now (work .exit)) (now (answer .exit)) (now (result .exit)) ⌝ }
+{
+    let m = month(list, first, size, second, work);
+    put_answer(m.answer, answer);
+    put_three(m.applied, pool_number(m.second), m.length, result);
+}
+
+// The field of a number in the record of a number of a file, both from 1: its tag, where its body starts and where that ends go into the first three
+// places of `field`. The result is 1 where there is one, else 0.
 #[no_mangle]
 pub extern "C" fn ezdurvash_field(file: &[u8], m: usize, n: usize, field: &mut [u64]) -> usize
     ensures { λ r. ⌜ (r ≡ there (fieldInFile (now (file .entry)) m n)) × (now (field .exit) ≡ fieldNumbers (fieldInFile (now (file .entry)) m n) (now (field .entry))) ⌝ }
 {
     match field_of_record(file, m, n) {
         Found::Field { tag, start, end } => {
-            put_field(tag, start, end, field);
+            put_three(tag as usize, start, end, field);
             1
         }
         Found::Nothing => 0,

@@ -14,6 +14,7 @@ use Rattle.rules.specs.Answers.{Output, Written, refusal, success, outputOf, wr
 use Rattle.rules.specs.declared.Answer.{Answer}
 use Rattle.sequence.proofs.Tests.{by-bool}
 use Rattle.displays.specs.Display.{taken}
+use Rattle.updater.specs.Stages.{TestedIf}
 use Rattle.display.specs.Pools.{pool, other, chartIn, nextChart, Handed, Begun, Followed}
 use Rattle.display.specs.declared.Chart.{Chart}
 use Rattle.display.specs.declared.Shown.{Shown}
@@ -48,6 +49,20 @@ handed-front n from file o w k a o′ w′ e x y z =
       built = y ∙ ap (λ (c : List ℕ). (update c file (length o) (length w)) .out) s;
       zero = z;
     }
+
+-- what is known of the front of a pool is known of what is lent of it
+pub tested-front : (t : Bool) (n : ℕ) (from : List ℕ) (k : ℕ) → k ≡ pick (ltb n (length from)) n (length from) → TestedIf t (take n from) → TestedIf t (take (k - 0) (drop 0 from))
+tested-front t n from k e p h = rw (held-front n from k e) (p h)
+
+-- and what is known of the chart, of its pool's front
+module _ (t : Bool) (c : Chart) (first second : List ℕ) (p : TestedIf t (chartIn c first second)) where
+  pub tested-second : c .second ≡ true → TestedIf t (take (c .length) second)
+  unfolding chartIn pool
+  tested-second h e = let z = p e in rw h at z
+
+  pub tested-first : c .second ≡ false → TestedIf t (take (c .length) first)
+  unfolding chartIn pool
+  tested-first h e = let z = p e in rw h at z
 
 -- ---- where the chart stands next
 

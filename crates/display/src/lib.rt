@@ -1,13 +1,14 @@
 // A display that follows the master. It has two pools: one holds its chart, and what a file makes of the chart is built in the other while the chart
 // stays in use.
 use rules::Answer;
-use updater::update;
+use updater::update_tested;
 use writer::write;
 ghost use mathlib.Core.Path.{_≡_};
 ghost use lib.ListN.{length, take};
 ghost use lib.Dec.{ltb};
 ghost use Rattle.base.specs.Choice.{pick};
-ghost use Rattle.display.specs.Pools.{nextChart, Handed, Begun, Followed};
+ghost use Rattle.updater.specs.Stages.{TestedIf};
+ghost use Rattle.display.specs.Pools.{chartIn, nextChart, Handed, Begun, Followed};
 
 // Where the chart stands: in the second pool or in the first, and its length there.
 pub struct Chart {
@@ -32,11 +33,19 @@ fn held(length: usize, room: usize) -> usize
 }
 
 // Hands a file to the updater with the chart at the front of a pool; the result is built in the other pool.
-fn hand_over(from: &[u8], length: usize, file: &[u8], to: &mut [u8], work: &mut [u8]) -> Answer
+fn hand_over(
+    tested: bool,
+    from: &[u8],
+    length: usize,
+    file: &[u8],
+    to: &mut [u8],
+    work: &mut [u8],
+) -> Answer
+    requires { ⌜ TestedIf tested (take length (now from)) ⌝ }
     ensures { λ a. ⌜ Handed (take length (now (from .entry))) (now (file .entry)) (now (to .entry)) (now (work .entry)) a (now (to .exit)) (now (work .exit)) ⌝ }
 {
     let n = held(length, from.len());
-    update(&from[0..n], file, to, work)
+    update_tested(tested, &from[0..n], file, to, work)
 }
 
 // Where the chart stands after an answer: where that is done, in the other pool.
@@ -66,6 +75,33 @@ pub fn begin(dataset: &[u8], first: &mut [u8]) -> Shown
     }
 }
 
+// As `hand`; a chart that is known to pass its own tests, since the updater wrote it, is not tested again.
+pub fn hand_tested(
+    tested: bool,
+    chart: Chart,
+    first: &mut [u8],
+    second: &mut [u8],
+    file: &[u8],
+    work: &mut [u8],
+) -> Shown
+    requires { ⌜ TestedIf tested (chartIn chart (now first) (now second)) ⌝ }
+    ensures { λ r. ⌜ Followed chart (now (first .entry)) (now (second .entry)) (now (file .entry)) (length (now (work .entry))) r (now (first .exit)) (now (second .exit)) (now (work .exit)) ⌝ }
+{
+    let length = chart.length;
+    if chart.second {
+        let answer = hand_over(tested, second, length, file, first, work);
+        return Shown {
+            answer,
+            chart: next_chart(chart, answer),
+        };
+    }
+    let answer = hand_over(tested, first, length, file, second, work);
+    Shown {
+        answer,
+        chart: next_chart(chart, answer),
+    }
+}
+
 // A file reaches the display.
 pub fn hand(
     chart: Chart,
@@ -76,17 +112,5 @@ pub fn hand(
 ) -> Shown
     ensures { λ r. ⌜ Followed chart (now (first .entry)) (now (second .entry)) (now (file .entry)) (length (now (work .entry))) r (now (first .exit)) (now (second .exit)) (now (work .exit)) ⌝ }
 {
-    let length = chart.length;
-    if chart.second {
-        let answer = hand_over(second, length, file, first, work);
-        return Shown {
-            answer,
-            chart: next_chart(chart, answer),
-        };
-    }
-    let answer = hand_over(first, length, file, second, work);
-    Shown {
-        answer,
-        chart: next_chart(chart, answer),
-    }
+    hand_tested(false, chart, first, second, file, work)
 }

@@ -63,7 +63,7 @@ room-inv room d w e =
     (λ g. (ltb-false 16777216 (length (writtenBytes d)) h, ltb-false room (length (writtenBytes d)) g, done-inj (formOf d) w (rw (h, g) at e))))
 
 -- a file that was read, from any bytes that are short enough
-outcome-inv : (f : List ℕ) (d : Dataset) → readOutcome f ≡ done d → readDataset f ≡ done d
+pub outcome-inv : (f : List ℕ) (d : Dataset) → readOutcome f ≡ done d → readDataset f ≡ done d
 unfolding readOutcome
 outcome-inv f d e = let (t, a, b) = andThen-inv (notTooLong 1 f) _ d e in b
 

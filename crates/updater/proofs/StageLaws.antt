@@ -35,7 +35,7 @@ use Rattle.incoming.specs.declared.walk.Came.{Came}
 use Rattle.incoming.specs.declared.walk.Came.the-variants.{Fit, Stopped}
 use Rattle.incoming.proofs.FittingLaws.{came-stopped, came-fit}
 use Rattle.updater.specs.Told.{generalBy}
-use Rattle.updater.specs.Stages.{sentGeneral, Legible, Fits, Built}
+use Rattle.updater.specs.Stages.{sentGeneral, Legible, Tested, Fits, Built}
 use Rattle.updater.specs.declared.front.Follows.{Follows}
 use Rattle.updater.specs.declared.front.Follows.the-variants.{Long, Refused}
 
@@ -117,30 +117,31 @@ module _ (f : List ℕ) (k : Legible f) (g : Bytes f) (m : Measured) (em : m ≡
       built-refused f u room size 1 n (fault 12 0 0)
       (reached f u room size big (k .short) new ∙ rw (k .isRead) (rw (first-long 1 0 n (written (k .dataset)) (forms-are ∙ x)))) o
 
-  module _ (total : ℕ) (x : m ≡ Total total) where
-    is-writable : writable (k .dataset) ≡ done (k .dataset)
-    unfolding writable andThen
-    is-writable = rw (all-short 1 0 total (written (k .dataset)) (forms-are ∙ x) .0)
+  -- what it measures has passed all its tests
+  pub is-tested : (total : ℕ) → m ≡ Total total → Tested f
+  unfolding writable andThen
+  is-tested total x =
+      record { short = k .short; dataset = k .dataset; isRead = k .isRead; isWritable = rw (all-short 1 0 total (written (k .dataset)) (forms-are ∙ x) .0) }
 
-    -- ---- the update's first pass
+-- ---- the update's first pass
 
-    module _ (u : List ℕ) (new : length u ≤ 16777216) (c : Came) (ec : c ≡ cameBy (behindTwo u) (readUpdate u)) where
-      pub unsent : (n r i j : ℕ) → c ≡ Stopped n r i j → (room size : ℕ) → 400000 ≤ size → (o : List ℕ) → Built f u room size (refusing n 2 r) o
-      unfolding andThen
-      unsent n r i j y room size big o =
-          built-refused f u room size 2 r (fault n i j)
-          (reached f u room size big (k .short) new ∙ rw (k .isRead) (rw is-writable (rw (came-stopped u n r i j (sym y ∙ ec))))) o
+module _ (f : List ℕ) (k : Tested f) (u : List ℕ) (new : length u ≤ 16777216) (c : Came) (ec : c ≡ cameBy (behindTwo u) (readUpdate u)) where
+  pub unsent : (n r i j : ℕ) → c ≡ Stopped n r i j → (room size : ℕ) → 400000 ≤ size → (o : List ℕ) → Built f u room size (refusing n 2 r) o
+  unfolding andThen
+  unsent n r i j y room size big o =
+      built-refused f u room size 2 r (fault n i j)
+      (reached f u room size big (k .short) new ∙ rw (k .isRead) (rw (k .isWritable) (rw (came-stopped u n r i j (sym y ∙ ec))))) o
 
-      pub is-sent : (us : ℕ) → c ≡ Fit us → Fits f u us
-      is-sent us y =
-          record {
-            old-short = k .short;
-            new-short = new;
-            dataset = k .dataset;
-            isRead = k .isRead;
-            isWritable = is-writable;
-            fitting = came-fit u us (sym y ∙ ec);
-          }
+  pub is-sent : (us : ℕ) → c ≡ Fit us → Fits f u us
+  is-sent us y =
+      record {
+        old-short = k .short;
+        new-short = new;
+        dataset = k .dataset;
+        isRead = k .isRead;
+        isWritable = k .isWritable;
+        fitting = came-fit u us (sym y ∙ ec);
+      }
 
 -- ---- the general records: 8 and 12
 

@@ -1,6 +1,7 @@
 -- What is known of a dataset and an update at each stage, and what the updater leaves behind.
 use Prim.Native.Nat.{ℕ, _+_, _≤_}
 use mathlib.Core.Path.{_≡_}
+use mathlib.Core.Bool.{Bool, true}
 use mathlib.Core.List.{List, []}
 use lib.ListN.{length, take, getD}
 use Rattle.base.specs.Check.{ok, pass}
@@ -50,6 +51,17 @@ pub record Legible (f : List ℕ) : Type 0 where
   pub short : length f ≤ 16777216
   pub dataset : Dataset
   pub isRead : readDataset f ≡ done dataset
+
+-- a dataset that has passed all that is tested of it alone: the reader reads it, and no record of it is too long to be written
+pub record Tested (f : List ℕ) : Type 0 where
+  pub short : length f ≤ 16777216
+  pub dataset : Dataset
+  pub isRead : readDataset f ≡ done dataset
+  pub isWritable : writable dataset ≡ done dataset
+
+-- so it is, where t says so
+abbrev pub TestedIf : Bool → List ℕ → Type 0
+TestedIf t f = t ≡ true → Tested f
 
 -- all that is tested before the general records are compared has passed; the update's records begin at us
 pub record Fits (f u : List ℕ) (us : ℕ) : Type 0 where

@@ -32,7 +32,7 @@ ghost use Rattle.keys.specs.Listed.{keysFrom};
 ghost use Rattle.keys.specs.Table.{Laid};
 ghost use Rattle.stock.specs.Stock.{stockFrom};
 ghost use Rattle.sorting.specs.Indices.{Indices};
-ghost use Rattle.updater.specs.Stages.{sentFrom, Legible, Fits, Begun, Acted, Built};
+ghost use Rattle.updater.specs.Stages.{sentFrom, Legible, Tested, TestedIf, Fits, Begun, Acted, Built};
 ghost use Rattle.version.specs.Areas.{flagArea};
 ghost use Rattle.history.specs.Flags.{Flags};
 
@@ -137,22 +137,31 @@ fn apply(f: &[u8], u: &[u8], us: usize, out: &mut [u8], work: &mut [u8]) -> Answ
     }
 }
 
-// The update of a dataset that the reader has read: number 12 of the dataset, the update's first pass, and then the rest.
+// The update of a dataset that has passed its tests: the update's first pass, and then the rest.
+fn proceed(f: &[u8], u: &[u8], out: &mut [u8], work: &mut [u8]) -> Answer
+    requires { ⌜ Tested (now f) × (length (now u) ≤ 16777216) × (400000 ≤ length (now work)) ⌝ }
+    ensures { λ r. ⌜ Built (now (f .entry)) (now (u .entry)) (length (now (out .entry))) (length (now (work .entry))) r (now (out .exit)) ⌝ }
+{
+    match check_update(u) {
+        Came::Fit(us) => apply(f, u, us, out, work),
+        Came::Stopped(k, n, _, _) => refuse(k, 2, n),
+    }
+}
+
+// The update of a dataset that the reader has read: number 12 of the dataset, and then the rest.
 fn prepare(f: &[u8], u: &[u8], out: &mut [u8], work: &mut [u8]) -> Answer
     requires { ⌜ Legible (now f) × (length (now u) ≤ 16777216) × (400000 ≤ length (now work)) ⌝ }
     ensures { λ r. ⌜ Built (now (f .entry)) (now (u .entry)) (length (now (out .entry))) (length (now (work .entry))) r (now (out .exit)) ⌝ }
 {
     match measure(f) {
-        Measured::Total(_) => match check_update(u) {
-            Came::Fit(us) => apply(f, u, us, out, work),
-            Came::Stopped(k, n, _, _) => refuse(k, 2, n),
-        },
+        Measured::Total(_) => proceed(f, u, out, work),
         Measured::TooLong(n) => refuse(12, 1, n),
     }
 }
 
 // The answer, and at the front of the output the result. After a refusal anything may stand in the output and the workspace.
-fn build(f: &[u8], u: &[u8], out: &mut [u8], work: &mut [u8]) -> Answer
+fn build(tested: bool, f: &[u8], u: &[u8], out: &mut [u8], work: &mut [u8]) -> Answer
+    requires { ⌜ TestedIf tested (now f) ⌝ }
     ensures { λ r. ⌜ Built (now (f .entry)) (now (u .entry)) (length (now (out .entry))) (length (now (work .entry))) r (now (out .exit)) ⌝ }
 {
     if work.len() < 400000 {
@@ -164,6 +173,9 @@ fn build(f: &[u8], u: &[u8], out: &mut [u8], work: &mut [u8]) -> Answer
     if 16777216 < u.len() {
         return refuse(14, 2, 0);
     }
+    if tested {
+        return proceed(f, u, out, work);
+    }
     let a = read(f);
     if a.number != 0 {
         return a;
@@ -171,11 +183,18 @@ fn build(f: &[u8], u: &[u8], out: &mut [u8], work: &mut [u8]) -> Answer
     prepare(f, u, out, work)
 }
 
-// Updates a dataset: the answer, every byte of the output and every byte of the workspace are those of the rules, for any bytes and any lengths.
-pub fn update(dataset: &[u8], update: &[u8], out: &mut [u8], work: &mut [u8]) -> Answer
+// As `update`; a dataset that is known to pass its own tests, since the updater wrote it, is not tested again.
+pub fn update_tested(
+    tested: bool,
+    dataset: &[u8],
+    update: &[u8],
+    out: &mut [u8],
+    work: &mut [u8],
+) -> Answer
+    requires { ⌜ TestedIf tested (now dataset) ⌝ }
     ensures { λ r. ⌜ (r ≡ (theOutput (now (dataset .entry)) (now (update .entry)) (length (now (out .entry))) (length (now (work .entry)))) .answer) × (now (out .exit) ≡ (theOutput (now (dataset .entry)) (now (update .entry)) (length (now (out .entry))) (length (now (work .entry)))) .out) × (now (work .exit) ≡ workAfter (length (now (work .entry)))) ⌝ }
 {
-    let a = build(dataset, update, out, work);
+    let a = build(tested, dataset, update, out, work);
     zero(work);
     if a.number != 0 {
         zero(out);
@@ -183,4 +202,11 @@ pub fn update(dataset: &[u8], update: &[u8], out: &mut [u8], work: &mut [u8]) ->
     }
     zero_from(out, a.length);
     a
+}
+
+// Updates a dataset: the answer, every byte of the output and every byte of the workspace are those of the rules, for any bytes and any lengths.
+pub fn update(dataset: &[u8], update: &[u8], out: &mut [u8], work: &mut [u8]) -> Answer
+    ensures { λ r. ⌜ (r ≡ (theOutput (now (dataset .entry)) (now (update .entry)) (length (now (out .entry))) (length (now (work .entry)))) .answer) × (now (out .exit) ≡ (theOutput (now (dataset .entry)) (now (update .entry)) (length (now (out .entry))) (length (now (work .entry)))) .out) × (now (work .exit) ≡ workAfter (length (now (work .entry)))) ⌝ }
+{
+    update_tested(false, dataset, update, out, work)
 }

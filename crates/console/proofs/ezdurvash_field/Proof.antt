@@ -10,8 +10,11 @@ field-of-record-requires c κs = search needs
 enum-known-tag : tie.Need-enum-known-tag
 enum-known-tag c = search needs
 
-put-field-requires : tie.Need-put-field-requires
-put-field-requires c κs = search needs
+cast-put-three : tie.Need-cast-put-three
+cast-put-three c = search needs
+
+put-three-requires : tie.Need-put-three-requires
+put-three-requires c κs = search needs
 
 enum-told : tie.Need-enum-told
 enum-told c = search needs
@@ -20,7 +23,7 @@ same-length : tie.Need-same-length
 same-length c = search needs
 
 returns : tie.Need-returns
-returns c = field-found _ _ _ _ _ _ _ (c .before .before .before .before .before .tag .given .1) (c .before .before .before .before .before .before .before .field-of-record .ensures) (c .before .before .put-field .ensures)
+returns c = field-found _ _ _ _ _ _ _ (c .before .before .before .before .before .tag .given .1) (c .before .before .before .before .before .before .before .field-of-record .ensures) (c .before .before .put-three .ensures)
 
 returns-2 : tie.Need-returns-2
 returns-2 c = field-none _ _ _ (c .enum-told .given .1) (c .before .before .field-of-record .ensures)
@@ -31,7 +34,8 @@ ezdurvash-field-spec =
     (tie.spec
     field-of-record-requires
     enum-known-tag
-    put-field-requires
+    cast-put-three
+    put-three-requires
     enum-told
     same-length
     returns

@@ -1,14 +1,12 @@
 -- `hand` meets its contract. Assumes nothing.
-use Rattle.display.proofs.PoolLaws.{followed-first, followed-second}
+use mathlib.Core.Bool.{true≢false}
+use mathlib.Core.Path.{sym}
 use borrow.Author.Needs.{needs}
 use Rattle.display.proofs.hand.Statement.{statement}
 use Rattle.display.proofs.hand.Tie as tie
 
-hand-over-requires : tie.Need-hand-over-requires
-hand-over-requires c κs = search needs
-
-next-chart-requires : tie.Need-next-chart-requires
-next-chart-requires c κs = search needs
+hand-tested-requires : tie.Need-hand-tested-requires
+hand-tested-requires c κs = λ e. absurd (true≢false (sym e))
 
 same-length : tie.Need-same-length
 same-length c = search needs
@@ -20,39 +18,14 @@ same-length-3 : tie.Need-same-length-3
 same-length-3 c = search needs
 
 returns : tie.Need-returns
-returns c = followed-second _ _ _ _ _ _ _ _ (c .next-chart .ensures) (c .before .before .before .before .before .before .before .before .before .if1 .taken) _ (c .before .before .before .before .before .hand-over .ensures)
-
-hand-over-requires-2 : tie.Need-hand-over-requires-2
-hand-over-requires-2 c κs = search needs
-
-next-chart-requires-2 : tie.Need-next-chart-requires-2
-next-chart-requires-2 c κs = search needs
-
-same-length-4 : tie.Need-same-length-4
-same-length-4 c = search needs
-
-same-length-5 : tie.Need-same-length-5
-same-length-5 c = search needs
-
-same-length-6 : tie.Need-same-length-6
-same-length-6 c = search needs
-
-returns-2 : tie.Need-returns-2
-returns-2 c = followed-first _ _ _ _ _ _ _ _ (c .next-chart2 .ensures) (c .before .before .before .before .before .before .before .before .before .if1 .left) _ (c .before .before .before .before .before .hand-over2 .ensures)
+returns c = search needs
 
 pub hand-spec : {M : Type 1} → statement M
 hand-spec =
     tie.close
     (tie.spec
-    hand-over-requires
-    next-chart-requires
+    hand-tested-requires
     same-length
     same-length-2
     same-length-3
-    returns
-    hand-over-requires-2
-    next-chart-requires-2
-    same-length-4
-    same-length-5
-    same-length-6
-    returns-2)
+    returns)

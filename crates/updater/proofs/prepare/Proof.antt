@@ -1,4 +1,5 @@
-use Rattle.updater.proofs.StageLaws.{built-as, is-sent, unsent, unwritable}
+-- `prepare` meets its contract. Assumes nothing.
+use Rattle.updater.proofs.StageLaws.{built-as, is-tested, unwritable}
 use native.Mathlib.Omega.{arith}
 use borrow.Author.Needs.{needs}
 use Rattle.updater.proofs.prepare.Statement.{statement}
@@ -10,26 +11,14 @@ measure-requires c κs = search needs
 enum-told : tie.Need-enum-told
 enum-told c = search needs
 
-check-update-requires : tie.Need-check-update-requires
-check-update-requires c κs = search needs
-
-enum-known-us : tie.Need-enum-known-us
-enum-known-us c = search needs
-
-apply-requires : tie.Need-apply-requires
-apply-requires c κs = let s = c .before .before .before .before .before .before .before .before .before .before .before .before .before in (is-sent _ (s .pre .0) (λ k. omega (arith, c .before .before .before .before .before .before .before .before .before .before .before .before .shared-slice-known .given k)) _ (c .before .before .before .before .before .before .before .before .measure .ensures) _ (c .before .before .before .before .before .before .enum-told .given .1) _ (s .pre .1) _ (c .before .before .before .before .before .check-update .ensures) _ (c .before .before .before .us .given .1), s .pre .2)
-
-enum-known-k : tie.Need-enum-known-k
-enum-known-k c = search needs
-
-refuse-requires : tie.Need-refuse-requires
-refuse-requires c κs = search needs
+proceed-requires : tie.Need-proceed-requires
+proceed-requires c κs = let s = c .before .before .before .before .before .before .before .before .before in (is-tested _ (s .pre .0) (λ k. omega (arith, c .before .before .before .before .before .before .before .before .shared-slice-known .given k)) _ (c .before .before .before .before .measure .ensures) _ (c .before .before .enum-told .given .1), s .pre .1, s .pre .2)
 
 enum-known-n : tie.Need-enum-known-n
 enum-known-n c = search needs
 
-refuse-requires-2 : tie.Need-refuse-requires-2
-refuse-requires-2 c κs = search needs
+refuse-requires : tie.Need-refuse-requires
+refuse-requires c κs = search needs
 
 same-length : tie.Need-same-length
 same-length c = search needs
@@ -41,10 +30,7 @@ returns : tie.Need-returns
 returns c = search needs
 
 returns-2 : tie.Need-returns-2
-returns-2 c = let s = c .before .before .before .before .before .before .before .before .before .before .before .before in built-as _ _ _ _ _ _ _ (c .refuse .ensures) (unsent _ (s .pre .0) (λ k. omega (arith, c .before .before .before .before .before .before .before .before .before .before .before .shared-slice-known .given k)) _ (c .before .before .before .before .before .before .before .measure .ensures) _ (c .before .before .before .before .before .enum-told .given .1) _ (s .pre .1) _ (c .before .before .before .before .check-update .ensures) _ _ _ _ (c .before .before .k .given .1) _ _ (s .pre .2) _)
-
-returns-3 : tie.Need-returns-3
-returns-3 c = let s = c .before .before .before .before .before .before .before .before .before in built-as _ _ _ _ _ _ _ (c .refuse2 .ensures) (unwritable _ (s .pre .0) (λ k. omega (arith, c .before .before .before .before .before .before .before .before .shared-slice-known .given k)) _ (c .before .before .before .before .measure .ensures) _ (c .before .before .n .given .1) _ _ _ (s .pre .2) (s .pre .1) _)
+returns-2 c = let s = c .before .before .before .before .before .before .before .before .before in built-as _ _ _ _ _ _ _ (c .refuse .ensures) (unwritable _ (s .pre .0) (λ k. omega (arith, c .before .before .before .before .before .before .before .before .shared-slice-known .given k)) _ (c .before .before .before .before .measure .ensures) _ (c .before .before .n .given .1) _ _ _ (s .pre .2) (s .pre .1) _)
 
 pub prepare-spec : {M : Type 1} → statement M
 prepare-spec =
@@ -52,15 +38,10 @@ prepare-spec =
     (tie.spec
     measure-requires
     enum-told
-    check-update-requires
-    enum-known-us
-    apply-requires
-    enum-known-k
-    refuse-requires
+    proceed-requires
     enum-known-n
-    refuse-requires-2
+    refuse-requires
     same-length
     same-length-2
     returns
-    returns-2
-    returns-3)
+    returns-2)
