@@ -1,19 +1,24 @@
-//! The entry points: what each answers, and what it leaves in the lent slices.
+//! What a case comes to: the answer of the entry point that it asks for, and what that leaves in the lent slices.
 
-use crate::batch::{fnv, Case, LISTING, READ, UPDATE, WRITE};
-use crate::file::{self, refusal, Refusal, LONGEST};
+use crate::batch::{fnv, Case, LISTING, MONTH, READ, UPDATE, WRITE};
+use crate::calls::{self, Written};
+use crate::file::Refusal;
 use crate::listing;
-use crate::model::Dataset;
-use crate::update;
-use crate::written;
+use crate::month::{self, Held, Lent};
 
-/// The shortest workspace that the updater takes.
-pub const WORKSPACE: u32 = 400_000;
-
-/// What a case comes to.
+/// What a case comes to. The output of a month is its first pool and then its second.
 #[derive(Clone, Debug, PartialEq, Eq)]
 pub enum Answered {
-    Call { number: u32, file: u32, record: usize, length: usize, count: usize, out: Vec<u8>, work_zero: bool },
+    Call {
+        number: u32,
+        file: u32,
+        record: usize,
+        length: usize,
+        count: usize,
+        out: Vec<u8>,
+        work_zero: bool,
+        held: Option<Held>,
+    },
     Printed(Vec<u8>),
 }
 
@@ -37,63 +42,48 @@ pub fn all(cases: &[Case]) -> Vec<Answered> {
 fn one(case: &Case) -> Answered {
     let room = case.out as usize;
     match case.operation {
-        READ => call(read(&case.dataset).map(|count| (Vec::new(), count)), 0),
-        WRITE => call(write(&case.dataset, room), room),
-        UPDATE => call(updated(case), room),
-        LISTING => Answered::Printed(listing::printed(&case.dataset).into_bytes()),
+        READ => written(calls::read(&case.first).map(|count| (Vec::new(), count)), 0),
+        WRITE => written(calls::write(&case.first, room), room),
+        UPDATE => written(calls::update(&case.first, &case.second, room, case.work), room),
+        LISTING => Answered::Printed(listing::printed(&case.first).into_bytes()),
+        MONTH => held(case),
         other => unreachable!("operation {other} is no case's"),
     }
 }
 
-fn call(outcome: Result<(Vec<u8>, usize), Refusal>, room: usize) -> Answered {
+/// The output slice holds what is written, and zeroes.
+fn written(outcome: Result<Written, Refusal>, room: usize) -> Answered {
     let mut out = vec![0; room];
-    match outcome {
-        Ok((bytes, count)) => {
-            out[..bytes.len()].copy_from_slice(&bytes);
-            Answered::Call { number: 0, file: 0, record: 0, length: bytes.len(), count, out, work_zero: true }
-        }
-        Err(Refusal { number, file, record }) => {
-            Answered::Call { number, file, record, length: 0, count: 0, out, work_zero: true }
-        }
+    if let Ok((bytes, _)) = &outcome {
+        out[..bytes.len()].copy_from_slice(bytes);
     }
+    call(outcome.map(|(bytes, count)| (bytes.len(), count)), out, None)
 }
 
-fn count(dataset: &Dataset) -> usize {
-    3 + dataset.records.len()
+fn held(case: &Case) -> Answered {
+    let (length, list) = case.length_and_list().expect("a month's second part starts with a length");
+    let lent = Lent { first: &case.first, length: length as usize, second: case.out as usize };
+    let month = month::month(list, &lent, case.work);
+    call(month.outcome, month.pools.concat(), Some(month.held))
 }
 
-fn read(dataset: &[u8]) -> Result<usize, Refusal> {
-    Ok(count(&file::dataset(dataset)?))
-}
-
-fn write(dataset: &[u8], room: usize) -> Result<(Vec<u8>, usize), Refusal> {
-    let dataset = file::dataset(dataset)?;
-    written::each_fits(&dataset)?;
-    Ok((written::bytes(&dataset, room)?, count(&dataset)))
-}
-
-fn updated(case: &Case) -> Result<(Vec<u8>, usize), Refusal> {
-    if case.work < WORKSPACE {
-        return Err(refusal(15, 0, 0));
-    }
-    for (bytes, number) in [(&case.dataset, file::DATASET), (&case.update, file::UPDATE)] {
-        if bytes.len() > LONGEST {
-            return Err(refusal(14, number, 0));
-        }
-    }
-    let dataset = file::dataset(&case.dataset)?;
-    written::each_fits(&dataset)?;
-    let (general, sent) = file::update(&case.update)?;
-    let result = update::applied(dataset, general, &sent)?;
-    Ok((written::bytes(&result, case.out as usize)?, count(&result)))
+/// The answer of a call whose outcome is a refusal, or length and count.
+fn call(outcome: Result<(usize, usize), Refusal>, out: Vec<u8>, held: Option<Held>) -> Answered {
+    let (length, count) = outcome.unwrap_or_default();
+    let (number, file, record) = outcome.err().map_or((0, 0, 0), |r| (r.number, r.file, r.record));
+    Answered::Call { number, file, record, length, count, out, work_zero: true, held }
 }
 
 /// The line of an answer.
 pub fn line(answered: &Answered) -> String {
     match answered {
-        Answered::Call { number, file, record, length, count, out, work_zero } => {
+        Answered::Call { number, file, record, length, count, out, work_zero, held } => {
             let work = u8::from(*work_zero);
-            format!("{number} {file} {record} {length} {count} {:016x} {work}", fnv(out))
+            let words = format!("{number} {file} {record} {length} {count} {:016x} {work}", fnv(out));
+            match held {
+                Some(Held { applied, pool, length }) => format!("{words} {applied} {pool} {length}"),
+                None => words,
+            }
         }
         Answered::Printed(text) => format!("listing {} {:016x}", text.len(), fnv(text)),
     }

@@ -5,36 +5,49 @@ pub const READ: u8 = 1;
 pub const WRITE: u8 = 2;
 pub const UPDATE: u8 = 3;
 pub const LISTING: u8 = 4;
-pub const OPERATIONS: [u8; 4] = [READ, WRITE, UPDATE, LISTING];
+pub const MONTH: u8 = 9;
+pub const OPERATIONS: [u8; 5] = [READ, WRITE, UPDATE, LISTING, MONTH];
 
 /// What output slice and workspace are filled with before a call, so that zeroing shows.
 pub const FILLED: u8 = 0xA5;
 
-/// One call: what is asked, the bytes handed over, and how long the lent slices are.
+/// One call: what is asked, the bytes handed over in two parts, and how long the lent slices are.
 #[derive(Clone, Debug, PartialEq, Eq)]
 pub struct Case {
     pub operation: u8,
-    pub dataset: Vec<u8>,
-    pub update: Vec<u8>,
+    pub first: Vec<u8>,
+    pub second: Vec<u8>,
     pub out: u32,
     pub work: u32,
 }
 
 impl Case {
     pub fn read(dataset: Vec<u8>) -> Case {
-        Case { operation: READ, dataset, update: Vec::new(), out: 0, work: 0 }
+        Case { operation: READ, first: dataset, second: Vec::new(), out: 0, work: 0 }
     }
 
     pub fn write(dataset: Vec<u8>, out: u32) -> Case {
-        Case { operation: WRITE, dataset, update: Vec::new(), out, work: 0 }
+        Case { operation: WRITE, first: dataset, second: Vec::new(), out, work: 0 }
     }
 
     pub fn update(dataset: Vec<u8>, update: Vec<u8>, out: u32, work: u32) -> Case {
-        Case { operation: UPDATE, dataset, update, out, work }
+        Case { operation: UPDATE, first: dataset, second: update, out, work }
     }
 
     pub fn listing(input: Vec<u8>) -> Case {
-        Case { operation: LISTING, dataset: input, update: Vec::new(), out: 0, work: 0 }
+        Case { operation: LISTING, first: input, second: Vec::new(), out: 0, work: 0 }
+    }
+
+    /// The first pool as it is handed over, the dataset's length in it, the list, and how long the second pool is.
+    pub fn month(pool: Vec<u8>, length: u32, list: &[u8], other: u32, work: u32) -> Case {
+        let second = [&length.to_le_bytes(), list].concat();
+        Case { operation: MONTH, first: pool, second, out: other, work }
+    }
+
+    /// Of a month: the dataset's length in the first pool, and the list. None where the second part is too short.
+    pub fn length_and_list(&self) -> Option<(u32, &[u8])> {
+        let (length, list) = self.second.split_first_chunk()?;
+        Some((u32::from_le_bytes(*length), list))
     }
 }
 
@@ -43,11 +56,11 @@ pub fn framed(cases: &[Case]) -> Vec<u8> {
     let mut bytes = Vec::new();
     for case in cases {
         bytes.push(case.operation);
-        for number in [case.dataset.len() as u32, case.update.len() as u32, case.out, case.work] {
+        for number in [case.first.len() as u32, case.second.len() as u32, case.out, case.work] {
             bytes.extend_from_slice(&number.to_le_bytes());
         }
-        bytes.extend_from_slice(&case.dataset);
-        bytes.extend_from_slice(&case.update);
+        bytes.extend_from_slice(&case.first);
+        bytes.extend_from_slice(&case.second);
     }
     bytes
 }
@@ -71,21 +84,24 @@ fn one(bytes: &[u8]) -> Option<(Case, &[u8])> {
     }
     let number = |at: usize| u32::from_le_bytes([bytes[at], bytes[at + 1], bytes[at + 2], bytes[at + 3]]);
     let operation = bytes[0];
-    if !(READ..=LISTING).contains(&operation) {
+    if !OPERATIONS.contains(&operation) {
         return None;
     }
-    let (dataset, update) = (number(1) as usize, number(5) as usize);
-    let end = 17usize.checked_add(dataset)?.checked_add(update)?;
+    let (first, second) = (number(1) as usize, number(5) as usize);
+    let end = 17usize.checked_add(first)?.checked_add(second)?;
     if bytes.len() < end {
         return None;
     }
     let case = Case {
         operation,
-        dataset: bytes[17..17 + dataset].to_vec(),
-        update: bytes[17 + dataset..end].to_vec(),
+        first: bytes[17..17 + first].to_vec(),
+        second: bytes[17 + first..end].to_vec(),
         out: number(9),
         work: number(13),
     };
+    if operation == MONTH {
+        case.length_and_list()?;
+    }
     Some((case, &bytes[end..]))
 }
 

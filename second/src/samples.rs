@@ -1,10 +1,11 @@
 //! The samples: a small chart that any ISO 8211 reader can read, two updates of it, and updates that are refused.
 
-use crate::answer::{self, Answered, WORKSPACE};
+use crate::answer::{self, Answered};
 use crate::batch::{framed, Case};
 use crate::build::{
     attr, c2il, c2it, cocc, field, file, foid, frid, inas, irid, mrid, prid, spas, Field, Tuple,
 };
+use crate::calls::WORKSPACE;
 
 /// A sample file: its name and its bytes.
 pub type Sample = (String, Vec<u8>);

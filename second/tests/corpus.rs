@@ -15,12 +15,12 @@ const SEEDS: [u64; 3] = [1, 2, 3];
 /// What an answer has in common with an intended one.
 fn seen(answered: &Answered, operation: u8) -> Intent {
     match answered {
-        Answered::Call { number: 0, file: 0, record: 0, length, count, out, work_zero: true } => {
+        Answered::Call { number: 0, file: 0, record: 0, length, count, out, work_zero: true, held: None } => {
             let zero_behind = out[*length..].iter().all(|byte| *byte == 0);
             assert!(zero_behind && (operation != READ || *length == 0), "the output behind the written length");
             Intent::Done { written: out[..*length].to_vec(), count: *count }
         }
-        Answered::Call { number, file, record, length: 0, count: 0, out, work_zero: true } => {
+        Answered::Call { number, file, record, length: 0, count: 0, out, work_zero: true, held: None } => {
             assert!(out.iter().all(|byte| *byte == 0), "the output of a refusal");
             Intent::Refused(*number, *file, *record)
         }
@@ -148,7 +148,7 @@ fn answers_met(cases: &[Case]) -> Met {
 fn a_corpus_has_every_answer() {
     let cases = corpus(SEEDS[0], CORPUS, &OPERATIONS);
     assert_eq!(cases.len(), CORPUS);
-    let bytes: usize = cases.iter().map(|case| case.dataset.len() + case.update.len()).sum();
+    let bytes: usize = cases.iter().map(|case| case.first.len() + case.second.len()).sum();
     assert!(bytes < 170_000_000, "{bytes} bytes");
     let (met, printed) = answers_met(&cases);
     println!("{met:?} {printed:?}");
@@ -174,7 +174,7 @@ fn a_corpus_can_be_of_some_operations() {
     let cases = corpus(7, count, &[READ, LISTING]);
     assert_eq!(cases.len(), count);
     let of = |operation: u8| cases.iter().filter(|case| case.operation == operation).count();
-    let longest = |operation: u8| cases.iter().filter(|c| c.operation == operation).map(|c| c.dataset.len()).max();
+    let longest = |operation: u8| cases.iter().filter(|c| c.operation == operation).map(|c| c.first.len()).max();
     assert_eq!(of(READ) + of(LISTING), count);
     assert!(of(READ) > count / 3 && of(LISTING) > count / 3, "{} reads", of(READ));
     assert_eq!(longest(READ), Some(16_777_217), "the huge ones are among them");

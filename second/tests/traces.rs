@@ -18,7 +18,7 @@ fn a_display_holds_a_chart_of_its_publisher_and_moves_on_by_one() {
         let Trace { calls, charts } = trace(3, n);
         let mut shown = 0;
         for call in &calls {
-            assert_eq!(number(&charts, &call.dataset), shown);
+            assert_eq!(number(&charts, &call.first), shown);
             match answer(call) {
                 Answered::Call { number: 0, length, out, .. } => {
                     assert_eq!(number(&charts, &out[..length]), shown + 1);

@@ -4,8 +4,9 @@ use super::form::{self, Form};
 use super::invent;
 use super::random::Random;
 use super::revise::{revise, Revised};
-use crate::answer::{answer, Answered, WORKSPACE};
+use crate::answer::{answer, Answered};
 use crate::batch::Case;
+use crate::calls::WORKSPACE;
 
 /// What a publisher sends, and what each number of updates looks like in written form.
 struct Publisher {

@@ -6,6 +6,7 @@
 
 pub use second::batch::Case;
 pub use second::build::*;
+pub use second::month::Held;
 use second::{answer, Answered};
 
 pub const INSERT: u8 = 1;
@@ -243,12 +244,13 @@ pub struct Reply {
     pub count: usize,
     pub out: Vec<u8>,
     pub work_zero: bool,
+    pub held: Option<Held>,
 }
 
 pub fn reply(case: &Case) -> Reply {
     match answer(case) {
-        Answered::Call { number, file, record, length, count, out, work_zero } => {
-            Reply { number, file, record, length, count, out, work_zero }
+        Answered::Call { number, file, record, length, count, out, work_zero, held } => {
+            Reply { number, file, record, length, count, out, work_zero, held }
         }
         Answered::Printed(_) => panic!("a call is answered in numbers"),
     }
