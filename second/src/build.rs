@@ -40,6 +40,11 @@ pub fn file(records: &[Vec<Field>]) -> Vec<u8> {
     records.iter().enumerate().flat_map(|(n, fields)| record(n == 0, 5, 5, fields)).collect()
 }
 
+/// Files joined to the list of a month, each preceded by its length.
+pub fn joined(files: &[Vec<u8>]) -> Vec<u8> {
+    files.iter().flat_map(|file| [&(file.len() as u32).to_le_bytes(), &file[..]].concat()).collect()
+}
+
 /// The general record's identification; the five texts before the name are empty.
 pub fn dsid(rcid: u32, name: &str, edition: u16, update: u16) -> Field {
     let mut body = vec![10];

@@ -4,20 +4,31 @@
 use std::collections::{BTreeMap, BTreeSet};
 
 use second::answer::all;
-use second::batch::{framed, Case, LISTING, OPERATIONS, READ, UPDATE, WRITE};
+use second::batch::{fnv, framed, Case, LISTING, MONTH, OPERATIONS, READ, UPDATE, WRITE};
 use second::generate::chart::{Chart, Kind, Node};
-use second::generate::{corpus, directed, form, random_case, table, Directed, Intent};
+use second::generate::{corpus, directed, form, random_case, random_month, table, Directed, Intent, RandomMonth};
+use second::month::Held;
 use second::Answered;
 
+/// The operations on one dataset.
+const SINGLE: [u8; 4] = [READ, WRITE, UPDATE, LISTING];
 const CORPUS: usize = 5400;
+/// How many months the gate compares.
+const MONTHS: usize = 600;
 const SEEDS: [u64; 3] = [1, 2, 3];
 
 /// What an answer has in common with an intended one.
-fn seen(answered: &Answered, operation: u8) -> Intent {
+fn seen(answered: &Answered, case: &Case) -> Intent {
     match answered {
+        Answered::Call { number, file, record, length, count, out, work_zero: true, held: Some(held) } => {
+            assert!(*number == 0 || (*length, *count) == (0, 0), "length and count of a refusal");
+            let outcome = if *number == 0 { Ok((*length, *count)) } else { Err((*number, *file, *record)) };
+            let (first, second) = out.split_at(case.first.len());
+            Intent::Month { outcome, held: *held, pools: [first.to_vec(), second.to_vec()] }
+        }
         Answered::Call { number: 0, file: 0, record: 0, length, count, out, work_zero: true, held: None } => {
             let zero_behind = out[*length..].iter().all(|byte| *byte == 0);
-            assert!(zero_behind && (operation != READ || *length == 0), "the output behind the written length");
+            assert!(zero_behind && (case.operation != READ || *length == 0), "the output behind the written length");
             Intent::Done { written: out[..*length].to_vec(), count: *count }
         }
         Answered::Call { number, file, record, length: 0, count: 0, out, work_zero: true, held: None } => {
@@ -33,6 +44,10 @@ fn seen(answered: &Answered, operation: u8) -> Intent {
 fn told(intent: &Intent) -> String {
     match intent {
         Intent::Done { written, count } => format!("done, {} bytes, {count} records", written.len()),
+        Intent::Month { outcome, held, pools } => {
+            let hashes = pools.each_ref().map(|pool| format!("{:016x}", fnv(pool)));
+            format!("{outcome:?}, {held:?}, pools {hashes:?}")
+        }
         other => format!("{other:?}"),
     }
 }
@@ -44,7 +59,7 @@ fn every_directed_case_comes_to_what_the_paper_asks_for() {
     for some in rows.chunks(100) {
         let cases: Vec<Case> = some.iter().map(|row| row.case.clone()).collect();
         for (Directed { name, case, intent }, answered) in some.iter().zip(all(&cases)) {
-            let seen = seen(&answered, case.operation);
+            let seen = seen(&answered, case);
             if seen != *intent {
                 wrong.push(format!("{name}: intended {}, answered {}", told(intent), told(&seen)));
             }
@@ -103,8 +118,32 @@ fn cases_made_to_be_accepted_are_accepted() {
         println!("{} of {CORPUS} are made to be accepted", cases.len());
         assert!(cases.len() * 20 > CORPUS * 9, "about half of the random cases are made to be accepted");
         for ((case, chart), answered) in cases.iter().zip(&charts).zip(all(&cases)) {
-            let (seen, expected) = (seen(&answered, case.operation), expected(case, chart));
+            let (seen, expected) = (seen(&answered, case), expected(case, chart));
             assert!(seen == expected, "operation {}: {} and not {}", case.operation, told(&seen), told(&expected));
+        }
+    }
+}
+
+/// What a month that was made to be accepted comes to: the chart and zeroes in one pool, zeroes in the other.
+fn expected_of_month(case: &Case, applied: usize, chart: &Chart) -> Intent {
+    let written = form::written(chart);
+    let mut pools = [vec![0; case.first.len()], vec![0; case.out as usize]];
+    pools[applied % 2][..written.len()].copy_from_slice(&written);
+    let held = Held { applied, pool: applied % 2 + 1, length: written.len() };
+    Intent::Month { outcome: Ok((written.len(), 3 + chart.items.len())), held, pools }
+}
+
+#[test]
+fn months_made_to_be_accepted_are_accepted() {
+    for seed in SEEDS {
+        let months = (0..MONTHS).map(|number| random_month(seed, number));
+        let (cases, ends): (Vec<Case>, Vec<(usize, Chart)>) =
+            months.filter_map(|RandomMonth { case, accepted }| accepted.map(|end| (case, end))).unzip();
+        println!("{} of {MONTHS} months are made to be accepted", cases.len());
+        assert!(cases.len() * 20 > MONTHS * 9, "about half of the random months are made to be accepted");
+        for ((case, (applied, chart)), answered) in cases.iter().zip(&ends).zip(all(&cases)) {
+            let (seen, expected) = (seen(&answered, case), expected_of_month(case, *applied, chart));
+            assert!(seen == expected, "{} and not {}", told(&seen), told(&expected));
         }
     }
 }
@@ -131,9 +170,10 @@ fn answers_met(cases: &[Case]) -> Met {
     let (mut met, mut printed): Met = Default::default();
     for some in cases.chunks(100) {
         for (case, answered) in some.iter().zip(all(some)) {
-            match seen(&answered, case.operation) {
+            match seen(&answered, case) {
                 Intent::Done { .. } => *met.entry((case.operation, 0, 0)).or_default() += 1,
                 Intent::Refused(number, file, _) => *met.entry((case.operation, number, file)).or_default() += 1,
+                Intent::Month { .. } => panic!("a month is no call on one dataset"),
                 Intent::Prints(text) => {
                     let word = text.split(' ').next().unwrap_or("");
                     *printed.entry(word.to_string()).or_default() += 1;
@@ -146,7 +186,7 @@ fn answers_met(cases: &[Case]) -> Met {
 
 #[test]
 fn a_corpus_has_every_answer() {
-    let cases = corpus(SEEDS[0], CORPUS, &OPERATIONS);
+    let cases = corpus(SEEDS[0], CORPUS, &SINGLE);
     assert_eq!(cases.len(), CORPUS);
     let bytes: usize = cases.iter().map(|case| case.first.len() + case.second.len()).sum();
     assert!(bytes < 170_000_000, "{bytes} bytes");
@@ -182,4 +222,61 @@ fn a_corpus_can_be_of_some_operations() {
     let missing: Vec<_> = wanted().into_iter().filter(|a| a.0 == READ && !met.contains_key(a)).collect();
     assert!(missing.is_empty(), "no case has (operation, number, file) {missing:?}");
     assert_eq!(printed.keys().collect::<Vec<_>>(), ["rec", "refused", "too"]);
+}
+
+/// Number, file and, where it is below 2, record of each answer that a corpus of months must have.
+const WANTED_OF_MONTHS: [(u32, u32, Option<usize>); 10] = [
+    (0, 0, Some(0)),
+    (15, 0, Some(0)),
+    (1, 2, Some(0)),
+    (1, 1, Some(0)),
+    (1, 2, Some(1)),
+    (1, 1, Some(1)),
+    (8, 2, None),
+    (13, 3, Some(0)),
+    (9, 2, None),
+    (11, 3, None),
+];
+
+#[test]
+fn a_corpus_of_months_has_every_answer() {
+    for seed in SEEDS {
+        let cases = corpus(seed, MONTHS, &[MONTH]);
+        assert_eq!(cases.len(), MONTHS);
+        assert!(cases.iter().all(|case| case.operation == MONTH));
+        let bytes = framed(&cases).len();
+        assert!(bytes < 10_000_000, "{bytes} bytes");
+        let (mut answers, mut ends) = (BTreeSet::new(), BTreeSet::new());
+        for (case, answered) in cases.iter().zip(all(&cases)) {
+            let Intent::Month { outcome, held, .. } = seen(&answered, case) else { panic!("no month: {answered:?}") };
+            let (number, file, record) = outcome.err().unwrap_or((0, 0, 0));
+            answers.insert((number, file, Some(record).filter(|record| *record < 2)));
+            ends.insert((held.applied.min(5), held.pool));
+        }
+        let missing: Vec<_> = WANTED_OF_MONTHS.iter().filter(|answer| !answers.contains(answer)).collect();
+        assert!(missing.is_empty(), "no month has (number, file, record) {missing:?}");
+        assert_eq!(ends, BTreeSet::from([(0, 1), (1, 2), (2, 1), (3, 2), (4, 1), (5, 1), (5, 2)]), "applied and pool");
+    }
+}
+
+#[test]
+fn a_corpus_of_months_has_every_directed_one() {
+    let months: Vec<Case> = directed().into_iter().map(|(_, case)| case).filter(|c| c.operation == MONTH).collect();
+    let cases = corpus(SEEDS[0], MONTHS, &[MONTH]);
+    let absent = months.iter().filter(|month| !cases.contains(month)).count();
+    assert_eq!(absent, 0, "of {} directed months", months.len());
+    assert!(months.len() * 5 <= MONTHS * 2, "directed ones are at most two fifths");
+}
+
+/// Months beside other operations take nothing from those.
+#[test]
+fn a_corpus_can_be_of_all_operations() {
+    let count = 500;
+    let cases = corpus(7, count, &OPERATIONS);
+    let (months, others): (Vec<&Case>, Vec<&Case>) = cases.iter().partition(|case| case.operation == MONTH);
+    assert_eq!((months.len(), others.len()), (100, 400));
+    let alone = corpus(7, 400, &SINGLE);
+    assert!(alone.iter().all(|case| others.contains(&case)));
+    let months_alone = corpus(7, 100, &[MONTH]);
+    assert!(months_alone.iter().all(|case| months.contains(&case)));
 }

@@ -10,7 +10,7 @@ use crate::batch::{Case, LISTING, READ, UPDATE, WRITE};
 use crate::build::Field;
 
 /// The workspace that the updater asks for.
-const WORKSPACE: usize = 400_000;
+pub(super) const WORKSPACE: usize = 400_000;
 
 /// The longest input that the listing program reads.
 const LISTED: usize = 65_536;
@@ -43,14 +43,14 @@ pub fn random_case(seed: u64, number: usize) -> Scattered {
 
 /// What happens to a file on its way into a case.
 #[derive(Clone, Copy, PartialEq, Eq)]
-enum Fate {
+pub(super) enum Fate {
     Whole,
     Fields,
     Bytes,
 }
 
 /// The bytes of a file in a free form, after its fate.
-fn arrived(random: &mut Random, mut records: Vec<Vec<Field>>, fate: Fate) -> Vec<u8> {
+pub(super) fn arrived(random: &mut Random, mut records: Vec<Vec<Field>>, fate: Fate) -> Vec<u8> {
     // A second fault now and then shows which of the two is answered.
     let times = random.pick(&[1, 1, 2]);
     if fate == Fate::Fields {
@@ -102,7 +102,7 @@ fn update_case(random: &mut Random, old: &Chart) -> Scattered {
     Scattered { case: Case::update(dataset, update, out, work as u32), accepted }
 }
 
-fn any_workspace(random: &mut Random) -> usize {
+pub(super) fn any_workspace(random: &mut Random) -> usize {
     random.pick(&[0, 1, WORKSPACE - 1, WORKSPACE, WORKSPACE + 1, WORKSPACE * 2])
 }
 

@@ -1,37 +1,16 @@
 //! Traces: a display that a publisher's updates reach in any order, with loss and repetition, as the calls that it makes.
 
-use super::form::{self, Form};
-use super::invent;
+use super::form;
+use super::publisher::publisher;
 use super::random::Random;
-use super::revise::{revise, Revised};
 use crate::answer::{answer, Answered};
 use crate::batch::Case;
 use crate::calls::WORKSPACE;
-
-/// What a publisher sends, and what each number of updates looks like in written form.
-struct Publisher {
-    charts: Vec<Vec<u8>>,
-    files: Vec<Vec<u8>>,
-}
 
 /// The calls of a display, and the charts that it may show.
 pub struct Trace {
     pub calls: Vec<Case>,
     pub charts: Vec<Vec<u8>>,
-}
-
-fn publisher(random: &mut Random) -> Publisher {
-    let mut chart = invent::chart(random);
-    // A few updates must be able to follow.
-    chart.general.update = chart.general.update.min(65_000);
-    let mut publisher = Publisher { charts: vec![form::written(&chart)], files: Vec::new() };
-    for _ in 0..random.between(1, 5) {
-        let Revised { records, chart: next } = revise(random, &chart, false);
-        publisher.files.push(Form::Free(random).file(&records));
-        publisher.charts.push(form::written(&next));
-        chart = next;
-    }
-    publisher
 }
 
 /// The slice and the workspace that a display lends: mostly long enough.
@@ -47,7 +26,9 @@ fn lent(random: &mut Random, needed: usize) -> (u32, u32) {
 /// The trace of this number under this seed: the model of a display, which holds a chart, and takes a result in its place.
 pub fn trace(seed: u64, number: usize) -> Trace {
     let random = &mut Random::of_case(seed, number);
-    let Publisher { charts, files } = publisher(random);
+    let published = publisher(random, 5);
+    let charts: Vec<Vec<u8>> = published.charts.iter().map(form::written).collect();
+    let files: Vec<Vec<u8>> = published.updates.into_iter().map(|update| update.file).collect();
     let (mut chart, mut shown, mut calls) = (charts[0].clone(), 0, Vec::new());
     for _ in 0..random.between(2, 3 * files.len() + 2) {
         let sent = if shown < files.len() && random.percent(60) { shown } else { random.below(files.len()) };

@@ -9,6 +9,7 @@ mod keys;
 mod large;
 mod listings;
 mod many;
+mod months;
 mod order;
 mod sizes;
 mod skeleton;
@@ -17,6 +18,7 @@ mod values;
 
 use crate::batch::{Case, READ, UPDATE, WRITE};
 use crate::build::{self, Field};
+use crate::month::Held;
 use base::{dataset, heading, Records};
 
 pub use sizes::HUGE;
@@ -32,6 +34,12 @@ pub enum Intent {
         count: usize,
     },
     Prints(String),
+    /// Of a month: length and count, or number, file and record; what is held at its end; the bytes of both pools.
+    Month {
+        outcome: Result<(usize, usize), (u32, u32, usize)>,
+        held: Held,
+        pools: [Vec<u8>; 2],
+    },
 }
 
 #[derive(Clone, Debug)]
@@ -78,6 +86,7 @@ fn small_table() -> Table {
     listings::rows(&mut table);
     many::rows(&mut table);
     large::rows(&mut table);
+    months::rows(&mut table);
     table
 }
 

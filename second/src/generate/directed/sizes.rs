@@ -9,7 +9,7 @@ use crate::generate::form::least_widths;
 /// Room for any result of these cases but the huge ones.
 const WIDE: u32 = 500_000;
 /// The most tuples that a written multi point holds.
-const MOST: usize = 12_492;
+pub(super) const MOST: usize = 12_492;
 
 pub fn rows(table: &mut Table) {
     unread_records(table);
@@ -24,12 +24,12 @@ pub fn rows(table: &mut Table) {
 }
 
 /// A multi point of n tuples.
-fn multi(rcid: u32, rver: u16, ruin: u8, count: usize) -> Vec<Field> {
+pub(super) fn multi(rcid: u32, rver: u16, ruin: u8, count: usize) -> Vec<Field> {
     vec![mrid(rcid, rver, ruin), c2il(&vec![(7, -1); count])]
 }
 
 /// The file with one record in narrow widths: short enough to be read, and maybe too long to be written.
-fn narrow(records: &[Vec<Field>], number: usize) -> Vec<u8> {
+pub(super) fn narrow(records: &[Vec<Field>], number: usize) -> Vec<u8> {
     let widths = |n: usize, fields: &[Field]| if n + 1 == number { least_widths(fields) } else { (5, 5) };
     let one = |(n, fields): (usize, &Vec<Field>)| {
         let (a, b) = widths(n, fields);
