@@ -16,7 +16,8 @@
 
 The kept ones are made so:
 
-    second generate --seed 1 --count 6000 CASES && second answer CASES > ANSWERS && tools/cases.py CASES ANSWERS && rt fmt
+    second generate --seed 1 --count 6000 --operations 1,2,3,4 CASES && second answer CASES > ANSWERS &&
+    tools/cases.py CASES ANSWERS && rt fmt
 
 CASES is as `second generate` writes it, ANSWERS what `second answer CASES` prints: one line a case. A case becomes its bytes, each
 file one number, and its answer as numbers: number, file, record, length, count and the hash of the output slice. That the

@@ -1,5 +1,5 @@
-//! A month of updates: files joined to a list, each preceded by its length, applied one by one. The result of each stands in the
-//! pool that did not hold the chart before it.
+//! A month of updates: files joined to a list, each preceded by its length, applied one by one. The result of each
+//! stands in the pool that did not hold the chart before it.
 
 use crate::calls::{self, Written};
 use crate::file::{refusal, Refusal, DATASET, UPDATE};

@@ -20,7 +20,7 @@ pub use trace::{trace, Trace};
 use crate::batch::{Case, MONTH};
 use random::Random;
 
-/// A corpus of so many cases of these operations. Months are asked for beside other operations as often as one of those.
+/// A corpus of so many cases of these operations. Beside other operations months get the share of one.
 pub fn corpus(seed: u64, count: usize, operations: &[u8]) -> Vec<Case> {
     let (months, others): (Vec<u8>, Vec<u8>) = operations.iter().partition(|operation| **operation == MONTH);
     let month = |number: usize| Some(random_month(seed, number).case);
@@ -41,8 +41,8 @@ pub fn corpus(seed: u64, count: usize, operations: &[u8]) -> Vec<Case> {
     cases
 }
 
-/// So many cases: directed ones of these operations, and then random ones, which a number is asked for. The directed ones are at
-/// most two fifths, and those of many megabytes come only where all the directed ones find room.
+/// So many cases of these operations, directed ones and those that numbers scatter. The directed ones are at most two
+/// fifths, and those of many megabytes come only where all the directed ones find room.
 fn series(seed: u64, count: usize, operations: &[u8], scattered: impl Fn(usize) -> Option<Case>) -> Vec<Case> {
     let mut random = Random::new(seed);
     let share = count * 2 / 5;

@@ -28,7 +28,10 @@ pub fn random_month(seed: u64, number: usize) -> RandomMonth {
     let fate = random.pick(&[Fate::Fields, Fate::Bytes]);
     let fate = if random.percent(4) { fate } else { Fate::Whole };
     let dataset = arrived(random, records, fate);
-    let (list, applied) = if random.percent(72) { sound_list(random, &publisher) } else { (odd_list(random, &publisher), None) };
+    let (list, applied) = match random.percent(72) {
+        true => sound_list(random, &publisher),
+        false => (odd_list(random, &publisher), None),
+    };
     let (first, second, roomy) = pools(random, &publisher, dataset.len(), applied);
     let length = if random.percent(96) { dataset.len() } else { any_length(random, dataset.len(), first) };
     let work = if random.percent(96) { WORKSPACE } else { any_workspace(random) };
