@@ -263,6 +263,7 @@ fn a_corpus_of_months_has_every_answer() {
 fn a_corpus_of_months_has_every_directed_one() {
     let months: Vec<Case> = directed().into_iter().map(|(_, case)| case).filter(|c| c.operation == MONTH).collect();
     let cases = corpus(SEEDS[0], MONTHS, &[MONTH]);
+    println!("{} directed months", months.len());
     let absent = months.iter().filter(|month| !cases.contains(month)).count();
     assert_eq!(absent, 0, "of {} directed months", months.len());
     assert!(months.len() * 5 <= MONTHS * 2, "directed ones are at most two fifths");
