@@ -22,20 +22,20 @@ use Rattle.displays.specs.Display.{Handed, taken, after, shown, numberRe
 use Rattle.displays.specs.Publisher.{Publisher}
 
 -- every definition that the sample goes through
-unfoldable opened : Unit {0}
+unfoldable pub opened : Unit {0}
 unfolding baseOpened skeletonOpened fieldsOpened forestOpened rulesOpened numbered prid coordinates c2it general filler pointSent point onlyCoordinates taken after shown numberRead numberShown numberSent bears
 opened = tt
 
 -- a dataset with update number 3 and one point, 7
-unfoldable third : Dataset
+unfoldable pub third : Dataset
 third = record { descriptive = filler CSID 1 ∷ []; general = general 3 []; systems = filler CSID 2 ∷ []; records = point ∷ [] }
 
 -- update 4 inserts point 8, and update 5 modifies it
-unfoldable fourth : List ℕ
+unfoldable pub fourth : List ℕ
 fourth = emits 5 5 true ((filler CSID 1 ∷ []) ∷ general 4 [] ∷ pointSent 8 ∷ [])
 
 -- its RVER is 2
-unfoldable fifth : List ℕ
+unfoldable pub fifth : List ℕ
 fifth = emits 5 5 true ((filler CSID 1 ∷ []) ∷ general 5 [] ∷ (numbered PRID Prid (110 ∷ 8 ∷ 2 ∷ 3 ∷ []) ∷ c2it (at 3 4) ∷ []) ∷ [])
 
 -- the publisher

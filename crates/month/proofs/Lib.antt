@@ -5,3 +5,4 @@ pub mod JoinLaws
 pub mod WordLaws
 pub mod HandLaws
 pub mod DisplayLaws
+pub mod Sample
