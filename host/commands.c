@@ -41,30 +41,12 @@ int show_fields(const char *path, const char *number) {
     return n == 1 ? REFUSED : DONE;
 }
 
-/* Keeps what a call has written, if it has, and says the answer. */
-static int finished(const word answer[EZDURVASH_NUMBERS], const byte *out, const char *to) {
-    if (answer[EZDURVASH_NUMBER] == 0 && !saved(to, out, answer[EZDURVASH_LENGTH])) return TROUBLE;
-    return said(answer, 1);
-}
-
 int write_chart(const char *path, const char *to) {
     static byte out[EZDURVASH_LONGEST];
     struct file chart;
     word answer[EZDURVASH_NUMBERS];
-    if (!loaded(path, &chart)) return TROUBLE;
-    if (same_file(to, &chart)) return trouble(to, "it is the dataset itself, which is never overwritten");
+    if (!loaded(path, &chart) || !leads_elsewhere(to, &chart, "dataset")) return TROUBLE;
     ezdurvash_write(chart.bytes, chart.length, out, EZDURVASH_LONGEST, answer, EZDURVASH_NUMBERS);
-    return finished(answer, out, to);
-}
-
-int update_chart(const char *path, const char *update, const char *to) {
-    static byte out[EZDURVASH_LONGEST], work[EZDURVASH_WORKSPACE];
-    struct file chart, changes;
-    word answer[EZDURVASH_NUMBERS];
-    if (!loaded(path, &chart) || !loaded(update, &changes)) return TROUBLE;
-    if (same_file(to, &chart)) return trouble(to, "it is the dataset itself, which is never overwritten");
-    if (same_file(to, &changes)) return trouble(to, "it is the update itself, which is never overwritten");
-    ezdurvash_update(chart.bytes, chart.length, changes.bytes, changes.length, out, EZDURVASH_LONGEST, work, EZDURVASH_WORKSPACE,
-                     answer, EZDURVASH_NUMBERS);
-    return finished(answer, out, to);
+    if (answer[EZDURVASH_NUMBER] == 0 && !saved(to, out, answer[EZDURVASH_LENGTH])) return TROUBLE;
+    return said(answer, 1);
 }

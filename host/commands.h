@@ -1,4 +1,4 @@
-/* The words that work on charts in files. Each answers a status of the tool. */
+/* The words that work on one chart in a file. Each answers a status of the tool. */
 #ifndef EZ_COMMANDS_H
 #define EZ_COMMANDS_H
 
@@ -9,8 +9,7 @@ int list_chart(const char *path);
 /* The fields of the record with this number, from 1: tag, where its bytes begin in the file, and how many there are before its closing 1E. */
 int show_fields(const char *path, const char *number);
 
-/* Both put a file in the place of `to`: only where the rules accept, never in the place of what is read. */
+/* Puts a file in the place of `to`: only where the rules accept, never in the place of what is read. */
 int write_chart(const char *path, const char *to);
-int update_chart(const char *path, const char *update, const char *to);
 
 #endif

@@ -5,10 +5,11 @@
 /* The places of an answer's numbers. */
 enum { EZDURVASH_NUMBER, EZDURVASH_FILE, EZDURVASH_RECORD, EZDURVASH_LENGTH, EZDURVASH_COUNT, EZDURVASH_NUMBERS };
 
-/* Everywhere: any bytes may be handed over, and those of dataset and update are never written. No pointer is null, also where its length
-   is 0. The slices that are written lie apart from each other and from what is read. The five numbers of an answer go into `answer`,
-   whose `answer_length` is EZDURVASH_NUMBERS: number of the refusal (0 for done), file, record, written length, count of records; a
-   shorter `answer` is left as it is. No memory is taken but some 70 KiB of the stack, and more where attributes are nested deep. */
+/* Everywhere: any bytes may be handed over, and those of dataset and update are never written, but for a dataset in the pool of a month. No
+   pointer is null, also where its length is 0. The slices that are written lie apart from each other and from what is read. The five
+   numbers of an answer go into `answer`, whose `answer_length` is EZDURVASH_NUMBERS: number of the refusal (0 for done), file, record,
+   written length, count of records; a shorter `answer` is left as it is. No memory is taken but some 70 KiB of the stack, and more where
+   attributes are nested deep. */
 
 /* Checks a dataset; the written length is 0. */
 void ezdurvash_read(const unsigned char *dataset, unsigned long dataset_length, unsigned long *answer, unsigned long answer_length);
@@ -48,6 +49,17 @@ unsigned long ezdurvash_begin(const unsigned char *dataset, unsigned long datase
 unsigned long ezdurvash_hand(unsigned long place, unsigned long size, unsigned char *first, unsigned long first_length,
                              unsigned char *second, unsigned long second_length, const unsigned char *file, unsigned long file_length,
                              unsigned char *work, unsigned long work_length, unsigned long *answer, unsigned long answer_length);
+
+/* A month of updates at once. `list` holds update files one after the other, each preceded by its length: four bytes, the lowest first. They
+   are applied one by one to the dataset of `size` bytes at the beginning of the first pool, the pools changing places between, up to the
+   first that is refused; the answer is that of the last one tried. How many were applied, the number of the pool that holds the result, 1
+   or 2, and the result's length there go into `result`, whose `result_length` is EZDURVASH_MONTH; a shorter one is left as it is. The
+   other pool and `work`, as of ezdurvash_update, are zero afterwards; where none was applied the first pool keeps its bytes. */
+enum { EZDURVASH_APPLIED, EZDURVASH_POOL, EZDURVASH_RESULT, EZDURVASH_MONTH };
+void ezdurvash_month(const unsigned char *list, unsigned long list_length, unsigned char *first, unsigned long first_length,
+                     unsigned long size, unsigned char *second, unsigned long second_length, unsigned char *work,
+                     unsigned long work_length, unsigned long *answer, unsigned long answer_length, unsigned long *result,
+                     unsigned long result_length);
 
 /* The longest dataset, update or result. */
 enum { EZDURVASH_LONGEST = 16777216 };

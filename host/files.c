@@ -39,9 +39,12 @@ int loaded(const char *path, struct file *file) {
     return whole;
 }
 
-int same_file(const char *path, const struct file *file) {
+int leads_elsewhere(const char *path, const struct file *file, const char *role) {
     struct stat is;
-    return stat(path, &is) == 0 && is.device == file->device && is.inode == file->inode;
+    char what[80];
+    if (stat(path, &is) < 0 || is.device != file->device || is.inode != file->inode) return 1;
+    snprintf(what, sizeof what, "it is the %s itself, which is never overwritten", role);
+    return failed(path, what);
 }
 
 static int put_all(int to, const byte *bytes, word length) {
