@@ -1,9 +1,10 @@
 #include "batch.h"
 #include "files.h"
 #include "hash.h"
+#include "lists.h"
 #include "words.h"
 
-enum { READ = 1, WRITE = 2, UPDATE = 3, LISTING = 4 };
+enum { READ = 1, WRITE = 2, UPDATE = 3, LISTING = 4, MONTH = 9, OPERATIONS };
 enum { HEAD = 17 };
 
 /* What the lent slices are filled with before a call, so that zeroing shows. */
@@ -11,9 +12,12 @@ enum { FILLED = 0xa5 };
 
 /* One case: what is asked, the bytes handed over, and how long the lent slices are. */
 struct framed {
-    word operation, dataset_length, update_length, out_length, work_length;
-    const byte *dataset, *update;
+    word operation, first_length, second_length, out_length, work_length;
+    const byte *first, *second;
 };
+
+/* What can be in the way of a case. */
+static const char *const CUT = "the file ends inside it", *const NO_MEMORY = "there is no memory for its slices";
 
 static word little_endian(const byte *at) {
     return at[0] | (word)at[1] << 8 | (word)at[2] << 16 | (word)at[3] << 24;
@@ -23,13 +27,13 @@ static word little_endian(const byte *at) {
 static word unframed(const byte *at, word left, struct framed *one) {
     if (left < HEAD) return 0;
     one->operation = at[0];
-    one->dataset_length = little_endian(at + 1);
-    one->update_length = little_endian(at + 5);
+    one->first_length = little_endian(at + 1);
+    one->second_length = little_endian(at + 5);
     one->out_length = little_endian(at + 9);
     one->work_length = little_endian(at + 13);
-    one->dataset = at + HEAD;
-    one->update = one->dataset + one->dataset_length;
-    word length = HEAD + one->dataset_length + one->update_length;
+    one->first = at + HEAD;
+    one->second = one->first + one->first_length;
+    word length = HEAD + one->first_length + one->second_length;
     return length <= left ? length : 0;
 }
 
@@ -46,22 +50,30 @@ static byte *lent(word length) {
     return slice;
 }
 
-static void print_line(const word answer[EZDURVASH_NUMBERS], const byte *out, word out_length, int work_is_zero) {
+/* The words that every line but a listing's begins with. */
+static void print_words(const word answer[EZDURVASH_NUMBERS], word out_hash, int work_is_zero) {
     for (int i = 0; i < EZDURVASH_NUMBERS; i++) printf("%lu ", answer[i]);
-    printf("%016lx %d\n", hash(out, out_length), work_is_zero);
+    printf("%016lx %d", out_hash, work_is_zero);
 }
 
-/* Each of these answers a case of its operation; or says what is in the way. */
+static void print_line(const word answer[EZDURVASH_NUMBERS], word out_hash, int work_is_zero) {
+    print_words(answer, out_hash, work_is_zero);
+    printf("\n");
+}
+
+/* Answers a case of an operation; or says what is in the way. */
+typedef const char *answering(const struct framed *one);
+
 static const char *read_one(const struct framed *one) {
     word answer[EZDURVASH_NUMBERS];
-    ezdurvash_read(one->dataset, one->dataset_length, answer, EZDURVASH_NUMBERS);
-    print_line(answer, 0, 0, 1);
+    ezdurvash_read(one->first, one->first_length, answer, EZDURVASH_NUMBERS);
+    print_line(answer, hash(0, 0), 1);
     return 0;
 }
 
 static const char *listed_one(const struct framed *one) {
     static byte text[EZDURVASH_LISTING];
-    word length = ezdurvash_list(one->dataset, one->dataset_length, text, EZDURVASH_LISTING);
+    word length = ezdurvash_list(one->first, one->first_length, text, EZDURVASH_LISTING);
     printf("listing %lu %016lx\n", length, hash(text, length));
     return 0;
 }
@@ -69,9 +81,9 @@ static const char *listed_one(const struct framed *one) {
 static const char *written_one(const struct framed *one) {
     word answer[EZDURVASH_NUMBERS];
     byte *out = lent(one->out_length);
-    if (!out) return "there is no memory for its slice";
-    ezdurvash_write(one->dataset, one->dataset_length, out, one->out_length, answer, EZDURVASH_NUMBERS);
-    print_line(answer, out, one->out_length, 1);
+    if (!out) return NO_MEMORY;
+    ezdurvash_write(one->first, one->first_length, out, one->out_length, answer, EZDURVASH_NUMBERS);
+    print_line(answer, hash(out, one->out_length), 1);
     free(out);
     return 0;
 }
@@ -79,26 +91,46 @@ static const char *written_one(const struct framed *one) {
 /* The call of an update, its slices lent. */
 static void update_called(const struct framed *one, byte *out, byte *work) {
     word answer[EZDURVASH_NUMBERS];
-    ezdurvash_update(one->dataset, one->dataset_length, one->update, one->update_length, out, one->out_length, work,
-                     one->work_length, answer, EZDURVASH_NUMBERS);
-    print_line(answer, out, one->out_length, all_zero(work, one->work_length));
+    ezdurvash_update(one->first, one->first_length, one->second, one->second_length, out, one->out_length, work, one->work_length,
+                     answer, EZDURVASH_NUMBERS);
+    print_line(answer, hash(out, one->out_length), all_zero(work, one->work_length));
 }
 
 static const char *updated_one(const struct framed *one) {
     byte *out = lent(one->out_length), *work = lent(one->work_length);
-    const char *wrong = out && work ? 0 : "there is no memory for its slices";
+    const char *wrong = out && work ? 0 : NO_MEMORY;
     if (!wrong) update_called(one, out, work);
     free(out);
     free(work);
     return wrong;
 }
 
+/* The call of a month, its pools and workspace lent. The second part is the dataset's length in the first pool, then the list. */
+static void month_called(const struct framed *one, byte *first, byte *second, byte *work) {
+    word answer[EZDURVASH_NUMBERS], result[EZDURVASH_MONTH];
+    memcpy(first, one->first, one->first_length);
+    ezdurvash_month(one->second + LENGTH_BYTES, one->second_length - LENGTH_BYTES, first, one->first_length, little_endian(one->second),
+                    second, one->out_length, work, one->work_length, answer, EZDURVASH_NUMBERS, result, EZDURVASH_MONTH);
+    print_words(answer, hash_on(hash(first, one->first_length), second, one->out_length), all_zero(work, one->work_length));
+    printf(" %lu %lu %lu\n", result[EZDURVASH_APPLIED], result[EZDURVASH_POOL], result[EZDURVASH_RESULT]);
+}
+
+static const char *month_one(const struct framed *one) {
+    if (one->second_length < LENGTH_BYTES) return CUT;
+    byte *first = lent(one->first_length), *second = lent(one->out_length), *work = lent(one->work_length);
+    const char *wrong = first && second && work ? 0 : NO_MEMORY;
+    if (!wrong) month_called(one, first, second, work);
+    free(first);
+    free(second);
+    free(work);
+    return wrong;
+}
+
 static const char *answered(const struct framed *one) {
-    if (one->operation == READ) return read_one(one);
-    if (one->operation == WRITE) return written_one(one);
-    if (one->operation == LISTING) return listed_one(one);
-    if (one->operation == UPDATE) return updated_one(one);
-    return "there is no such operation";
+    static answering *const ANSWERS[OPERATIONS] = {
+        [READ] = read_one, [WRITE] = written_one, [UPDATE] = updated_one, [LISTING] = listed_one, [MONTH] = month_one};
+    answering *answer = one->operation < OPERATIONS ? ANSWERS[one->operation] : 0;
+    return answer ? answer(one) : "there is no such operation";
 }
 
 int batch(const char *path) {
@@ -109,7 +141,7 @@ int batch(const char *path) {
     for (word count = 1; at < cases.length; count++) {
         char what[64];
         word length = unframed(cases.bytes + at, cases.length - at, &one);
-        const char *wrong = length == 0 ? "the file ends inside it" : answered(&one);
+        const char *wrong = length == 0 ? CUT : answered(&one);
         if (wrong) {
             snprintf(what, sizeof what, "case %lu: %s", count, wrong);
             return trouble(path, what);

@@ -6,4 +6,7 @@
 
 word hash(const byte *bytes, word length);
 
+/* The hash of bytes whose hash is known and of others behind them. */
+word hash_on(word sum, const byte *bytes, word length);
+
 #endif
