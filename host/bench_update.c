@@ -37,7 +37,7 @@ static int update_line(struct desk *desk, word records) {
     static job *const JOBS[] = {reads, updates};
     word took[2];
     char changes[DIGITS];
-    desk->update = invented_update(&desk->dataset, records);
+    desk->update = invented_update(&desk->dataset, 1, records);
     if (!desk->update.bytes) {
         trouble("bench", "there is no memory for the update");
         return 0;

@@ -114,34 +114,39 @@ struct invented invented(word length, int wishes) {
     return result;
 }
 
-/* Update record i, in a group of the dataset. */
-static void change(struct record *r, word i, word group) {
+/* The point that update record i of an update inserts; the dataset has none of so high an RCID. */
+static word inserted_point(word number, word records, word i) {
+    return 1000000 + (number - 1) * records + i;
+}
+
+/* Update record i of so many in the update of this number, in a group of the dataset. */
+static void change(struct record *r, word number, word records, word i, word group) {
     if (i % 3 == 0) {
-        identified_record(r, FEATURE, group * 32 + 1 + i % 32, 2, MODIFY);
+        identified_record(r, FEATURE, group * 32 + 1 + i % 32, 1 + number, MODIFY);
         field_begin(r, "ATTR");
         attribute_tuple(r, 21, 1, 0, MODIFY, "Vachon East");
         attribute_tuple(r, 22, 1, 0, MODIFY, "");
         attribute_tuple(r, 29, 2, 2, INSERT, "32");
         field_end(r);
     } else if (i % 3 == 1) {
-        identified_record(r, POINT, 1000000 + i, 1, INSERT);
+        identified_record(r, POINT, inserted_point(number, records, i), 1, INSERT);
         coordinates_field(r, "C2IT", i, 1);
     } else {
-        identified_record(r, POINT, group * 32 + 32, 2, DELETE);
+        identified_record(r, POINT, number == 1 ? group * 32 + 32 : inserted_point(number - 1, records, i - 1), 2, DELETE);
     }
 }
 
-struct invented invented_update(const struct invented *dataset, word records) {
+struct invented invented_update(const struct invented *dataset, word number, word records) {
     struct record r;
     word groups = (dataset->records - HEADING) / GROUP;
     struct invented result = {malloc(1024 + records * 256), 0, 2 + records};
     if (!result.bytes) return result;
     descriptive_record(&r, 0);
     result.length += put_record(result.bytes, &r, 1);
-    general_record(&r, 1);
+    general_record(&r, number);
     result.length += put_record(result.bytes + result.length, &r, 0);
     for (word i = 0; i < records; i++) {
-        change(&r, i, i * groups / records);
+        change(&r, number, records, i, i * groups / records);
         result.length += put_record(result.bytes + result.length, &r, 0);
     }
     return result;

@@ -16,8 +16,10 @@ struct invented {
    association and a spatial association, two are information types and one is a multi point. Null bytes where there is no memory. */
 struct invented invented(word length, int wishes);
 
-/* An update of such a dataset without wishes: so many records, in turn a feature modified, a point inserted, a point that nobody names
-   deleted, spread over the whole dataset, which has at least as many records. Null bytes where there is no memory. */
-struct invented invented_update(const struct invented *dataset, word records);
+/* The update of this number, from 1, of such a dataset without wishes: so many records, in turn a feature modified, a point inserted, a
+   point that nobody names deleted, spread over the whole dataset, which has at least 30 times as many. Updates of as many records follow
+   each other: a later one modifies the same features, and deletes the points that the one before inserted. Null bytes where there is no
+   memory. */
+struct invented invented_update(const struct invented *dataset, word number, word records);
 
 #endif

@@ -18,24 +18,32 @@ static word timed(job *work, void *desk) {
     return now() - start + 1;
 }
 
+/* How long a job takes; kept where no run of it was shorter. */
+static word kept(job *work, void *desk, int run, word *shortest) {
+    word took = timed(work, desk);
+    if (run == 0 || took < *shortest) *shortest = took;
+    return took;
+}
+
 void best(job *const *jobs, word count, void *desk, word *shortest) {
     word all = 0;
-    for (int run = 0; run < RUNS && all < PATIENCE; run++) {
-        for (word i = 0; i < count; i++) {
-            word took = timed(jobs[i], desk);
-            all += took;
-            if (run == 0 || took < shortest[i]) shortest[i] = took;
-        }
-    }
+    for (int run = 0; run < RUNS && all < PATIENCE; run++)
+        for (word i = 0; i < count; i++) all += kept(jobs[i], desk, run, shortest + i);
 }
 
 word best_of_few(job *work, void *desk) {
-    word shortest = timed(work, desk);
-    for (int run = 1; run < FEW && shortest <= LONG; run++) {
-        word took = timed(work, desk);
-        if (took < shortest) shortest = took;
-    }
+    word shortest = 0;
+    for (int run = 0; run < FEW && shortest <= LONG; run++) kept(work, desk, run, &shortest);
     return shortest;
+}
+
+void best_prepared(job *before, job *const *jobs, word count, void *desk, word *shortest) {
+    for (int run = 0; run < FEW; run++) {
+        for (word i = 0; i < count; i++) {
+            before(desk);
+            kept(jobs[i], desk, run, shortest + i);
+        }
+    }
 }
 
 double milliseconds(word nanoseconds) {

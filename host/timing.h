@@ -15,6 +15,9 @@ void best(job *const *jobs, word count, void *desk, word *shortest);
 /* The shortest of few runs of one job; of one run where that takes more than half a second. */
 word best_of_few(job *work, void *desk);
 
+/* The shortest of few runs of each job, taking turns, with another job before every run whose time does not count. */
+void best_prepared(job *before, job *const *jobs, word count, void *desk, word *shortest);
+
 double milliseconds(word nanoseconds);
 
 /* How many times the one is the other. */
