@@ -112,7 +112,7 @@ static void month_called(const struct framed *one, byte *first, byte *second, by
     ezdurvash_month(one->second + LENGTH_BYTES, one->second_length - LENGTH_BYTES, first, one->first_length, little_endian(one->second),
                     second, one->out_length, work, one->work_length, answer, EZDURVASH_NUMBERS, result, EZDURVASH_MONTH);
     print_words(answer, hash_on(hash(first, one->first_length), second, one->out_length), all_zero(work, one->work_length));
-    printf(" %lu %lu %lu\n", result[EZDURVASH_APPLIED], result[EZDURVASH_POOL], result[EZDURVASH_RESULT]);
+    printf(" %lu %lu %lu\n", result[EZDURVASH_APPLIED], result[EZDURVASH_POOL], result[EZDURVASH_RESULT_LENGTH]);
 }
 
 static const char *month_one(const struct framed *one) {

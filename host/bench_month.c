@@ -79,8 +79,8 @@ int bench_month(word mebibytes) {
     word took[2];
     char bytes[DIGITS];
     if (!laid(&desk, mebibytes * MEBIBYTE - SPARE)) return trouble("bench", "there is no memory for the dataset and its updates");
-    printf("a month of %d updates of %d records each, applied to a sorted dataset of %s bytes at once and one by one, processor time, best of %d runs\n\n",
-           UPDATES, RECORDS, counted(desk.dataset.length, bytes), FEW);
+    printf("a month of %d updates of %d records each on a sorted dataset of %s bytes, processor time, best of %d runs\n\n", UPDATES, RECORDS,
+           counted(desk.dataset.length, bytes), FEW);
     printf("     at once   one by one    times\n");
     best_prepared(puts_back, JOBS, 2, &desk, took);
     printf("%9.1f ms %9.1f ms %8.2f\n", milliseconds(took[0]), milliseconds(took[1]), times(took[0], took[1]));

@@ -50,12 +50,12 @@ unsigned long ezdurvash_hand(unsigned long place, unsigned long size, unsigned c
                              unsigned char *second, unsigned long second_length, const unsigned char *file, unsigned long file_length,
                              unsigned char *work, unsigned long work_length, unsigned long *answer, unsigned long answer_length);
 
-/* A month of updates at once. `list` holds update files one after the other, each preceded by its length: four bytes, the lowest first. They
-   are applied one by one to the dataset of `size` bytes at the beginning of the first pool, the pools changing places between, up to the
-   first that is refused; the answer is that of the last one tried. How many were applied, the number of the pool that holds the result, 1
-   or 2, and the result's length there go into `result`, whose `result_length` is EZDURVASH_MONTH; a shorter one is left as it is. The
-   other pool and `work`, as of ezdurvash_update, are zero afterwards; where none was applied the first pool keeps its bytes. */
-enum { EZDURVASH_APPLIED, EZDURVASH_POOL, EZDURVASH_RESULT, EZDURVASH_MONTH };
+/* A month of updates at once. `list` holds update files one after the other, each preceded by its length: four bytes, the lowest first.
+   They are applied one by one to the dataset of `size` bytes at the beginning of the first pool, the pools changing places between, up to
+   the first that is refused; the answer is that of the last one tried. How many were applied, the number of the pool that holds the
+   result, 1 or 2, and the result's length there go into `result`, whose `result_length` is EZDURVASH_MONTH; a shorter one is left as it
+   is. The other pool and `work`, as of ezdurvash_update, are zero afterwards; where none was applied the first pool keeps its bytes. */
+enum { EZDURVASH_APPLIED, EZDURVASH_POOL, EZDURVASH_RESULT_LENGTH, EZDURVASH_MONTH };
 void ezdurvash_month(const unsigned char *list, unsigned long list_length, unsigned char *first, unsigned long first_length,
                      unsigned long size, unsigned char *second, unsigned long second_length, unsigned char *work,
                      unsigned long work_length, unsigned long *answer, unsigned long answer_length, unsigned long *result,

@@ -13,7 +13,7 @@ struct file {
 /* Reads a whole file; 0 where it cannot be read, which is then said. */
 int loaded(const char *path, struct file *file);
 
-/* Whether the path leads elsewhere than to this file that was read as such and such, by whatever name or link; if not, it is said. */
+/* Whether the path leads elsewhere than to this file, by whatever name or link; if not, it is said, and in which role the file was read. */
 int leads_elsewhere(const char *path, const struct file *file, const char *role);
 
 /* Puts the bytes into the file of this path by way of a new file beside it: whoever looks sees the old file or the whole new one.

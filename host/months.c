@@ -84,7 +84,7 @@ static int told(const struct month *month) {
     if (applied == 0) {
         printf("none applied\n");
     } else {
-        printf("%lu of %lu applied: %s bytes\n", applied, month->count, counted(month->result[EZDURVASH_RESULT], bytes));
+        printf("%lu of %lu applied: %s bytes\n", applied, month->count, counted(month->result[EZDURVASH_RESULT_LENGTH], bytes));
     }
     return REFUSED;
 }
@@ -94,6 +94,6 @@ int update_chart(const char *path, char **updates, word count, const char *to) {
     if (gathered(&month, path) != DONE || spared(&month, to) != DONE || joined(&month) != DONE || pooled(&month) != DONE) return TROUBLE;
     called(&month);
     const byte *chart = month.result[EZDURVASH_POOL] == 2 ? month.second : month.first;
-    if (month.result[EZDURVASH_APPLIED] > 0 && !saved(to, chart, month.result[EZDURVASH_RESULT])) return TROUBLE;
+    if (month.result[EZDURVASH_APPLIED] > 0 && !saved(to, chart, month.result[EZDURVASH_RESULT_LENGTH])) return TROUBLE;
     return told(&month);
 }
