@@ -1,4 +1,5 @@
 #include "bench.h"
+#include "hash.h"
 #include "invent.h"
 #include "lists.h"
 #include "timing.h"
@@ -65,11 +66,20 @@ static int laid(struct desk *desk, word bytes) {
     return at != 0;
 }
 
-/* Whether all updates were applied, and both ways came to one answer; if not, it is said. */
-static int good(const struct desk *desk) {
+/* The hash of the pool with the chart that a job leaves, and the zeroes behind it. */
+static word chart_left(job *applies, struct desk *desk) {
+    puts_back(desk);
+    applies(desk);
+    return hash(pools[UPDATES % 2], EZDURVASH_LONGEST);
+}
+
+/* Whether all updates were applied, and both ways came to one answer and one chart; if not, it is said. */
+static int good(struct desk *desk) {
+    int one_chart = chart_left(applies_at_once, desk) == chart_left(applies_one_by_one, desk);
+    int one_answer = memcmp(&desk->at_once, &desk->one_by_one, sizeof desk->at_once) == 0;
     word number = desk->at_once.answer[EZDURVASH_NUMBER];
-    if (number == 0 && desk->at_once.applied == UPDATES && memcmp(&desk->at_once, &desk->one_by_one, sizeof desk->at_once) == 0) return 1;
-    trouble("bench", number ? meaning(number) : "a month and its single updates come to different answers");
+    if (number == 0 && desk->at_once.applied == UPDATES && one_answer && one_chart) return 1;
+    trouble("bench", number ? meaning(number) : "a month and its single updates do not come to the same");
     return 0;
 }
 
