@@ -94,6 +94,6 @@ int bench_month(word mebibytes) {
     printf("     at once   one by one    times\n");
     best_prepared(puts_back, JOBS, 2, &desk, took);
     printf("%9.1f ms %9.1f ms %8.2f\n", milliseconds(took[0]), milliseconds(took[1]), times(took[0], took[1]));
-    printf("\nwanted: a month at most as long as its single updates\n");
+    printf("\nwanted: a month at most 0.6 of its single updates\n");
     return good(&desk) ? DONE : TROUBLE;
 }
