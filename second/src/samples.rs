@@ -3,7 +3,7 @@
 use crate::answer::{self, Answered};
 use crate::batch::{framed, Case};
 use crate::build::{
-    attr, c2il, c2it, cocc, field, file, foid, frid, inas, irid, mrid, prid, spas, Field, Tuple,
+    attr, c2il, c2it, cocc, field, file, foid, frid, inas, irid, joined, mrid, prid, spas, Field, Tuple,
 };
 use crate::calls::WORKSPACE;
 
@@ -251,6 +251,12 @@ pub fn samples() -> Vec<Sample> {
         Case::update(after_first.clone(), second.clone(), room, WORKSPACE),
         Case::listing(result(&after_first, &second)),
     ];
+    // Both updates at once, in pools of this room; and the second again behind them.
+    let (length, mut pool) = (chart.len() as u32, chart.clone());
+    pool.resize(room as usize, 0);
+    for list in [vec![first.clone(), second.clone()], vec![first.clone(), second.clone(), second.clone()]] {
+        cases.push(Case::month(pool.clone(), length, &joined(&list), room, WORKSPACE));
+    }
     let mut files = vec![("chart.000".to_string(), chart.clone()), ("chart.001".to_string(), first)];
     files.push(("chart.002".to_string(), second));
     for (number, cause, bytes) in refused() {
@@ -277,7 +283,7 @@ mod tests {
 
     #[test]
     fn good_ones_are_done_and_refused_ones_have_their_number() {
-        let expected = ["0", "listing", "0", "0", "0", "listing", "6", "7", "8", "9", "11"];
+        let expected = ["0", "listing", "0", "0", "0", "listing", "0", "8", "6", "7", "8", "9", "11"];
         assert_eq!(numbers(), expected);
     }
 
