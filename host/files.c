@@ -39,6 +39,11 @@ int loaded(const char *path, struct file *file) {
     return whole;
 }
 
+int is_there(const char *path) {
+    struct stat is;
+    return stat(path, &is) == 0;
+}
+
 int leads_elsewhere(const char *path, const struct file *file, const char *role) {
     struct stat is;
     char what[80];

@@ -13,6 +13,9 @@ struct file {
 /* Reads a whole file; 0 where it cannot be read, which is then said. */
 int loaded(const char *path, struct file *file);
 
+/* Whether the path leads to anything. */
+int is_there(const char *path);
+
 /* Whether the path leads elsewhere than to this file, by whatever name or link; if not, it is said, and in which role the file was read. */
 int leads_elsewhere(const char *path, const struct file *file, const char *role);
 

@@ -23,12 +23,33 @@ static int gathered(struct month *month, const char *path) {
     return DONE;
 }
 
-/* Sees that nothing that was read is to be overwritten. */
+/* The tags of a general record and of a dataset's third, as ezdurvash_field gives them. */
+enum { DSID = 0x44534944, CSID = 0x43534944 };
+
+/* Whether a file is an update: it has a general record, and behind it no CSID, as every dataset has. */
+static int is_update(const struct file *file) {
+    word field[EZDURVASH_FIELD];
+    if (!ezdurvash_field(file->bytes, file->length, 2, 1, field, EZDURVASH_FIELD) || field[0] != DSID) return 0;
+    return !ezdurvash_field(file->bytes, file->length, 3, 1, field, EZDURVASH_FIELD) || field[0] != CSID;
+}
+
+/* Sees that the last of the words, where the one for the result was forgotten, does not cost an update. */
+static int forgotten(const char *to) {
+    struct file there;
+    if (!is_there(to)) return 0;
+    if (!loaded(to, &there)) return 1;
+    int update = is_update(&there);
+    free(there.bytes);
+    if (update) trouble(to, "it is an update; name the file for the result behind the updates");
+    return update;
+}
+
+/* Sees that nothing that was read is to be overwritten, and no other update. */
 static int spared(const struct month *month, const char *to) {
     if (!leads_elsewhere(to, &month->chart, "dataset")) return TROUBLE;
     for (word i = 0; i < month->count; i++)
         if (!leads_elsewhere(to, month->updates + i, "update")) return TROUBLE;
-    return DONE;
+    return forgotten(to) ? TROUBLE : DONE;
 }
 
 static int joined(struct month *month) {
