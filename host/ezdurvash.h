@@ -8,8 +8,8 @@ enum { EZDURVASH_NUMBER, EZDURVASH_FILE, EZDURVASH_RECORD, EZDURVASH_LENGTH, EZD
 /* Everywhere: any bytes may be handed over, and those of dataset and update are never written, but for a dataset in the pool of a month. No
    pointer is null, also where its length is 0. The slices that are written lie apart from each other and from what is read. The five
    numbers of an answer go into `answer`, whose `answer_length` is EZDURVASH_NUMBERS: number of the refusal (0 for done), file, record,
-   written length, count of records; a shorter `answer` is left as it is. No memory is taken but some 70 KiB of the stack, and more where
-   attributes are nested deep. */
+   written length, count of records; a shorter `answer` is left as it is. No memory is taken but the stack: some 100 KiB, and more where
+   attributes are nested deep. As deep as a record allows, 2.3 MB were measured for a read or a write, 5.1 MB for an update. */
 
 /* Checks a dataset; the written length is 0. */
 void ezdurvash_read(const unsigned char *dataset, unsigned long dataset_length, unsigned long *answer, unsigned long answer_length);

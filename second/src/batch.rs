@@ -38,10 +38,9 @@ impl Case {
         Case { operation: LISTING, first: input, second: Vec::new(), out: 0, work: 0 }
     }
 
-    /// The first pool as it is handed over, the dataset's length in it, the list, and how long the second pool is.
-    pub fn month(pool: Vec<u8>, length: u32, list: &[u8], other: u32, work: u32) -> Case {
-        let second = [&length.to_le_bytes(), list].concat();
-        Case { operation: MONTH, first: pool, second, out: other, work }
+    pub fn month(call: &MonthCall) -> Case {
+        let second = [&(call.length as u32).to_le_bytes(), &call.list[..]].concat();
+        Case { operation: MONTH, first: call.first.clone(), second, out: call.second as u32, work: call.work }
     }
 
     /// Of a month: the dataset's length in the first pool, and the list. None where the second part is too short.
@@ -49,6 +48,17 @@ impl Case {
         let (length, list) = self.second.split_first_chunk()?;
         Some((u32::from_le_bytes(*length), list))
     }
+}
+
+/// What a month is handed: the first pool with its bytes, the dataset's length in it, the list, and how long the second
+/// pool and the workspace are.
+#[derive(Clone, Debug)]
+pub struct MonthCall {
+    pub first: Vec<u8>,
+    pub length: usize,
+    pub list: Vec<u8>,
+    pub second: usize,
+    pub work: u32,
 }
 
 /// The cases as the bytes of a file.

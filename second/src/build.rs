@@ -45,6 +45,13 @@ pub fn joined(files: &[Vec<u8>]) -> Vec<u8> {
     files.iter().flat_map(|file| [&(file.len() as u32).to_le_bytes(), &file[..]].concat()).collect()
 }
 
+/// A dataset at the front of a pool of so many bytes, with this byte behind it.
+pub fn pooled(dataset: &[u8], pool: usize, behind: u8) -> Vec<u8> {
+    let mut bytes = vec![behind; pool];
+    bytes[..dataset.len()].copy_from_slice(dataset);
+    bytes
+}
+
 /// The general record's identification; the five texts before the name are empty.
 pub fn dsid(rcid: u32, name: &str, edition: u16, update: u16) -> Field {
     let mut body = vec![10];

@@ -1,9 +1,10 @@
 //! The samples: a small chart that any ISO 8211 reader can read, two updates of it, and updates that are refused.
 
 use crate::answer::{self, Answered};
-use crate::batch::{framed, Case};
+use crate::batch::{framed, Case, MonthCall};
 use crate::build::{
-    attr, c2il, c2it, cocc, field, file, foid, frid, inas, irid, joined, mrid, prid, spas, Field, Tuple,
+    attr, c2il, c2it, cocc, field, file, foid, frid, inas, irid, joined, mrid, pooled, prid, spas, Field,
+    Tuple,
 };
 use crate::calls::WORKSPACE;
 
@@ -252,10 +253,10 @@ pub fn samples() -> Vec<Sample> {
         Case::listing(result(&after_first, &second)),
     ];
     // Both updates at once, in pools of this room; and the second again behind them.
-    let (length, mut pool) = (chart.len() as u32, chart.clone());
-    pool.resize(room as usize, 0);
-    for list in [vec![first.clone(), second.clone()], vec![first.clone(), second.clone(), second.clone()]] {
-        cases.push(Case::month(pool.clone(), length, &joined(&list), room, WORKSPACE));
+    for files in [vec![first.clone(), second.clone()], vec![first.clone(), second.clone(), second.clone()]] {
+        let (pool, list) = (pooled(&chart, room as usize, 0), joined(&files));
+        let call = MonthCall { first: pool, length: chart.len(), list, second: room as usize, work: WORKSPACE };
+        cases.push(Case::month(&call));
     }
     let mut files = vec![("chart.000".to_string(), chart.clone()), ("chart.001".to_string(), first)];
     files.push(("chart.002".to_string(), second));

@@ -1,6 +1,11 @@
 //! Framed cases: what is framed comes back, and a file that is no whole number of cases is refused at the case.
 
-use second::batch::{framed, unframed, Case, MONTH, OPERATIONS};
+use second::batch::{framed, unframed, Case, MonthCall, MONTH, OPERATIONS};
+
+/// A month of a few bytes, which no updater could take.
+fn month() -> Case {
+    Case::month(&MonthCall { first: vec![9; 5], length: 0x01020304, list: vec![7, 8], second: 6, work: 400_000 })
+}
 
 /// One case of each operation.
 fn cases() -> Vec<Case> {
@@ -9,7 +14,7 @@ fn cases() -> Vec<Case> {
         Case::write(Vec::new(), 7),
         Case::update(vec![4], vec![5, 6], 8, u32::MAX),
         Case::listing(vec![0; 20]),
-        Case::month(vec![9; 5], 0x01020304, &[7, 8], 6, 400_000),
+        month(),
     ];
     assert_eq!(cases.iter().map(|case| case.operation).collect::<Vec<_>>(), OPERATIONS);
     cases
@@ -23,7 +28,7 @@ fn framed_cases_come_back() {
 
 #[test]
 fn a_month_has_its_length_before_its_list() {
-    let month = Case::month(vec![9; 5], 0x01020304, &[7, 8], 6, 400_000);
+    let month = month();
     assert_eq!(framed(std::slice::from_ref(&month))[..9], [MONTH, 5, 0, 0, 0, 6, 0, 0, 0]);
     assert_eq!(month.second, [4, 3, 2, 1, 7, 8]);
     assert_eq!(month.length_and_list(), Some((0x01020304, &[7, 8][..])));
@@ -53,9 +58,9 @@ fn an_operation_that_there_is_not_is_refused() {
 #[test]
 fn a_month_without_a_whole_length_is_no_whole_case() {
     for length in 0..4 {
-        let short = Case { second: vec![0; length], ..Case::month(Vec::new(), 0, &[], 0, 0) };
+        let short = Case { second: vec![0; length], ..month() };
         assert_eq!(unframed(&framed(&[short, Case::read(Vec::new())])), Err(1), "{length} bytes");
     }
-    let least = vec![Case::month(Vec::new(), 0, &[], 0, 0)];
+    let least = vec![Case { second: vec![0; 4], ..month() }];
     assert_eq!(unframed(&framed(&least)), Ok(least));
 }

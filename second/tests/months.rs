@@ -3,42 +3,26 @@
 mod common;
 use common::*;
 use second::answer::{answer, line};
-use second::batch::fnv;
+use second::batch::{fnv, MonthCall};
 
 /// The pools of most tests: lengths that differ, and bytes behind the dataset.
 const FIRST: usize = 3_000;
 const SECOND: usize = 2_000;
 const BEHIND: u8 = 0x77;
 
-/// A call, all of it as it should be unless a test says otherwise.
-struct Asked {
-    first: Vec<u8>,
-    length: usize,
-    list: Vec<u8>,
-    second: usize,
-    work: u32,
-}
-
-impl Asked {
-    fn case(&self) -> Case {
-        Case::month(self.first.clone(), self.length as u32, &self.list, self.second as u32, self.work)
-    }
-}
-
-/// A dataset in the first pool, and these files.
-fn of_dataset(dataset: &[u8], files: &[Vec<u8>]) -> Asked {
-    let mut first = vec![BEHIND; FIRST];
-    first[..dataset.len()].copy_from_slice(dataset);
-    Asked { first, length: dataset.len(), list: joined(files), second: SECOND, work: WORK }
+/// A dataset in the first pool, and these files, all else as it should be.
+fn of_dataset(dataset: &[u8], files: &[Vec<u8>]) -> MonthCall {
+    let first = pooled(dataset, FIRST, BEHIND);
+    MonthCall { first, length: dataset.len(), list: joined(files), second: SECOND, work: WORK }
 }
 
 /// The base dataset, and these files.
-fn asked(files: &[Vec<u8>]) -> Asked {
+fn asked(files: &[Vec<u8>]) -> MonthCall {
     of_dataset(&given(&base()), files)
 }
 
 /// The base dataset and updates of these numbers.
-fn of_updates(numbers: &[u16]) -> Asked {
+fn of_updates(numbers: &[u16]) -> MonthCall {
     asked(&numbers.iter().map(|n| update(*n)).collect::<Vec<_>>())
 }
 
@@ -70,7 +54,7 @@ fn chart(n: u16) -> Vec<Record> {
 }
 
 /// The first pool and the second after a call.
-fn pools(asked: &Asked, reply: &Reply) -> (Vec<u8>, Vec<u8>) {
+fn pools(asked: &MonthCall, reply: &Reply) -> (Vec<u8>, Vec<u8>) {
     assert_eq!(reply.out.len(), asked.first.len() + asked.second, "length of both pools");
     let (first, second) = reply.out.split_at(asked.first.len());
     (first.to_vec(), second.to_vec())
@@ -83,8 +67,8 @@ fn padded(written: &[u8], length: usize) -> Vec<u8> {
 }
 
 /// None is applied: number, file and record of the answer; all else that an answer says then is tested here.
-fn none_applied(asked: &Asked) -> Refusal {
-    let reply = reply(&asked.case());
+fn none_applied(asked: &MonthCall) -> Refusal {
+    let reply = reply(&Case::month(asked));
     assert_eq!((reply.length, reply.count), (0, 0), "length and count");
     assert_eq!(reply.held, Some(Held { applied: 0, pool: 1, length: asked.length }));
     assert!(pools(asked, &reply) == (asked.first.clone(), vec![0; asked.second]), "bytes of the pools");
@@ -93,8 +77,8 @@ fn none_applied(asked: &Asked) -> Refusal {
 }
 
 /// So many are applied and this chart is held: the refusal behind them, or zeroes; all else is tested here.
-fn some_applied(asked: &Asked, applied: usize, chart: &[Record]) -> Refusal {
-    let (reply, written) = (reply(&asked.case()), file(chart));
+fn some_applied(asked: &MonthCall, applied: usize, chart: &[Record]) -> Refusal {
+    let (reply, written) = (reply(&Case::month(asked)), file(chart));
     let done = (written.len(), chart.len());
     assert_eq!((reply.length, reply.count), if reply.number == 0 { done } else { (0, 0) }, "length and count");
     let pool = if applied % 2 == 1 { 2 } else { 1 };
@@ -113,7 +97,7 @@ const DONE: Refusal = (0, 0, 0);
 // ---- M1: the answer ----
 
 /// What the updater itself answers to the files one by one, each on what the one before it left in the other pool.
-fn one_by_one(asked: &Asked, files: &[Vec<u8>]) -> (Refusal, usize, usize) {
+fn one_by_one(asked: &MonthCall, files: &[Vec<u8>]) -> (Refusal, usize, usize) {
     let mut chart = asked.first[..asked.length].to_vec();
     let mut last = (DONE, 0, 0);
     for (n, file) in files.iter().enumerate() {
@@ -134,7 +118,7 @@ fn m1_the_answer_is_that_of_the_last_update() {
     for numbers in lists {
         let asked = of_updates(numbers);
         let files: Vec<Vec<u8>> = numbers.iter().map(|n| update(*n)).collect();
-        let reply = reply(&asked.case());
+        let reply = reply(&Case::month(&asked));
         let answer = ((reply.number, reply.file, reply.record), reply.length, reply.count);
         assert_eq!(answer, one_by_one(&asked, &files), "{numbers:?}");
     }
@@ -156,7 +140,7 @@ fn m1_the_line_tells_it_behind_the_old_words() {
     let asked = of_updates(&[1, 2, 2]);
     let length = file(&chart(2)).len();
     let hash = fnv(&[padded(&file(&chart(2)), FIRST), vec![0; SECOND]].concat());
-    assert_eq!(line(&answer(&asked.case())), format!("8 2 2 0 0 {hash:016x} 1 2 1 {length}"));
+    assert_eq!(line(&answer(&Case::month(&asked))), format!("8 2 2 0 0 {hash:016x} 1 2 1 {length}"));
     let one = of_updates(&[1]);
     let (length, count) = (file(&chart(1)).len(), chart(1).len());
     let hash = fnv(&[vec![0; FIRST], padded(&file(&chart(1)), SECOND)].concat());
@@ -170,12 +154,12 @@ fn m2_15_comes_before_all() {
     for list in [Vec::new(), vec![0], joined(&[update(1)]), joined(&[Vec::new()])] {
         for length in [0, given(&base()).len(), FIRST + 1] {
             for work in [0, WORK - 1] {
-                let short = Asked { list: list.clone(), length, work, ..asked(&[]) };
+                let short = MonthCall { list: list.clone(), length, work, ..asked(&[]) };
                 assert_eq!(none_applied(&short), (15, 0, 0));
             }
         }
     }
-    let longer = Asked { work: WORK + 1, ..of_updates(&[1]) };
+    let longer = MonthCall { work: WORK + 1, ..of_updates(&[1]) };
     assert_eq!(some_applied(&longer, 1, &chart(1)), DONE);
 }
 
@@ -193,7 +177,7 @@ fn m2_fewer_than_four_bytes_or_a_length_past_the_end_at_that_files_turn() {
     for bytes in broken {
         let behind = |numbers: &[u16]| {
             let asked = of_updates(numbers);
-            Asked { list: [&asked.list[..], &bytes].concat(), ..asked }
+            MonthCall { list: [&asked.list[..], &bytes].concat(), ..asked }
         };
         assert_eq!(none_applied(&behind(&[])), (1, 2, 0));
         assert_eq!(some_applied(&behind(&[1]), 1, &chart(1)), (1, 2, 0));
@@ -202,24 +186,24 @@ fn m2_fewer_than_four_bytes_or_a_length_past_the_end_at_that_files_turn() {
         assert_eq!(none_applied(&behind(&[2])), (8, 2, 2));
         assert_eq!(some_applied(&behind(&[1, 1]), 1, &chart(1)), (8, 2, 2));
     }
-    let exact = Asked { list: [&(next.len() as u32).to_le_bytes(), &next[..]].concat(), ..asked(&[]) };
+    let exact = MonthCall { list: [&(next.len() as u32).to_le_bytes(), &next[..]].concat(), ..asked(&[]) };
     assert_eq!(none_applied(&exact), (8, 2, 2));
 }
 
 #[test]
 fn m2_then_the_datasets_length_and_then_what_the_updater_refuses() {
-    let above = |asked: Asked| Asked { length: FIRST + 1, ..asked };
+    let above = |asked: MonthCall| MonthCall { length: FIRST + 1, ..asked };
     assert_eq!(none_applied(&above(of_updates(&[1]))), (1, 1, 0));
     assert_eq!(none_applied(&above(asked(&[Vec::new()]))), (1, 1, 0));
     assert_eq!(none_applied(&above(of_updates(&[2]))), (1, 1, 0));
-    assert_eq!(none_applied(&Asked { length: u32::MAX as usize, ..of_updates(&[1]) }), (1, 1, 0));
+    assert_eq!(none_applied(&MonthCall { length: u32::MAX as usize, ..of_updates(&[1]) }), (1, 1, 0));
     let broken_later = joined(&[update(1)]).into_iter().chain([0]).collect();
-    assert_eq!(none_applied(&above(Asked { list: broken_later, ..asked(&[]) })), (1, 1, 0));
-    assert_eq!(none_applied(&above(Asked { list: vec![0; 3], ..asked(&[]) })), (1, 2, 0));
-    assert_eq!(none_applied(&above(Asked { list: vec![9, 0, 0, 0], ..asked(&[]) })), (1, 2, 0));
+    assert_eq!(none_applied(&above(MonthCall { list: broken_later, ..asked(&[]) })), (1, 1, 0));
+    assert_eq!(none_applied(&above(MonthCall { list: vec![0; 3], ..asked(&[]) })), (1, 2, 0));
+    assert_eq!(none_applied(&above(MonthCall { list: vec![9, 0, 0, 0], ..asked(&[]) })), (1, 2, 0));
     // The whole pool is a length that is not above it.
-    assert_eq!(none_applied(&Asked { length: FIRST, ..of_updates(&[1]) }), (2, 1, SECOND_FEATURE + 1));
-    assert_eq!(none_applied(&Asked { length: 0, ..of_updates(&[1]) }), (1, 1, 1));
+    assert_eq!(none_applied(&MonthCall { length: FIRST, ..of_updates(&[1]) }), (2, 1, SECOND_FEATURE + 1));
+    assert_eq!(none_applied(&MonthCall { length: 0, ..of_updates(&[1]) }), (1, 1, 1));
 }
 
 #[test]
@@ -239,7 +223,7 @@ fn m2_each_result_needs_room_in_the_other_pool() {
     let length = |n| file(&chart(n)).len();
     let rooms = |first: usize, second| {
         let whole = of_updates(&[1, 2, 3, 4]);
-        Asked { first: whole.first[..first].to_vec(), second, ..whole }
+        MonthCall { first: whole.first[..first].to_vec(), second, ..whole }
     };
     assert_eq!(some_applied(&rooms(length(4), length(3)), 4, &chart(4)), DONE);
     assert_eq!(none_applied(&rooms(length(4), length(1) - 1)), (13, 3, 0));
@@ -254,20 +238,20 @@ fn m2_each_result_needs_room_in_the_other_pool() {
 fn m3_an_empty_list_is_done_and_reads_nothing() {
     assert_eq!(none_applied(&asked(&[])), DONE);
     for length in [0, 5, FIRST, FIRST + 1, u32::MAX as usize] {
-        assert_eq!(none_applied(&Asked { length, ..asked(&[]) }), DONE, "length {length}");
+        assert_eq!(none_applied(&MonthCall { length, ..asked(&[]) }), DONE, "length {length}");
     }
     assert_eq!(none_applied(&of_dataset(b"no dataset", &[])), DONE);
-    assert_eq!(none_applied(&Asked { second: 0, ..asked(&[]) }), DONE);
-    assert_eq!(none_applied(&Asked { first: Vec::new(), second: 0, ..asked(&[]) }), DONE);
+    assert_eq!(none_applied(&MonthCall { second: 0, ..asked(&[]) }), DONE);
+    assert_eq!(none_applied(&MonthCall { first: Vec::new(), second: 0, ..asked(&[]) }), DONE);
 }
 
 // ---- M4: the pools ----
 
 /// The same call with other bytes behind the dataset.
-fn with_behind(asked: Asked, byte: u8) -> Asked {
+fn with_behind(asked: MonthCall, byte: u8) -> MonthCall {
     let mut first = asked.first;
     first[asked.length..].fill(byte);
-    Asked { first, ..asked }
+    MonthCall { first, ..asked }
 }
 
 #[test]
@@ -275,8 +259,8 @@ fn m4_none_applied_keeps_every_byte_of_the_first_pool() {
     for byte in [0, BEHIND, 0xff] {
         assert_eq!(none_applied(&with_behind(of_updates(&[2]), byte)), (8, 2, 2));
         assert_eq!(none_applied(&with_behind(asked(&[]), byte)), DONE);
-        assert_eq!(none_applied(&with_behind(Asked { work: 0, ..of_updates(&[1]) }, byte)), (15, 0, 0));
-        assert_eq!(none_applied(&with_behind(Asked { second: 9, ..of_updates(&[1]) }, byte)), (13, 3, 0));
+        assert_eq!(none_applied(&with_behind(MonthCall { work: 0, ..of_updates(&[1]) }, byte)), (15, 0, 0));
+        assert_eq!(none_applied(&with_behind(MonthCall { second: 9, ..of_updates(&[1]) }, byte)), (13, 3, 0));
     }
 }
 
@@ -295,9 +279,9 @@ fn m4_the_pool_that_does_not_hold_the_result_is_zero() {
 #[test]
 fn m5_none_applied_holds_the_length_handed_over_whatever_it_is() {
     for length in [0, 1, FIRST, FIRST + 1, u32::MAX as usize] {
-        let refusal = none_applied(&Asked { length, ..of_updates(&[1]) });
+        let refusal = none_applied(&MonthCall { length, ..of_updates(&[1]) });
         assert_ne!(refusal, DONE, "length {length}");
-        assert_eq!(none_applied(&Asked { length, list: vec![1], ..asked(&[]) }), (1, 2, 0));
+        assert_eq!(none_applied(&MonthCall { length, list: vec![1], ..asked(&[]) }), (1, 2, 0));
     }
 }
 

@@ -10,7 +10,7 @@ use Rattle.rules.specs.Answers.{Output, Written, success, outputOf, updateOutco
 use Rattle.rules.specs.declared.Answer.{Answer}
 use Rattle.numbers.specs.Zero.{Done}
 use Rattle.numbers.proofs.Answers.{zero-is-done}
-use Rattle.updater.specs.Stages.{Built}
+use Rattle.updater.specs.Stages.{Built, Updates}
 
 module _ (f u : List ℕ) (room size : ℕ) (r : Answer) (o : List ℕ) (b : Built f u room size r o) where
   -- a refusal leaves the output wholly zero
@@ -55,9 +55,9 @@ module _ (f u : List ℕ) (room size : ℕ) (r : Answer) (o : List ℕ) (b : Bui
   work-left = ended-work size w′ (ew ∙ ap zeros wide)
 
   pub left-refused : (r .number ≡ 0 → ⊥) → (o′ : List ℕ) → o′ ≡ zeros (length o)
-      → (r ≡ (update f u room size) .answer) × (o′ ≡ (update f u room size) .out) × (w′ ≡ workAfter size)
+      → Updates f u room size r o′ w′
   left-refused nz o′ e = (b .said, ended-refused f u room size r o b nz o′ (e ∙ ap zeros same), work-left)
 
   pub left-done : r .number ≡ 0 → (o′ : List ℕ) → o′ ≡ hold (length o) (take (r .length) o)
-      → (r ≡ (update f u room size) .answer) × (o′ ≡ (update f u room size) .out) × (w′ ≡ workAfter size)
+      → Updates f u room size r o′ w′
   left-done z o′ e = (b .said, ended-done f u room size r o b z same o′ e, work-left)

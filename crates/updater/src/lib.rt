@@ -26,13 +26,12 @@ ghost use mathlib.Core.Path.{_≡_};
 ghost use Prim.Native.Nat.{_≤_};
 ghost use lib.ListN.{length};
 ghost use Rattle.rules.specs.Outcome.{done};
-ghost use Rattle.rules.specs.Answers.{Output, update as theOutput, workAfter};
 ghost use Rattle.updates.specs.Streamed.{verdicts};
 ghost use Rattle.keys.specs.Listed.{keysFrom};
 ghost use Rattle.keys.specs.Table.{Laid};
 ghost use Rattle.stock.specs.Stock.{stockFrom};
 ghost use Rattle.sorting.specs.Indices.{Indices};
-ghost use Rattle.updater.specs.Stages.{sentFrom, Legible, Tested, TestedIf, Fits, Begun, Acted, Built};
+ghost use Rattle.updater.specs.Stages.{sentFrom, Legible, Tested, TestedIf, Fits, Begun, Acted, Built, Updates};
 ghost use Rattle.version.specs.Areas.{flagArea};
 ghost use Rattle.history.specs.Flags.{Flags};
 
@@ -192,7 +191,7 @@ pub fn update_tested(
     work: &mut [u8],
 ) -> Answer
     requires { ⌜ TestedIf tested (now dataset) ⌝ }
-    ensures { λ r. ⌜ (r ≡ (theOutput (now (dataset .entry)) (now (update .entry)) (length (now (out .entry))) (length (now (work .entry)))) .answer) × (now (out .exit) ≡ (theOutput (now (dataset .entry)) (now (update .entry)) (length (now (out .entry))) (length (now (work .entry)))) .out) × (now (work .exit) ≡ workAfter (length (now (work .entry)))) ⌝ }
+    ensures { λ r. ⌜ Updates (now (dataset .entry)) (now (update .entry)) (length (now (out .entry))) (length (now (work .entry))) r (now (out .exit)) (now (work .exit)) ⌝ }
 {
     let a = build(tested, dataset, update, out, work);
     zero(work);
@@ -206,7 +205,7 @@ pub fn update_tested(
 
 // Updates a dataset: the answer, every byte of the output and every byte of the workspace are those of the rules, for any bytes and any lengths.
 pub fn update(dataset: &[u8], update: &[u8], out: &mut [u8], work: &mut [u8]) -> Answer
-    ensures { λ r. ⌜ (r ≡ (theOutput (now (dataset .entry)) (now (update .entry)) (length (now (out .entry))) (length (now (work .entry)))) .answer) × (now (out .exit) ≡ (theOutput (now (dataset .entry)) (now (update .entry)) (length (now (out .entry))) (length (now (work .entry)))) .out) × (now (work .exit) ≡ workAfter (length (now (work .entry)))) ⌝ }
+    ensures { λ r. ⌜ Updates (now (dataset .entry)) (now (update .entry)) (length (now (out .entry))) (length (now (work .entry))) r (now (out .exit)) (now (work .exit)) ⌝ }
 {
     update_tested(false, dataset, update, out, work)
 }

@@ -5,7 +5,7 @@ use super::form::{self, Form};
 use super::publisher::{publisher, Publisher};
 use super::random::Random;
 use super::scatter::{any_workspace, arrived, Fate, WORKSPACE};
-use crate::batch::Case;
+use crate::batch::{Case, MonthCall};
 use crate::build::joined;
 
 /// A random month; and how many files it applies and the chart that it then holds, where it was made to be accepted.
@@ -37,8 +37,8 @@ pub fn random_month(seed: u64, number: usize) -> RandomMonth {
     let work = if random.percent(96) { WORKSPACE } else { any_workspace(random) };
     let sound = fate == Fate::Whole && roomy && length == dataset.len() && work >= WORKSPACE;
     let accepted = applied.filter(|_| sound).map(|applied| (applied, publisher.charts[applied].clone()));
-    let case = Case::month(filled(random, dataset, first), length as u32, &list, second as u32, work as u32);
-    RandomMonth { case, accepted }
+    let call = MonthCall { first: filled(random, dataset, first), length, list, second, work: work as u32 };
+    RandomMonth { case: Case::month(&call), accepted }
 }
 
 /// The publisher's files in order, mostly all of them, and how many they are.

@@ -13,31 +13,31 @@ pub fn rows(table: &mut Table) {
 
 /// The first file's framing, then the dataset's length, then what the updater refuses.
 fn framing_and_dataset(table: &mut Table) {
-    let above = |list| Call { length: FIRST + 1, ..base(list) };
+    let above = |list| MonthCall { length: FIRST + 1, ..base(list) };
     let mut refuse = |name: &str, call, refused| none(table, name, call, Some(refused));
     refuse("a length above the pool", above(list([1])), (1, 1, 0));
     refuse("a length above the pool, three files", above(list(1..=3)), (1, 1, 0));
-    refuse("the greatest length", Call { length: 0xffff_ffff, ..base(list([1])) }, (1, 1, 0));
+    refuse("the greatest length", MonthCall { length: 0xffff_ffff, ..base(list([1])) }, (1, 1, 0));
     refuse("a cut length before a length above the pool", above(vec![0, 0]), (1, 2, 0));
     refuse("a length past the end before a length above the pool", above(vec![9, 0, 0, 0, 1]), (1, 2, 0));
     refuse("a length above the pool before a broken second file", above(behind(1, &[0])), (1, 1, 0));
     refuse("a length above the pool before a file of no bytes", above(joined(&[Vec::new()])), (1, 1, 0));
     refuse("a length above the pool before 8", above(list([2])), (1, 1, 0));
-    refuse("a length above the pool before 13", Call { second: 0, ..above(list([1])) }, (1, 1, 0));
-    let no_pool = |length| Call { length, ..in_pool(&[], 0, list([1])) };
+    refuse("a length above the pool before 13", MonthCall { second: 0, ..above(list([1])) }, (1, 1, 0));
+    let no_pool = |length| MonthCall { length, ..in_pool(&[], 0, list([1])) };
     refuse("a length above a pool of no bytes", no_pool(1), (1, 1, 0));
     refuse("a pool of no bytes", no_pool(0), (1, 1, 1));
     let wrong = || in_pool(b"no dataset", FIRST, vec![1]);
     refuse("a cut length before a dataset of ten bytes", wrong(), (1, 2, 0));
-    refuse("a dataset of ten bytes", Call { list: list([1]), ..wrong() }, (1, 1, 1));
-    refuse("a dataset of ten bytes before a broken second file", Call { list: behind(1, &[0]), ..wrong() }, (1, 1, 1));
-    refuse("a dataset of ten bytes before a file of no bytes", Call { list: vec![0; 4], ..wrong() }, (1, 1, 1));
+    refuse("a dataset of ten bytes", MonthCall { list: list([1]), ..wrong() }, (1, 1, 1));
+    refuse("a dataset of ten bytes before a broken second file", MonthCall { list: behind(1, &[0]), ..wrong() }, (1, 1, 1));
+    refuse("a dataset of ten bytes before a file of no bytes", MonthCall { list: vec![0; 4], ..wrong() }, (1, 1, 1));
 }
 
 /// A dataset ends where its length says.
 fn dataset_lengths(table: &mut Table) {
     let whole = file(&dataset()).len();
-    let said = |length| Call { length, ..base(list([1])) };
+    let said = |length| MonthCall { length, ..base(list([1])) };
     let mut refuse = |name: &str, length, refused| none(table, name, said(length), Some(refused));
     refuse("a length of 0", 0, (1, 1, 1));
     refuse("a length of 23", 23, (1, 1, 1));
@@ -80,7 +80,7 @@ fn refused_by_size(table: &mut Table) {
     let given = file(&full(dataset()[1].clone()));
     let call = in_pool(&given, given.len(), joined(&[numbered(1, &[]), longer]));
     let first = full(changed(2, |f| f[0] = dsid(1, "CHART", 3, 8))[1].clone());
-    let call = Call { second: given.len() + 1, ..call };
+    let call = MonthCall { second: given.len() + 1, ..call };
     some(table, "a second file that makes a record too long", call, (1, &first), Some((12, 2, 3)));
 }
 

@@ -17,12 +17,12 @@ pub fn rows(table: &mut Table) {
 fn empty_lists(table: &mut Table) {
     let call = || base(Vec::new());
     none(table, "an empty list", call(), None);
-    none(table, "an empty list, a length above the pool", Call { length: FIRST + 1, ..call() }, None);
-    none(table, "an empty list, the greatest length", Call { length: 0xffff_ffff, ..call() }, None);
-    none(table, "an empty list, a length of 0", Call { length: 0, ..call() }, None);
-    none(table, "an empty list, a second pool of no bytes", Call { second: 0, ..call() }, None);
+    none(table, "an empty list, a length above the pool", MonthCall { length: FIRST + 1, ..call() }, None);
+    none(table, "an empty list, the greatest length", MonthCall { length: 0xffff_ffff, ..call() }, None);
+    none(table, "an empty list, a length of 0", MonthCall { length: 0, ..call() }, None);
+    none(table, "an empty list, a second pool of no bytes", MonthCall { second: 0, ..call() }, None);
     none(table, "an empty list, a first pool of no bytes", in_pool(&[], 0, Vec::new()), None);
-    none(table, "an empty list, no pools", Call { second: 0, ..in_pool(&[], 0, Vec::new()) }, None);
+    none(table, "an empty list, no pools", MonthCall { second: 0, ..in_pool(&[], 0, Vec::new()) }, None);
     none(table, "an empty list, no dataset in the pool", in_pool(&[0xff; 100], 200, Vec::new()), None);
 }
 
@@ -65,7 +65,7 @@ fn files_of_no_bytes(table: &mut Table) {
     nothing("in the middle", &[update(1), Vec::new(), update(2)], 1);
     nothing("last", &[update(1), update(2), Vec::new()], 2);
     nothing("twice", &[update(1), update(2), update(3), Vec::new(), Vec::new()], 3);
-    let no_room = Call { second: 0, ..base(joined(&[Vec::new()])) };
+    let no_room = MonthCall { second: 0, ..base(joined(&[Vec::new()])) };
     stops(table, "a file of no bytes and no room", no_room, 0, (1, 2, 1));
 }
 
@@ -105,7 +105,7 @@ fn wrong_lengths(table: &mut Table) {
     stops(table, "a length that takes the whole next file", base(whole), 0, (2, 2, 5));
     let refused_before = base([list([2]), vec![9]].concat());
     stops(table, "8 before the broken length behind it", refused_before, 0, (8, 2, 2));
-    let no_room_before = Call { second: 0, ..base(behind(1, &[9, 9, 9, 9])) };
+    let no_room_before = MonthCall { second: 0, ..base(behind(1, &[9, 9, 9, 9])) };
     stops(table, "13 before the broken length behind it", no_room_before, 0, (13, 3, 0));
 }
 

@@ -6,7 +6,7 @@ mod pools;
 
 use super::base::*;
 use super::{Intent, Table, WORK};
-use crate::batch::Case;
+use crate::batch::{Case, MonthCall};
 use crate::build::*;
 use crate::month::Held;
 
@@ -22,45 +22,34 @@ const SECOND: usize = 2_500;
 /// What stands in the first pool behind the dataset.
 const BEHIND: u8 = 0x31;
 
-/// What is handed over.
-struct Call {
-    first: Vec<u8>,
-    length: usize,
-    list: Vec<u8>,
-    second: usize,
-    work: u32,
-}
-
 /// A dataset in a first pool of so many bytes, and a list, all else as it should be.
-fn in_pool(dataset: &[u8], pool: usize, list: Vec<u8>) -> Call {
-    let mut first = vec![BEHIND; pool];
-    first[..dataset.len()].copy_from_slice(dataset);
-    Call { first, length: dataset.len(), list, second: SECOND, work: WORK }
+fn in_pool(dataset: &[u8], pool: usize, list: Vec<u8>) -> MonthCall {
+    let first = pooled(dataset, pool, BEHIND);
+    MonthCall { first, length: dataset.len(), list, second: SECOND, work: WORK }
 }
 
 /// The base dataset and a list.
-fn base(list: Vec<u8>) -> Call {
+fn base(list: Vec<u8>) -> MonthCall {
     in_pool(&file(&dataset()), FIRST, list)
 }
 
 /// Number, file and record.
 type Refused = (u32, u32, usize);
 
-fn row(table: &mut Table, name: &str, call: Call, outcome: Result<(usize, usize), Refused>, end: (Held, [Vec<u8>; 2])) {
-    let case = Case::month(call.first, call.length as u32, &call.list, call.second as u32, call.work);
+fn row(table: &mut Table, name: &str, call: MonthCall, outcome: Result<(usize, usize), Refused>, end: (Held, [Vec<u8>; 2])) {
     let (held, pools) = end;
-    table.row(&format!("month: {name}"), case, Intent::Month { outcome, held, pools });
+    table.row(&format!("month: {name}"), Case::month(&call), Intent::Month { outcome, held, pools });
 }
 
 /// None is applied: the first pool keeps all its bytes, the second is zero, and the length is the one handed over.
-fn none(table: &mut Table, name: &str, call: Call, refused: Option<Refused>) {
+fn none(table: &mut Table, name: &str, call: MonthCall, refused: Option<Refused>) {
     let held = Held { applied: 0, pool: 1, length: call.length };
     let pools = [call.first.clone(), vec![0; call.second]];
     row(table, name, call, refused.map_or(Ok((0, 0)), Err), (held, pools));
 }
 
 /// So many are applied: one pool holds this chart and zeroes, the other zeroes.
-fn some(table: &mut Table, name: &str, call: Call, (applied, chart): (usize, &Records), refused: Option<Refused>) {
+fn some(table: &mut Table, name: &str, call: MonthCall, (applied, chart): (usize, &Records), refused: Option<Refused>) {
     let written = file(chart);
     let pool = if applied % 2 == 1 { 2 } else { 1 };
     let mut pools = [vec![0; call.first.len()], vec![0; call.second]];
@@ -70,7 +59,7 @@ fn some(table: &mut Table, name: &str, call: Call, (applied, chart): (usize, &Re
 }
 
 /// So many of the updates below are applied to the base dataset, and then a file is refused.
-fn stops(table: &mut Table, name: &str, call: Call, applied: u16, refused: Refused) {
+fn stops(table: &mut Table, name: &str, call: MonthCall, applied: u16, refused: Refused) {
     match applied {
         0 => none(table, name, call, Some(refused)),
         _ => some(table, name, call, (applied.into(), &chart(applied)), Some(refused)),

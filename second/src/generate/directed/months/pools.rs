@@ -14,20 +14,20 @@ pub fn rows(table: &mut Table) {
 
 /// 15 before all.
 fn workspaces(table: &mut Table) {
-    let mut short = |name: &str, call: Call| {
-        let call = Call { work: WORK - 1, ..call };
+    let mut short = |name: &str, call: MonthCall| {
+        let call = MonthCall { work: WORK - 1, ..call };
         none(table, &format!("a short workspace, {name}"), call, Some((15, 0, 0)));
     };
     short("an empty list", base(Vec::new()));
-    short("an empty list, a length above the pool", Call { length: FIRST + 1, ..base(Vec::new()) });
+    short("an empty list, a length above the pool", MonthCall { length: FIRST + 1, ..base(Vec::new()) });
     short("a good list", base(list(1..=2)));
     short("a broken list", base(vec![1, 0]));
-    short("a length above the pool", Call { length: FIRST + 1, ..base(list([1])) });
+    short("a length above the pool", MonthCall { length: FIRST + 1, ..base(list([1])) });
     short("a dataset that cannot be read", in_pool(&[], FIRST, list([1])));
-    short("no room", Call { second: 0, ..base(list([1])) });
-    let nothing = Call { work: 0, ..base(list([1])) };
+    short("no room", MonthCall { second: 0, ..base(list([1])) });
+    let nothing = MonthCall { work: 0, ..base(list([1])) };
     none(table, "no workspace", nothing, Some((15, 0, 0)));
-    let more = Call { work: WORK + 1, ..base(list([1])) };
+    let more = MonthCall { work: WORK + 1, ..base(list([1])) };
     some(table, "a longer workspace", more, (1, &chart(1)), None);
 }
 
@@ -36,7 +36,7 @@ fn exact_pools(table: &mut Table) {
     for n in 1..=6 {
         let (even, odd) = if n % 2 == 0 { (n, n - 1) } else { (n - 1, n) };
         let first = if even == 0 { file(&dataset()).len() } else { length(even) };
-        let call = |first, second| Call { second, ..in_pool(&file(&dataset()), first, list(1..=n)) };
+        let call = |first, second| MonthCall { second, ..in_pool(&file(&dataset()), first, list(1..=n)) };
         some(table, &format!("{n} files in exact pools"), call(first, length(odd)), (n.into(), &chart(n)), None);
         let short = if n == odd { call(first, length(odd) - 1) } else { call(first - 1, length(odd)) };
         stops(table, &format!("a byte too few for the last of {n} files"), short, n - 1, (13, 3, 0));
@@ -45,15 +45,15 @@ fn exact_pools(table: &mut Table) {
 
 /// 13: each pool has its own length, and a later file finds no room either way.
 fn too_short(table: &mut Table) {
-    let call = |first, second, n| Call { second, ..in_pool(&file(&dataset()), first, list(1..=n)) };
-    let mut thirteen = |name: &str, call: Call, applied| stops(table, name, call, applied, (13, 3, 0));
+    let call = |first, second, n| MonthCall { second, ..in_pool(&file(&dataset()), first, list(1..=n)) };
+    let mut thirteen = |name: &str, call: MonthCall, applied| stops(table, name, call, applied, (13, 3, 0));
     thirteen("a second pool of no bytes", call(FIRST, 0, 1), 0);
     thirteen("a second pool a byte too short for the first of three", call(FIRST, length(1) - 1, 3), 0);
     thirteen("a first pool a byte too short for the second of four", call(length(2) - 1, SECOND, 4), 1);
     thirteen("a second pool that takes the first and not the third", call(FIRST, length(1), 4), 2);
     thirteen("a first pool that takes the second and not the fourth", call(length(2), SECOND, 5), 3);
     thirteen("both pools end at the second file", call(length(2) - 1, length(1), 3), 1);
-    let eight_first = Call { second: 0, ..base(list([2])) };
+    let eight_first = MonthCall { second: 0, ..base(list([2])) };
     stops(table, "8 before 13", eight_first, 0, (8, 2, 2));
 }
 
@@ -64,13 +64,13 @@ fn full_pools(table: &mut Table) {
     none(table, "a full pool, an empty list", full(Vec::new()), None);
     some(table, "a full pool, one file", full(list([1])), (1, &chart(1)), None);
     stops(table, "a full pool, two files", full(list(1..=2)), 1, (13, 3, 0));
-    let above = Call { length: written.len() + 1, ..full(list([1])) };
+    let above = MonthCall { length: written.len() + 1, ..full(list([1])) };
     none(table, "a full pool, a length a byte above it", above, Some((1, 1, 0)));
     let same_size = [numbered(1, &[vec![prid(7, 2, 3), c2it(0, 0)]]), numbered(2, &[vec![prid(7, 3, 3), c2it(9, 9)]])];
     let mut result = dataset();
     result[1][0] = dsid(2, "CHART", 3, 9);
     result[POINT - 1] = vec![prid(7, 3, 1), c2it(9, 9)];
-    let call = Call { second: written.len(), ..full(joined(&same_size)) };
+    let call = MonthCall { second: written.len(), ..full(joined(&same_size)) };
     some(table, "two full pools, two files that change no length", call, (2, &result), None);
 }
 
@@ -78,7 +78,7 @@ fn full_pools(table: &mut Table) {
 fn behind_the_dataset(table: &mut Table) {
     let written = file(&dataset());
     for byte in [0x00, 0x1e, 0xff] {
-        let call = |list| Call { first: [&written[..], &[byte; 700]].concat(), length: written.len(), ..base(list) };
+        let call = |list| MonthCall { first: [&written[..], &[byte; 700]].concat(), length: written.len(), ..base(list) };
         none(table, &format!("{byte:02x} behind the dataset, none applied"), call(list([2])), Some((8, 2, 2)));
         none(table, &format!("{byte:02x} behind the dataset, no file"), call(Vec::new()), None);
         some(table, &format!("{byte:02x} behind the dataset, one applied"), call(list([1])), (1, &chart(1)), None);
