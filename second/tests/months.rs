@@ -144,7 +144,7 @@ fn m1_the_line_tells_it_behind_the_old_words() {
     let one = of_updates(&[1]);
     let (length, count) = (file(&chart(1)).len(), chart(1).len());
     let hash = fnv(&[vec![0; FIRST], padded(&file(&chart(1)), SECOND)].concat());
-    assert_eq!(line(&answer(&one.case())), format!("0 0 0 {length} {count} {hash:016x} 1 1 2 {length}"));
+    assert_eq!(line(&answer(&Case::month(&one))), format!("0 0 0 {length} {count} {hash:016x} 1 1 2 {length}"));
 }
 
 // ---- M2: the order of refusals ----
