@@ -2,3 +2,4 @@ pub mod Numbered
 pub mod Shown
 pub mod Field
 pub mod Monthly
+pub mod Cabled

@@ -1,10 +1,15 @@
 // What other languages link: the entry points over numbers and byte slices.
+use cable::shelf::answer_of;
+use cable::shelf::reply;
+use cable::taking::take;
+use cable::telling::tell;
 use display::Chart;
 use display::begin;
 use display::hand;
 use fieldwise::file::field_of_record;
 use fieldwise::numbered::Found;
 use month::month;
+use parcels::Reply;
 use reader::read;
 use rules::Answer;
 use updater::update;
@@ -20,6 +25,9 @@ ghost use Rattle.console.specs.Shown.{Begins, Hands};
 ghost use Rattle.fieldwise.specs.InFile.{fieldInFile};
 ghost use Rattle.console.specs.Field.{there, fieldNumbers};
 ghost use Rattle.console.specs.Monthly.{Monthly};
+ghost use Rattle.parcels.specs.Holding.{tell as theTold};
+ghost use Rattle.parcels.specs.Shelf.{reply as theReply, replyAnswer};
+ghost use Rattle.console.specs.Cabled.{replyNumbers, Takes};
 
 // The answer's five numbers go into the first five places of `answer`: number, file, record, length, count. A shorter slice is left as it is.
 fn put_answer(a: Answer, answer: &mut [u64])
@@ -152,6 +160,66 @@ pub extern "C" fn ezdurvash_month(
     let m = month(list, first, size, second, work);
     put_answer(m.answer, answer);
     put_three(m.applied, pool_number(m.second), m.length, result);
+}
+
+// What a master answered with, in the first three places of `out`: 1, where the parcel starts and its length; zeroes for silence and 27.
+fn put_reply(r: Reply, out: &mut [u64])
+    ensures { λ _. ⌜ now (out .exit) ≡ replyNumbers r (now (out .entry)) ⌝ }
+{
+    match r {
+        Reply::Refused => put_three(0, 0, 0, out),
+        Reply::Silence => put_three(0, 0, 0, out),
+        Reply::Parcel { start, length } => put_three(1, start, length, out),
+    }
+}
+
+// A master answers a holding with the first parcel of its shelf that follows it.
+#[no_mangle]
+pub extern "C" fn ezdurvash_reply(
+    holding: &[u8],
+    shelf: &[u8],
+    answer: &mut [u64],
+    result: &mut [u64],
+)
+    ensures { λ _. ⌜ now (answer .exit) ≡ numbered (replyAnswer (theReply (now (holding .entry)) (now (shelf .entry)))) (now (answer .entry)) ⌝ }
+    ensures { λ _. ⌜ now (result .exit) ≡ replyNumbers (theReply (now (holding .entry)) (now (shelf .entry))) (now (result .entry)) ⌝ }
+{
+    let r = reply(holding, shelf);
+    let a = answer_of(r);
+    put_answer(a, answer);
+    put_reply(r, result);
+}
+
+// A display tells its holding: `out` holds it and is zero behind it, or is wholly zero where the chart is refused or there is no room.
+#[no_mangle]
+pub extern "C" fn ezdurvash_tell(chart: &[u8], out: &mut [u8], answer: &mut [u64])
+    ensures { λ _. ⌜ now (out .exit) ≡ (theTold (now (chart .entry)) (length (now (out .entry)))) .out ⌝ }
+    ensures { λ _. ⌜ now (answer .exit) ≡ numbered ((theTold (now (chart .entry)) (length (now (out .entry)))) .answer) (now (answer .entry)) ⌝ }
+{
+    let a = tell(chart, out);
+    put_answer(a, answer);
+}
+
+// A parcel reaches a display, whose chart stands as with `ezdurvash_hand`.
+#[no_mangle]
+pub extern "C" fn ezdurvash_take(
+    place: usize,
+    size: usize,
+    first: &mut [u8],
+    second: &mut [u8],
+    parcel: &[u8],
+    work: &mut [u8],
+    answer: &mut [u64],
+) -> usize
+    ensures { λ n. ⌜ Takes place size (now (first .entry)) (now (second .entry)) (now (parcel .entry)) (length (now (work .entry))) (now (answer .entry)) n (now (first .exit)) (now (second .exit)) (now (work .exit)) (now (answer .exit)) ⌝ }
+{
+    let chart = Chart {
+        second: place != 0,
+        length: size,
+    };
+    let r = take(chart, first, second, parcel, work);
+    put_answer(r.answer, answer);
+    r.chart.length
 }
 
 // The field of a number in the record of a number of a file, both from 1: its tag, where its body starts and where that ends go into the first three

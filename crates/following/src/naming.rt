@@ -24,7 +24,7 @@ ghost use Rattle.rules.specs.declared.Mode.the-variants.{InDataset, InUpdate};
 ghost use Rattle.following.specs.Naming.{Identified, dsidFollows};
 
 // Whether two texts are the same.
-fn same_bytes(a: &[u8], b: &[u8]) -> bool
+pub fn same_bytes(a: &[u8], b: &[u8]) -> bool
     ensures { λ r. ⌜ r ≡ same (now (a .entry)) (now (b .entry)) ⌝ }
 {
     if a.len() != b.len() {
@@ -41,7 +41,7 @@ fn same_bytes(a: &[u8], b: &[u8]) -> bool
 }
 
 // Where subfield j of the DSID b begins.
-fn place_in(b: &[u8], j: usize) -> usize
+pub fn place_in(b: &[u8], j: usize) -> usize
     requires { ⌜ Identified (now b) × (j < 11) ⌝ }
     ensures { λ p. ⌜ At p ≡ headPlace (headOf Dsid) j (now (b .entry)) ⌝ }
 {
@@ -52,7 +52,7 @@ fn place_in(b: &[u8], j: usize) -> usize
 }
 
 // EDTN (8) or UPDN (9) of the DSID b.
-fn number_in(b: &[u8], j: usize) -> u16
+pub fn number_in(b: &[u8], j: usize) -> u16
     requires { ⌜ Identified (now b) × (8 ≤ j) × (j ≤ 9) ⌝ }
     ensures { λ n. ⌜ n ≡ numAt (values (headOf Dsid) (now (b .entry))) j ⌝ }
 {

@@ -31,7 +31,7 @@ use Rattle.numbers.proofs.Changes.{fair-change}
 -- ---- reading
 
 -- a record of a dataset
-fair-dataset-test : (n : ℕ) (seen : List Rec) (fs : List Field) → FairCheck (datasetTest n seen fs)
+pub fair-dataset-test : (n : ℕ) (seen : List Rec) (fs : List Field) → FairCheck (datasetTest n seen fs)
 unfolding datasetTest fair
 fair-dataset-test n seen fs =
     fair-pick (eqb n 1) _ _ fair-ok
@@ -40,7 +40,7 @@ fair-dataset-test n seen fs =
     (fair-bind _ _ (fair-dataset-record (lastRank seen) (each keyOf seen) fs) (λ r. fair-ok))))
 
 -- a record of an update
-fair-update-test : (n : ℕ) (seen : List Rec) (fs : List Field) → FairCheck (updateTest n seen fs)
+pub fair-update-test : (n : ℕ) (seen : List Rec) (fs : List Field) → FairCheck (updateTest n seen fs)
 unfolding updateTest
 fair-update-test n seen fs =
     fair-pick (eqb n 1) _ _ fair-ok
@@ -71,7 +71,7 @@ module _ (test : ℕ → List Rec → List Field → Check (List Rec)) (fairly :
       go false h = fair-refused (not-zero e h p)
 
   -- a file
-  fair-taken : (n : ℕ) (seen : List Rec) (g : Got (List Field)) → ends (g .ending) ≡ true → FairOutcome (taken test file least n seen g)
+  pub fair-taken : (n : ℕ) (seen : List Rec) (g : Got (List Field)) → ends (g .ending) ≡ true → FairOutcome (taken test file least n seen g)
   unfolding taken
   fair-taken n seen g p = fair-then _ _ (fair-through n seen (g .items)) (λ recs. fair-ending (n + length (g .items)) (g .ending) recs p)
 

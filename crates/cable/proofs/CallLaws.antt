@@ -1,0 +1,151 @@
+-- Demand 3 on the cable, of displays and a master that run: what their calls say is what it speaks of. Assumes nothing.
+use Prim.Native.Nat.{ℕ, _-_}
+use mathlib.Core.Path.{_≡_, sym, ap, ap₂, subst, _∙_}
+use mathlib.Core.Option.{Option, some, none}
+use mathlib.Core.List.{List, [], _∷_}
+use lib.Dec.{ltb}
+use lib.ListN.{length, take, replicate}
+use lib.Seq.{take-append-seam}
+use Rattle.rules.specs.Written.{Dataset, writtenBytes}
+use Rattle.rules.specs.Outcome.{Outcome, done}
+use Rattle.rules.specs.File.{writable}
+use Rattle.rules.specs.Answers.{success, notTooLong, Written, readOutcome, roomFor, outputOf, writeOutcome, write}
+use Rattle.rules.specs.declared.Answer.{Answer}
+use Rattle.rules.proofs.OutcomeLaws.{done-inj, refuses, andThen-inv}
+use Rattle.numbers.proofs.Answers.{zero-is-done}
+use Rattle.sequence.proofs.Tests.{by-bool}
+use Rattle.displays.specs.Display.{taken, numberShown}
+use Rattle.displays.specs.Publisher.{Publisher, start}
+use Rattle.displays.specs.Demand.{InStep}
+use Rattle.display.specs.Pools.{chartIn, Begun}
+use Rattle.display.specs.declared.Shown.{Shown}
+use Rattle.parcels.specs.Holding.{told}
+use Rattle.parcels.specs.Taking.{Reached, afterParcel, shownBy}
+use Rattle.parcels.specs.Exchange.{Exchange, Brings, RoomNext, whenTold, whenAnswered, afterAnswer, afterExchange, Arrives, Exchanges, afterAll}
+use Rattle.parcels.specs.Cable.{chartBy, TellsRight, OnCable}
+use Rattle.parcels.specs.declared.Reply.{Reply}
+use Rattle.parcels.proofs.HoldingLaws.{tell-gives}
+use Rattle.parcels.proofs.ZeroLaws.{tell-done}
+use Rattle.parcels.proofs.CableLaws.{on-cable}
+use Rattle.cable.specs.Calls.{TakeCall, Took, TookAnswer, TellCall, ExchangeCalls, AllCalls, Runs, CanTell, ByCalls}
+
+-- ---- `take`
+
+-- a call is one step of the cable's display
+take-step : (c : List ℕ) (t : Reached) (e : List ℕ) → TakeCall c t e → e ≡ afterParcel c t
+unfolding afterParcel
+take-step c t e k = rw (k .was, k .lent) (k .now-is ∙ k .took .holds)
+
+-- calls one after the other are its charts one after the other
+took-shown : (c : List ℕ) (ts : List Reached) (e : List ℕ) → Took c ts e → e ≡ shownBy c ts
+unfolding Took shownBy
+took-shown c [] e w = w
+took-shown c (t ∷ ts) e (m, x, w) = took-shown m ts e w ∙ ap (λ (l : List ℕ). shownBy l ts) (take-step c t m x)
+
+took-answer : (c : List ℕ) (a : Option Reached) (e : List ℕ) → TookAnswer c a e → e ≡ afterAnswer c a
+unfolding TookAnswer afterAnswer
+took-answer c none e w = w
+took-answer c (some t) e w = take-step c t e w
+
+-- ---- `tell`
+
+-- what a call told is the chart's holding
+told-by : (c h : List ℕ) → TellCall c h → told c ≡ done h
+unfolding success
+told-by c h k =
+    let (g, e, l) = tell-done c (k .room) (ap (λ (a : Answer). a .number) (sym (k .told .answers)) ∙ k .done) in
+    let (a, o) = tell-gives c g (k .room) e l in
+    let n : k .answer .length ≡ length g = ap (λ (x : Answer). x .length) (k .told .answers ∙ a) in
+    let z : h ≡ g = k .holding ∙ ap₂ (λ (l : ℕ) (x : List ℕ). take l x) n (k .told .fills) ∙ o in
+    e ∙ ap {B = Outcome (List ℕ)} done (sym z)
+
+-- ---- exchanges
+
+module _ (P : Publisher) (s : List ℕ) where
+  -- by calls, it is one that arrives
+  call-arrives : (c : List ℕ) (x : Exchange) (e : List ℕ) → ExchangeCalls P s c x e → Arrives P s c x × (e ≡ afterExchange c x)
+  call-arrives c x e k =
+      let m : k .chart-told ≡ whenTold c x = took-shown c (x .earlier) (k .chart-told) (k .came) in
+      let n : k .chart-met ≡ whenAnswered c x = took-shown (k .chart-told) (x .meanwhile) (k .chart-met) (k .came-then) ∙ ap (λ (l : List ℕ). shownBy l (x .meanwhile)) m in (
+        record {
+          earlier = k .earlier;
+          meanwhile = k .meanwhile;
+          holding = k .holding;
+          tells = ap told (sym m) ∙ told-by (k .chart-told) (k .holding) (k .tells);
+          answers = subst (λ (r : Reply). Brings s r (x .answer)) (k .replies) (k .arrives);
+          room = subst (λ (l : List ℕ). RoomNext P l (x .answer)) n (k .room);
+        },
+        took-answer (k .chart-met) (x .answer) e (k .took) ∙ ap (λ (l : List ℕ). afterAnswer l (x .answer)) n,
+      )
+
+  -- one after the other
+  calls-arrive : (xs : List Exchange) (c e : List ℕ) → AllCalls P s c xs e → Exchanges P s c xs × (e ≡ afterAll c xs)
+  unfolding AllCalls Exchanges afterAll
+  calls-arrive [] c e k = (tt, k)
+  calls-arrive (x ∷ xs) c e (m, k, l) =
+      let (a, z) = call-arrives c x m k in
+      let (b, w) = calls-arrive xs m e l in
+      ((a, subst (λ (n : List ℕ). Exchanges P s n xs) z b), w ∙ ap (λ (n : List ℕ). afterAll n xs) z)
+
+-- ---- `begin`
+
+-- what is written of a dataset that is not too long, where there is room
+room-bytes : (room : ℕ) (d : Dataset) (w : Written) → roomFor room d ≡ done w → w .bytes ≡ writtenBytes d
+unfolding roomFor
+room-bytes room d w e =
+    let (u, x, y) = andThen-inv (notTooLong 3 (writtenBytes d)) _ w e in
+    by-bool (ltb room (length (writtenBytes d)))
+    (λ z. refuses (rw z at y))
+    (λ z. ap (λ (v : Written). v .bytes) (sym (done-inj _ w (rw z at y))))
+
+module _ (P : Publisher) (room : ℕ) where
+  begun-bytes : (w : Written) → writeOutcome room (P .source) ≡ done w → w .bytes ≡ start P
+  unfolding writeOutcome readOutcome start
+  begun-bytes w e =
+      let (d, x, y) = andThen-inv (readOutcome (P .source)) _ w e in
+      let (u, v, k) = andThen-inv (notTooLong 1 (P .source)) _ d x in
+      let ed : d ≡ P .dataset = done-inj d (P .dataset) (sym k ∙ P .isRead) in
+      let (q, m, n) = andThen-inv (writable d) _ w y in
+      let eq : q ≡ P .dataset = done-inj q (P .dataset) (sym m ∙ rw ed (P .isWritable)) in
+      room-bytes room q w n ∙ ap writtenBytes eq
+
+  begun-chart : (w : Written) → writeOutcome room (P .source) ≡ done w → taken [] (write (P .source) room) ≡ start P
+  unfolding write outputOf taken success
+  begun-chart w e = rw e (take-append-seam (w .bytes) (replicate (room - length (w .bytes)) 0)) ∙ begun-bytes w e
+
+  begun-start : (r : Shown) (first second : List ℕ) → Begun (P .source) room r first → r .answer .number ≡ 0 → chartIn (r .chart) first second ≡ start P
+  begun-start r first second b z =
+      let (w, e) = (zero-is-done .writes (P .source) room) .0 (ap (λ (a : Answer). a .number) (sym (b .said)) ∙ z) in
+      b .holds second ∙ begun-chart w e
+
+-- ---- what is promised
+
+module _ (P : Publisher) where
+  -- a display that runs is one of the cable's
+  run-is : (c : List ℕ) (r : Runs P c) → c ≡ chartBy P (r .reached)
+  run-is c r = took-shown (start P) (r .reached) c (r .took)
+
+  can-tell : (c : List ℕ) → TellsRight c → CanTell c
+  unfolding success
+  can-tell c t =
+      record {
+        holding = t .holding;
+        right = (t .right, t .number);
+        tells = λ room a out k l.
+            let (x, y) = tell-gives c (t .holding) room (t .tells) l in
+            let z : a ≡ success (length (t .holding)) 0 = k .answers ∙ x in
+            (ap (λ (b : Answer). b .number) z, rw (z, k .fills) y);
+      }
+
+  pub by-calls : ByCalls P
+  by-calls =
+      record {
+        begins = begun-start P;
+        in-step = λ c r. subst (InStep P) (sym (run-is c r)) ((on-cable P) .in-step (r .reached) (r .brought));
+        alike = λ c d q r. rw (run-is c q, run-is d r) ((on-cable P) .alike (q .reached) (r .reached) (q .brought) (r .brought));
+        tells = λ c r. can-tell c (subst TellsRight (sym (run-is c r)) ((on-cable P) .tells (r .reached) (r .brought)));
+        raised = λ c r s xs e y k.
+            let z = run-is c r in
+            let (x, w) = calls-arrive P s xs c e k in
+            rw (w, z) ((on-cable P) .raised (r .reached) (r .brought) s xs (rw z at y) (rw z at x));
+      }

@@ -1,0 +1,5 @@
+pub mod Front
+pub mod Naming
+pub mod Taken
+pub mod Promise
+pub mod Calls

@@ -1,0 +1,104 @@
+// A master: what its shelf answers a holding with.
+use crate::front::Front;
+use crate::front::dsid_in;
+use crate::parcel::fronts_file;
+use crate::parcel::tells_holding;
+use fields::le16;
+use fields::le32;
+use fields::text_end;
+use following::naming::number_in;
+use following::naming::place_in;
+use following::naming::same_bytes;
+use parcels::Reply;
+use rules::Answer;
+use rules::Mode;
+ghost use mathlib.Core.Path.{_≡_};
+ghost use Prim.Native.Nat.{_≤_};
+ghost use lib.ListN.{length};
+ghost use Rattle.following.specs.Naming.{Identified};
+ghost use Rattle.parcels.specs.Holding.{follows as followsOf};
+ghost use Rattle.parcels.specs.Shelf.{replyFrom, reply as replyOf, replyAnswer};
+ghost use Rattle.cable.specs.Naming.{dsidFollows};
+
+// Whether the DSID b of a file follows the holding h.
+fn dsid_follows(h: &[u8], b: &[u8]) -> bool
+    requires { ⌜ (10 ≤ length (now h)) × Identified (now b) ⌝ }
+    ensures { λ r. ⌜ r ≡ dsidFollows (now (h .entry)) (now (b .entry)) ⌝ }
+{
+    let p = place_in(b, 7);
+    let e = text_end(b, p);
+    if !same_bytes(&b[p..e], &h[10..]) {
+        return false;
+    }
+    if number_in(b, 8) != le16(h, 6) {
+        return false;
+    }
+    let old = le16(h, 8) as usize;
+    let new = number_in(b, 9) as usize;
+    new == old + 1
+}
+
+// Whether the file f follows the holding h.
+fn follows(h: &[u8], f: &[u8]) -> bool
+    requires { ⌜ 10 ≤ length (now h) ⌝ }
+    ensures { λ r. ⌜ r ≡ followsOf (now (h .entry)) (now (f .entry)) ⌝ }
+{
+    match dsid_in(f, Mode::InUpdate) {
+        Front::At(i, j) => dsid_follows(h, &f[i..j]),
+        Front::Stopped(_, _) => false,
+    }
+}
+
+// The first parcel of the shelf that follows a holding.
+fn search(h: &[u8], s: &[u8]) -> Reply
+    requires { ⌜ 10 ≤ length (now h) ⌝ }
+    ensures { λ r. ⌜ r ≡ replyFrom (now (h .entry)) (now (s .entry)) 0 ⌝ }
+{
+    let mut p = 0;
+    while p < s.len() {
+        let rest = &s[p..];
+        if !fronts_file(rest) {
+            return Reply::Refused;
+        }
+        let n = le32(rest, 0) as usize;
+        if follows(h, &rest[6..n]) {
+            return Reply::Parcel {
+                start: p,
+                length: n,
+            };
+        }
+        p += n;
+    }
+    Reply::Silence
+}
+
+// What a shelf answers a holding with.
+pub fn reply(holding: &[u8], shelf: &[u8]) -> Reply
+    ensures { λ r. ⌜ r ≡ replyOf (now (holding .entry)) (now (shelf .entry)) ⌝ }
+{
+    if !tells_holding(holding) {
+        return Reply::Refused;
+    }
+    search(holding, shelf)
+}
+
+// The same in the numbers of an answer: 27 or done.
+pub fn answer_of(r: Reply) -> Answer
+    ensures { λ a. ⌜ a ≡ replyAnswer r ⌝ }
+{
+    let number = match r {
+        Reply::Refused => 27,
+        Reply::Silence => 0,
+        Reply::Parcel {
+            start: _,
+            length: _,
+        } => 0,
+    };
+    Answer {
+        number,
+        file: 0,
+        rec: 0,
+        length: 0,
+        count: 0,
+    }
+}

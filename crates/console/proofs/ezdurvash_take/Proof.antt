@@ -1,0 +1,38 @@
+-- `ezdurvash_take` meets its contract. Assumes nothing.
+use Rattle.console.proofs.CabledLaws.{takes-so}
+use borrow.Author.Needs.{needs}
+use Rattle.console.proofs.ezdurvash_take.Statement.{statement}
+use Rattle.console.proofs.ezdurvash_take.Tie as tie
+
+take-requires : tie.Need-take-requires
+take-requires c κs = search needs
+
+put-answer-requires : tie.Need-put-answer-requires
+put-answer-requires c κs = search needs
+
+same-length : tie.Need-same-length
+same-length c = search needs
+
+same-length-2 : tie.Need-same-length-2
+same-length-2 c = search needs
+
+same-length-3 : tie.Need-same-length-3
+same-length-3 c = search needs
+
+same-length-4 : tie.Need-same-length-4
+same-length-4 c = search needs
+
+returns : tie.Need-returns
+returns c = search takes-so
+
+pub ezdurvash-take-spec : {M : Type 1} → statement M
+ezdurvash-take-spec =
+    tie.close
+    (tie.spec
+    take-requires
+    put-answer-requires
+    same-length
+    same-length-2
+    same-length-3
+    same-length-4
+    returns)

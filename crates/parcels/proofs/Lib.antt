@@ -1,0 +1,11 @@
+pub mod FrontLaws
+pub mod GeneralLaws
+pub mod HoldingLaws
+pub mod ShelfLaws
+pub mod MasterLaws
+pub mod TakingLaws
+pub mod ToldLaws
+pub mod ZeroLaws
+pub mod OwnLaws
+pub mod CableLaws
+pub mod Sample
