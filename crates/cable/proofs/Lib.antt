@@ -1,6 +1,8 @@
 pub mod ParcelLaws
+pub mod GlanceLaws
 pub mod FrontLaws
 pub mod NamingLaws
+pub mod FollowsLaws
 pub mod ShelfLaws
 pub mod TellingLaws
 pub mod TakenLaws

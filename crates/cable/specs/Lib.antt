@@ -1,3 +1,4 @@
+pub mod Glance
 pub mod Front
 pub mod Naming
 pub mod Taken

@@ -1,6 +1,8 @@
 // A master: what its shelf answers a holding with.
 use crate::front::Front;
 use crate::front::dsid_in;
+use crate::glance::Glance;
+use crate::glance::glanced;
 use crate::parcel::fronts_file;
 use crate::parcel::tells_holding;
 use fields::le16;
@@ -19,6 +21,7 @@ ghost use Rattle.following.specs.Naming.{Identified};
 ghost use Rattle.parcels.specs.Holding.{follows as followsOf};
 ghost use Rattle.parcels.specs.Shelf.{replyFrom, reply as replyOf, replyAnswer};
 ghost use Rattle.cable.specs.Naming.{dsidFollows};
+ghost use Rattle.cable.specs.Glance.{endsNext, mayFollow};
 
 // Whether the DSID b of a file follows the holding h.
 fn dsid_follows(h: &[u8], b: &[u8]) -> bool
@@ -38,11 +41,38 @@ fn dsid_follows(h: &[u8], b: &[u8]) -> bool
     new == old + 1
 }
 
+// Whether what may be a DSID ends with the update number after the holding's, and a date.
+fn ends_next(h: &[u8], b: &[u8]) -> bool
+    requires { ⌜ 10 ≤ length (now h) ⌝ }
+    ensures { λ r. ⌜ r ≡ endsNext (now (h .entry)) (now (b .entry)) ⌝ }
+{
+    if b.len() < 10 {
+        return false;
+    }
+    let old = le16(h, 8) as usize;
+    let new = le16(b, b.len() - 10) as usize;
+    new == old + 1
+}
+
+// Whether the file f may follow the holding h, at a glance. Most files of a shelf do not, and are read no further.
+fn may_follow(h: &[u8], f: &[u8]) -> bool
+    requires { ⌜ 10 ≤ length (now h) ⌝ }
+    ensures { λ r. ⌜ r ≡ mayFollow (now (h .entry)) (now (f .entry)) ⌝ }
+{
+    match glanced(f) {
+        Glance::At(i, j) => ends_next(h, &f[i..j]),
+        Glance::Nothing => false,
+    }
+}
+
 // Whether the file f follows the holding h.
 fn follows(h: &[u8], f: &[u8]) -> bool
     requires { ⌜ 10 ≤ length (now h) ⌝ }
     ensures { λ r. ⌜ r ≡ followsOf (now (h .entry)) (now (f .entry)) ⌝ }
 {
+    if !may_follow(h, f) {
+        return false;
+    }
     match dsid_in(f, Mode::InUpdate) {
         Front::At(i, j) => dsid_follows(h, &f[i..j]),
         Front::Stopped(_, _) => false,
