@@ -1,28 +1,31 @@
 -- Laws of a file that follows a holding, and of one that does not at a glance. Assumes nothing.
-use mathlib.Core.Path.{_≡_, refl, sym, ap, subst, _∙_}
-use mathlib.Core.Bool.{Bool, true, false, not}
+use mathlib.Core.Path.{_≡_, refl, sym, ap, ap₂, subst, _∙_}
+use mathlib.Core.Bool.{Bool, true, false, not, true≢false}
 use mathlib.Core.Option.{some}
 use mathlib.Core.List.{List, [], _∷_, _++_}
 use Prim.Native.Nat.{ℕ, suc, _+_, _-_, _≤_, _<_}
 use native.Mathlib.Omega.{arith}
-use borrow.Author.Tests.{le-leb, lt-leb, not-true}
+use borrow.Author.Tests.{le-leb, lt-leb, eq-eqb, ne-eqb, not-true}
 use lib.Dec.{eqb}
-use lib.ListN.{length, drop}
+use lib.ListN.{length, take, drop, length-drop}
 use lib.Seq.{drop-drop}
 use Rattle.base.specs.Keys.{same}
-use Rattle.base.proofs.ChoiceLaws.{both-false}
-use Rattle.fields.specs.Bytes.{le}
+use Rattle.base.proofs.ChoiceLaws.{both-hold, both-too}
+use Rattle.base.proofs.KeysLaws.{same-sound, same-refl}
+use Rattle.sequence.proofs.Tests.{by-bool}
+use Rattle.fields.specs.Bytes.{le, run}
 use Rattle.fields.specs.Sizes.{size, sizes}
-use Rattle.fields.specs.Table.{headOf, tupleOf, rcid, count}
+use Rattle.fields.specs.Table.{headOf, tupleOf, rcid, count, code}
 use Rattle.fields.specs.Values.{Val, value, values, numAt, textAt}
 use Rattle.fields.specs.declared.Format.the-variants.{Dsid}
 use Rattle.fields.specs.declared.Sub.{Sub}
-use Rattle.fields.specs.declared.Sub.the-variants.{B11, B12, Text, Fixed}
+use Rattle.fields.specs.declared.Sub.the-variants.{B11, Text, Fixed}
 use Rattle.fields.proofs.FieldLaws.{fill-head}
-use Rattle.fields.proofs.SizeLaws.{num-some, num-widths, fixed-some, sizes-cons}
+use Rattle.fields.proofs.SizeLaws.{num-some, num-widths, text-some, fixed-some, sizes-cons}
 use Rattle.fields.proofs.ValueLaws.{values-first}
 use Rattle.skeleton.specs.File.{Field}
 use Rattle.skeleton.specs.Place.{between}
+use Rattle.skeleton.proofs.BetweenLaws.{length-between}
 use Rattle.rules.specs.General.{dsidOf, nameOf, editionOf, numberOf}
 use Rattle.rules.specs.Outcome.{Outcome, done, refused}
 use Rattle.rules.specs.declared.Mode.the-variants.{InUpdate}
@@ -39,64 +42,122 @@ use Rattle.cable.specs.declared.glance.Glance.{Glance}
 use Rattle.cable.specs.declared.glance.Glance.the-variants.{At, Nothing}
 use Rattle.cable.specs.declared.front.Front.{Front}
 use Rattle.cable.specs.declared.front.Front.the-variants.{At as FrontAt, Stopped}
+use Rattle.cable.proofs.NamingLaws.{rest, rest-is}
 use Rattle.cable.proofs.FrontLaws.{Seen, seen}
 use Rattle.cable.proofs.GlanceLaws.{seen-runs, seen-inside}
 
--- ---- the number at the end of DSID
+-- ---- the last subfields of DSID
 
--- a number of two bytes and a text of eight
-abbrev lastTwo : List Sub
-lastTwo = B12 0 65534 ∷ Fixed 8 ∷ []
+-- subfields behind others: they take so many bytes at the end, and their values are the last ones
+record Behind (ds last : List Sub) (l : List ℕ) (n : ℕ) : Type 0 where
+  long : ℕ
+  inside : long ≤ n
+  taken : sizes last (drop (n - long) l) ≡ some long
+  held : drop (length ds) (values (ds ++ last) l) ≡ values last (drop (n - long) l)
 
-two-of : (l : List ℕ) (n : ℕ) → sizes lastTwo l ≡ some n → n ≡ 10
-unfolding size
-two-of l n e =
-    let (m, k, x, y, z) = sizes-cons (B12 0 65534) (Fixed 8 ∷ []) l n e in
-    let (i, j, u, v, w) = sizes-cons (Fixed 8) [] (drop m l) k y in
-    let a : 2 ≡ m = num-some 2 _ l m x .0 in
-    let b : 8 ≡ i = fixed-some 8 (drop m l) i u .0 in
-    let c : j ≡ 0 = num-widths [] (drop i (drop m l)) j refl v in
-    omega arith
+behind : (ds last : List Sub) (l : List ℕ) (n : ℕ) → sizes (ds ++ last) l ≡ some n → Behind ds last l n
+behind [] last l n e = let z : n - n ≡ 0 = omega arith in record { long = n; inside = omega arith; taken = rw z e; held = rw z refl }
+behind (d ∷ ds) last l n e =
+    let (m, k, x, y, z) = sizes-cons d (ds ++ last) l n e in
+    let b = behind ds last (drop m l) k y in
+    let v : m + (k - b .long) ≡ n - b .long = omega (arith, b .inside) in
+    let w : drop (k - b .long) (drop m l) ≡ drop (n - b .long) l = drop-drop (k - b .long) m l ∙ ap (λ (i : ℕ). drop i l) v in
+    record {
+      long = b .long;
+      inside = omega (arith, b .inside);
+      taken = rw (← w) (b .taken);
+      held = ap (λ (vs : List Val). drop (length (d ∷ ds)) vs) (values-first d (ds ++ last) l m x) ∙ b .held ∙ ap (values last) w;
+    }
 
--- behind other subfields they are the last ten bytes
-last-number : (ds : List Sub) (l : List ℕ) (n : ℕ) → sizes (ds ++ lastTwo) l ≡ some n
-    → (10 ≤ n) × (numAt (values (ds ++ lastTwo) l) (length ds) ≡ le 2 (drop (n - 10) l))
-unfolding values value
-last-number [] l n e = let z : n ≡ 10 = two-of l n e in (omega arith, let w : n - 10 ≡ 0 = omega arith in rw w refl)
-last-number (d ∷ ds) l n e =
-    let (m, k, x, y, z) = sizes-cons d (ds ++ lastTwo) l n e in
-    let (a, b) = last-number ds (drop m l) k y in
-    let w : n - 10 ≡ m + (k - 10) = omega arith in
-    (omega arith, ap (λ (v : List Val). numAt v (suc (length ds))) (values-first d (ds ++ lastTwo) l m x) ∙ b ∙ ap (le 2) (drop-drop (k - 10) m l ∙ ap (λ (i : ℕ). drop i l) (sym w)))
+-- DSNM, EDTN, UPDN and ISDT
+abbrev lastFour : List Sub
+lastFour = Text ∷ count ∷ code ∷ Fixed 8 ∷ []
 
-number-last : (b : List ℕ) → Identified b → (10 ≤ length b) × (numAt (values (headOf Dsid) b) 9 ≡ le 2 (drop (length b - 10) b))
-unfolding headOf tupleOf
-number-last b g = last-number (B11 10 10 ∷ rcid ∷ Text ∷ Text ∷ Text ∷ Text ∷ Text ∷ Text ∷ count ∷ []) b (length b) (fill-head (headOf Dsid) b g)
+-- DSNM of so many bytes, its 1F, and twelve bytes more, two of which UPDN begins three bytes behind DSNM
+four-of : (l : List ℕ) (n : ℕ) → sizes lastFour l ≡ some n
+    → (n ≡ run l + 13) × (textAt (values lastFour l) 0 ≡ take (run l) l) × (numAt (values lastFour l) 2 ≡ le 2 (drop (run l + 3) l))
+unfolding size values value
+four-of l n e =
+    let (a, k, x, y, z) = sizes-cons Text (count ∷ code ∷ Fixed 8 ∷ []) l n e in
+    let (b, i, u, v, w) = sizes-cons count (code ∷ Fixed 8 ∷ []) (drop a l) k y in
+    let (c, j, p, q, r) = sizes-cons code (Fixed 8 ∷ []) (drop b (drop a l)) i v in
+    let (d, o, f, g, h) = sizes-cons (Fixed 8) [] (drop c (drop b (drop a l))) j q in
+    let ea : run l + 1 ≡ a = text-some l a x .0 in
+    let eb : 2 ≡ b = num-some 2 _ (drop a l) b u .0 in
+    let ec : 2 ≡ c = num-some 2 _ (drop b (drop a l)) c p .0 in
+    let ed : 8 ≡ d = fixed-some 8 (drop c (drop b (drop a l))) d f .0 in
+    let eo : o ≡ 0 = num-widths [] (drop d (drop c (drop b (drop a l)))) o refl g in
+    let at : drop b (drop a l) ≡ drop (run l + 3) l = drop-drop b a l ∙ ap (λ (m : ℕ). drop m l) (let t : a + b ≡ run l + 3 = omega arith in t) in
+    (omega arith, refl, rw (x, u) (ap (le 2) at))
+
+record Ends (b : List ℕ) : Type 0 where
+  long : ℕ
+  room : long + 13 ≤ length b
+  name : textAt (values (headOf Dsid) b) 7 ≡ between b (length b - 13 - long) (length b - 13)
+  number : numAt (values (headOf Dsid) b) 9 ≡ le 2 (drop (length b - 13 + 3) b)
+
+dsid-ends : (b : List ℕ) → Identified b → Ends b
+unfolding headOf tupleOf values
+dsid-ends b g =
+    let q = behind (B11 10 10 ∷ rcid ∷ Text ∷ Text ∷ Text ∷ Text ∷ Text ∷ []) lastFour b (length b) (fill-head (headOf Dsid) b g) in
+    let l = drop (length b - q .long) b in
+    let (n, t, m) = four-of l (q .long) (q .taken) in
+    let i : length b - q .long ≡ length b - 13 - run l = omega (arith, q .inside) in
+    let k : length b - 13 - (length b - 13 - run l) ≡ run l = omega (arith, q .inside) in
+    let w : length b - q .long + (run l + 3) ≡ length b - 13 + 3 = omega (arith, q .inside) in
+    record {
+      long = run l;
+      room = omega (arith, q .inside);
+      name = ap (λ (vs : List Val). textAt vs 0) (q .held) ∙ t ∙ ap₂ (λ (x y : ℕ). take x (drop y b)) (sym k) i;
+      number = ap (λ (vs : List Val). numAt vs 2) (q .held) ∙ m ∙ ap (le 2) (drop-drop (run l + 3) (length b - q .long) b ∙ ap (λ (x : ℕ). drop x b) w);
+    }
 
 -- ---- `ends_next`
 
 module _ (h b : List ℕ) where
-  pub next-short : length b < 10 → false ≡ endsNext h b
+  pub next-short : length b < 13 → false ≡ endsNext h b
   unfolding endsNext
-  next-short l = simp (lt-leb 10 (length b) l)
+  next-short l = simp (lt-leb 13 (length b) l)
 
-  module _ (l : 10 ≤ length b) where
-    pub next-room : length b - 10 + 2 ≤ length b
-    next-room = omega arith
+  module _ (l : 13 ≤ length b) where
+    module _ (m n : ℕ) (em : m ≡ le 2 (drop 8 h)) (en : n ≡ le 2 (drop (length b - 13 + 3) b)) where
+      pub next-other : (n ≡ m + 1 → ⊥) → false ≡ endsNext h b
+      unfolding endsNext numberTold
+      next-other e = rw (← em, ← en) (simp (le-leb 13 (length b) l, ne-eqb n (m + 1) e))
 
-    pub next-is : (m n : ℕ) → m ≡ le 2 (drop 8 h) → n ≡ le 2 (drop (length b - 10) b) → eqb n (m + 1) ≡ endsNext h b
-    unfolding endsNext numberTold
-    next-is m n em en = rw (← em, ← en) (simp (le-leb 10 (length b) l))
+      module _ (e : n ≡ m + 1) where
+        pub next-long : length b - 13 < length h - 10 → false ≡ endsNext h b
+        unfolding endsNext numberTold
+        next-long w = rw (← em, ← en) (simp (le-leb 13 (length b) l, eq-eqb n (m + 1) e, lt-leb (length h - 10) (length b - 13) w))
 
-  -- a DSID that does not end so does not follow
-  never-follows : Identified b → endsNext h b ≡ false → dsidFollows h b ≡ false
-  unfolding endsNext dsidFollows
-  never-follows g e =
-      let (l, n) = number-last b g in
-      let z : eqb (numAt (values (headOf Dsid) b) 9) (numberTold h + 1) ≡ false = rw n (rw (le-leb 10 (length b) l) at e) in
-      rw (z, both-false (eqb (numAt (values (headOf Dsid) b) 8) (editionTold h))) (both-false (same (textAt (values (headOf Dsid) b) 7) (nameTold h)))
+        module _ (w : length h - 10 ≤ length b - 13) where
+          pub next-named : (t : Bool) → t ≡ same (between b (length b - 13 - (length h - 10)) (length b - 13)) (rest h 10) → t ≡ endsNext h b
+          unfolding endsNext numberTold nameTold
+          next-named t x =
+              rw (← em, ← en)
+              (simp (le-leb 13 (length b) l, eq-eqb n (m + 1) e, le-leb (length h - 10) (length b - 13) w)
+              (x ∙ ap (same (between b (length b - 13 - (length h - 10)) (length b - 13))) (rest-is h 10)))
 
-pub ruleset next-ways = (next-short, next-room, next-is, arith)
+pub ruleset next-ways = (next-short, next-other, next-long, next-named)
+
+-- a DSID that follows ends so
+ends-so : (h b : List ℕ) → Identified b → dsidFollows h b ≡ true → endsNext h b ≡ true
+unfolding endsNext dsidFollows nameTold
+ends-so h b g e =
+    let q = dsid-ends b g in
+    let v = values (headOf Dsid) b in
+    let (a, c) = both-hold (same (textAt v 7) (nameTold h)) _ e in
+    let (d, f) = both-hold (eqb (numAt v 8) (editionTold h)) _ c in
+    let name : between b (length b - 13 - q .long) (length b - 13) ≡ nameTold h = sym (q .name) ∙ same-sound (textAt v 7) (nameTold h) a in
+    let long : length h - 10 ≡ q .long = sym (length-drop 10 h) ∙ ap length (sym name) ∙ length-between b (length b - 13 - q .long) (length b - 13) (omega arith) ∙ omega (arith, q .room) in
+    let number : eqb (le 2 (drop (length b - 13 + 3) b)) (numberTold h + 1) ≡ true = rw (← q .number) f in
+    both-too (le-leb 13 (length b) (omega (arith, q .room))) (both-too number (both-too (le-leb (length h - 10) (length b - 13) (omega (arith, q .room))) (rw (long, name) (same-refl (drop 10 h)))))
+
+never-follows : (h b : List ℕ) → Identified b → endsNext h b ≡ false → dsidFollows h b ≡ false
+never-follows h b g e =
+    by-bool (dsidFollows h b)
+    (λ x. absurd (true≢false (sym (ends-so h b g x) ∙ e)))
+    (λ x. x)
 
 -- ---- `may_follow`
 

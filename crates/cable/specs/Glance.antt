@@ -6,6 +6,7 @@ use mathlib.Core.List.{List}
 use lib.ListN.{length, drop}
 use lib.Dec.{eqb, leb}
 use Rattle.base.specs.Choice.{pick, both}
+use Rattle.base.specs.Keys.{same}
 use Rattle.fields.specs.Bytes.{le}
 use Rattle.skeleton.specs.Place.{between, placeAt}
 use Rattle.skeleton.specs.Record.{statedAt}
@@ -13,7 +14,7 @@ use Rattle.skeleton.specs.declared.leader.Head.{Head}
 use Rattle.skeleton.specs.declared.leader.Head.the-variants.{Good, Refused}
 use Rattle.skeleton.specs.declared.place.Place.{Place}
 use Rattle.skeleton.specs.declared.place.Place.the-variants.{At as PlaceAt, Done}
-use Rattle.parcels.specs.Holding.{numberTold}
+use Rattle.parcels.specs.Holding.{numberTold, nameTold}
 use Rattle.cable.specs.declared.glance.Glance.{Glance}
 use Rattle.cable.specs.declared.glance.Glance.the-variants.{At, Nothing}
 
@@ -38,9 +39,14 @@ glanceOf f = glanceBy f (statedAt f 0)
 
 -- ---- whether a file may follow a holding
 
--- UPDN stands before the eight bytes of ISDT, which are the last of DSID: it is the holding's number plus one
+-- the last subfields of DSID are DSNM with its 1F, EDTN, UPDN and the eight bytes of ISDT: UPDN is the holding's number plus one, DSNM its name
 unfoldable pub endsNext : List ℕ → List ℕ → Bool
-endsNext h b = both (leb 10 (length b)) (eqb (le 2 (drop (length b - 10) b)) (numberTold h + 1))
+endsNext h b =
+    let end = length b - 13 in
+    let long = length h - 10 in
+    let number = eqb (le 2 (drop (end + 3) b)) (numberTold h + 1) in
+    let name = both (leb long end) (same (between b (end - long) end) (nameTold h)) in
+    both (leb 13 (length b)) (both number name)
 
 unfoldable pub mayFollowBy : List ℕ → List ℕ → Glance → Bool
 mayFollowBy h f (At i j) = endsNext h (between f i j)

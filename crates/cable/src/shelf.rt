@@ -41,17 +41,25 @@ fn dsid_follows(h: &[u8], b: &[u8]) -> bool
     new == old + 1
 }
 
-// Whether what may be a DSID ends with the update number after the holding's, and a date.
+// Whether what may be a DSID ends with the holding's name, an edition, the update number after the holding's, and a date.
 fn ends_next(h: &[u8], b: &[u8]) -> bool
     requires { ⌜ 10 ≤ length (now h) ⌝ }
     ensures { λ r. ⌜ r ≡ endsNext (now (h .entry)) (now (b .entry)) ⌝ }
 {
-    if b.len() < 10 {
+    if b.len() < 13 {
         return false;
     }
+    let end = b.len() - 13;
     let old = le16(h, 8) as usize;
-    let new = le16(b, b.len() - 10) as usize;
-    new == old + 1
+    let new = le16(b, end + 3) as usize;
+    if new != old + 1 {
+        return false;
+    }
+    let long = h.len() - 10;
+    if end < long {
+        return false;
+    }
+    same_bytes(&b[end - long..end], &h[10..])
 }
 
 // Whether the file f may follow the holding h, at a glance. Most files of a shelf do not, and are read no further.
