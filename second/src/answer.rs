@@ -1,6 +1,7 @@
 //! What a case comes to: the answer of the entry point that it asks for, and what that leaves in the lent slices.
 
-use crate::batch::{fnv, Case, LISTING, MONTH, READ, UPDATE, WRITE};
+use crate::batch::{fnv, Case, LISTING, MONTH, READ, REPLY, TAKE, TELL, UPDATE, WRITE};
+use crate::cable::{self, Found};
 use crate::calls::{self, Written};
 use crate::file::Refusal;
 use crate::listing;
@@ -17,9 +18,20 @@ pub enum Answered {
         count: usize,
         out: Vec<u8>,
         work_zero: bool,
-        held: Option<Held>,
+        more: More,
     },
     Printed(Vec<u8>),
+}
+
+/// What some answers tell behind the words that all have.
+#[derive(Clone, Copy, Debug, PartialEq, Eq)]
+pub enum More {
+    Nothing,
+    Month(Held),
+    /// The parcel that answers a holding, or none.
+    Reply(Option<Found>),
+    /// How long the chart is after a parcel was taken.
+    Chart(usize),
 }
 
 /// The stack of a thread that answers: attribute trees are as deep as a record is long.
@@ -47,44 +59,71 @@ fn one(case: &Case) -> Answered {
         UPDATE => written(calls::update(&case.first, &case.second, room, case.work), room),
         LISTING => Answered::Printed(listing::printed(&case.first).into_bytes()),
         MONTH => held(case),
+        REPLY => replied(case),
+        TAKE => taken(case),
+        TELL => written(cable::tell(&case.first, room).map(|holding| (holding, 0)), room),
         other => unreachable!("operation {other} is no case's"),
     }
 }
 
 /// The output slice holds what is written, and zeroes.
 fn written(outcome: Result<Written, Refusal>, room: usize) -> Answered {
+    written_and(outcome, room, More::Nothing)
+}
+
+fn written_and(outcome: Result<Written, Refusal>, room: usize, more: More) -> Answered {
     let mut out = vec![0; room];
     if let Ok((bytes, _)) = &outcome {
         out[..bytes.len()].copy_from_slice(bytes);
     }
-    call(outcome.map(|(bytes, count)| (bytes.len(), count)), out, None)
+    call(outcome.map(|(bytes, count)| (bytes.len(), count)), out, more)
 }
 
 fn held(case: &Case) -> Answered {
     let (length, list) = case.length_and_list().expect("a month's second part starts with a length");
     let lent = Lent { first: &case.first, length: length as usize, second: case.out as usize };
     let month = month::month(list, &lent, case.work);
-    call(month.outcome, month.pools.concat(), Some(month.held))
+    call(month.outcome, month.pools.concat(), More::Month(month.held))
+}
+
+fn replied(case: &Case) -> Answered {
+    let reply = cable::reply(&case.first, &case.second);
+    call(reply.map(|_| (0, 0)), Vec::new(), More::Reply(reply.unwrap_or_default()))
+}
+
+/// The result is the chart from then on; a refusal leaves the one handed over.
+fn taken(case: &Case) -> Answered {
+    let room = case.out as usize;
+    let outcome = cable::take(&case.first, &case.second, room, case.work);
+    let length = outcome.as_ref().map_or(case.first.len(), |(chart, _)| chart.len());
+    written_and(outcome, room, More::Chart(length))
 }
 
 /// The answer of a call whose outcome is a refusal, or length and count.
-fn call(outcome: Result<(usize, usize), Refusal>, out: Vec<u8>, held: Option<Held>) -> Answered {
+fn call(outcome: Result<(usize, usize), Refusal>, out: Vec<u8>, more: More) -> Answered {
     let (length, count) = outcome.unwrap_or_default();
     let (number, file, record) = outcome.err().map_or((0, 0, 0), |r| (r.number, r.file, r.record));
-    Answered::Call { number, file, record, length, count, out, work_zero: true, held }
+    Answered::Call { number, file, record, length, count, out, work_zero: true, more }
 }
 
 /// The line of an answer.
 pub fn line(answered: &Answered) -> String {
     match answered {
-        Answered::Call { number, file, record, length, count, out, work_zero, held } => {
+        Answered::Call { number, file, record, length, count, out, work_zero, more } => {
             let work = u8::from(*work_zero);
-            let words = format!("{number} {file} {record} {length} {count} {:016x} {work}", fnv(out));
-            match held {
-                Some(Held { applied, pool, length }) => format!("{words} {applied} {pool} {length}"),
-                None => words,
-            }
+            format!("{number} {file} {record} {length} {count} {:016x} {work}{}", fnv(out), behind(more))
         }
         Answered::Printed(text) => format!("listing {} {:016x}", text.len(), fnv(text)),
+    }
+}
+
+/// The words behind those that all answers have, each with a blank before it.
+fn behind(more: &More) -> String {
+    match more {
+        More::Nothing => String::new(),
+        More::Month(Held { applied, pool, length }) => format!(" {applied} {pool} {length}"),
+        More::Reply(Some(Found { start, length })) => format!(" 1 {start} {length}"),
+        More::Reply(None) => " 0 0 0".to_string(),
+        More::Chart(length) => format!(" {length}"),
     }
 }

@@ -6,7 +6,10 @@ pub const WRITE: u8 = 2;
 pub const UPDATE: u8 = 3;
 pub const LISTING: u8 = 4;
 pub const MONTH: u8 = 9;
-pub const OPERATIONS: [u8; 5] = [READ, WRITE, UPDATE, LISTING, MONTH];
+pub const REPLY: u8 = 11;
+pub const TAKE: u8 = 12;
+pub const TELL: u8 = 13;
+pub const OPERATIONS: [u8; 8] = [READ, WRITE, UPDATE, LISTING, MONTH, REPLY, TAKE, TELL];
 
 /// What output slice and workspace are filled with before a call, so that zeroing shows.
 pub const FILLED: u8 = 0xA5;
@@ -41,6 +44,18 @@ impl Case {
     pub fn month(call: &MonthCall) -> Case {
         let second = [&(call.length as u32).to_le_bytes(), &call.list[..]].concat();
         Case { operation: MONTH, first: call.first.clone(), second, out: call.second as u32, work: call.work }
+    }
+
+    pub fn reply(holding: Vec<u8>, shelf: Vec<u8>) -> Case {
+        Case { operation: REPLY, first: holding, second: shelf, out: 0, work: 0 }
+    }
+
+    pub fn take(chart: Vec<u8>, parcel: Vec<u8>, out: u32, work: u32) -> Case {
+        Case { operation: TAKE, first: chart, second: parcel, out, work }
+    }
+
+    pub fn tell(chart: Vec<u8>, out: u32) -> Case {
+        Case { operation: TELL, first: chart, second: Vec::new(), out, work: 0 }
     }
 
     /// Of a month: the dataset's length in the first pool, and the list. None where the second part is too short.

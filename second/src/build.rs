@@ -45,6 +45,16 @@ pub fn joined(files: &[Vec<u8>]) -> Vec<u8> {
     files.iter().flat_map(|file| [&(file.len() as u32).to_le_bytes(), &file[..]].concat()).collect()
 }
 
+/// A parcel: its whole length, its kind and its body.
+pub fn parcel(kind: u16, body: &[u8]) -> Vec<u8> {
+    [&(6 + body.len() as u32).to_le_bytes(), &kind.to_le_bytes()[..], body].concat()
+}
+
+/// The parcel of kind 1 that tells a holding.
+pub fn holding(edition: u16, update: u16, name: &[u8]) -> Vec<u8> {
+    parcel(1, &[&edition.to_le_bytes(), &update.to_le_bytes(), name].concat())
+}
+
 /// A dataset at the front of a pool of so many bytes, with this byte behind it.
 pub fn pooled(dataset: &[u8], pool: usize, behind: u8) -> Vec<u8> {
     let mut bytes = vec![behind; pool];

@@ -1,6 +1,6 @@
 //! The reader, the writer and the updater: what each makes of the bytes handed over, or its refusal.
 
-use crate::file::{self, refusal, Refusal, LONGEST};
+use crate::file::{self, refusal, Refusal};
 use crate::model::Dataset;
 use crate::update;
 use crate::written;
@@ -36,11 +36,8 @@ pub fn workspace(length: u32) -> Result<(), Refusal> {
 
 pub fn update(dataset: &[u8], sent: &[u8], room: usize, work: u32) -> Result<Written, Refusal> {
     workspace(work)?;
-    for (bytes, number) in [(dataset, file::DATASET), (sent, file::UPDATE)] {
-        if bytes.len() > LONGEST {
-            return Err(refusal(14, number, 0));
-        }
-    }
+    file::short_enough(dataset, file::DATASET)?;
+    file::short_enough(sent, file::UPDATE)?;
     let dataset = file::dataset(dataset)?;
     written::each_fits(&dataset)?;
     let (general, sent) = file::update(sent)?;

@@ -1,4 +1,5 @@
-//! Whole files, record after record: a dataset (1 to 7, then 11) and the first pass over an update (1 to 7).
+//! Files, record after record: a dataset (1 to 7, then 11), the first pass over an update (1 to 7), and no more of
+//! either than its first two records.
 
 use std::collections::HashSet;
 
@@ -26,28 +27,44 @@ pub fn refusal(number: u32, file: u32, record: usize) -> Refusal {
     Refusal { number, file, record }
 }
 
-/// Each record's fields handed to `take` with its number; a file with fewer than `least` records lacks the next one.
-fn each_record(
-    bytes: &[u8],
-    file: u32,
-    least: usize,
-    mut take: impl FnMut(usize, Vec<Field>) -> Result<(), u32>,
-) -> Result<(), Refusal> {
+/// 14 where a file is too long to be read as a whole.
+pub fn short_enough(bytes: &[u8], file: u32) -> Result<(), Refusal> {
     if bytes.len() > LONGEST {
         return Err(refusal(14, file, 0));
     }
+    Ok(())
+}
+
+/// How many records are read: a file with fewer than the least lacks the next one, and behind the most none is looked at.
+struct Span {
+    least: usize,
+    most: usize,
+}
+
+/// So many records or more, to the end of the file.
+fn from(least: usize) -> Span {
+    Span { least, most: usize::MAX }
+}
+
+/// Each record's fields handed to `take` with its number.
+fn each_record(
+    bytes: &[u8],
+    file: u32,
+    span: Span,
+    mut take: impl FnMut(usize, Vec<Field>) -> Result<(), u32>,
+) -> Result<(), Refusal> {
     if bytes.is_empty() {
         return Err(refusal(1, file, 1));
     }
     let (mut at, mut number) = (0, 0);
-    while at < bytes.len() {
+    while at < bytes.len() && number < span.most {
         number += 1;
         let place = |refused| refusal(refused, file, number);
         let (fields, length) = skeleton::record_at(&bytes[at..], at == 0).map_err(place)?;
         take(number, fields).map_err(place)?;
         at += length;
     }
-    if number < least {
+    if number < span.least {
         return Err(refusal(4, file, number + 1));
     }
     Ok(())
@@ -55,10 +72,11 @@ fn each_record(
 
 /// The dataset that a file is.
 pub fn dataset(bytes: &[u8]) -> Result<Dataset, Refusal> {
+    short_enough(bytes, DATASET)?;
     let (mut descriptive, mut general, mut systems) = (Vec::new(), None, Vec::new());
     let mut records: Vec<Record> = Vec::new();
     let mut keys: HashSet<Key> = HashSet::new();
-    each_record(bytes, DATASET, 3, |number, fields| {
+    each_record(bytes, DATASET, from(3), |number, fields| {
         match number {
             1 => descriptive = fields,
             2 => general = Some(sent::general(Mode::Dataset, &fields)?),
@@ -95,11 +113,11 @@ pub fn references(records: &[Record], keys: &HashSet<Key>, file: u32) -> Result<
     }
 }
 
-/// The first pass over an update: its general record and its records as they are sent.
+/// The first pass over an update that is short enough: its general record and its records as they are sent.
 pub fn update(bytes: &[u8]) -> Result<(General, Vec<Sent>), Refusal> {
     let mut general = None;
     let mut records = Vec::new();
-    each_record(bytes, UPDATE, 2, |number, fields| {
+    each_record(bytes, UPDATE, from(2), |number, fields| {
         match number {
             1 => {}
             2 => general = Some(sent::general(Mode::Update, &fields)?),
@@ -108,4 +126,17 @@ pub fn update(bytes: &[u8]) -> Result<(General, Vec<Sent>), Refusal> {
         Ok(())
     })?;
     Ok((general.expect("an update has two records"), records))
+}
+
+/// The general record of a file of any length, of which the first two records alone are read.
+pub fn general(bytes: &[u8], mode: Mode) -> Result<General, Refusal> {
+    let file = if mode == Mode::Dataset { DATASET } else { UPDATE };
+    let mut general = None;
+    each_record(bytes, file, Span { least: 2, most: 2 }, |number, fields| {
+        if number == 2 {
+            general = Some(sent::general(mode, &fields)?);
+        }
+        Ok(())
+    })?;
+    Ok(general.expect("two records were read"))
 }

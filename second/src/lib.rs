@@ -1,9 +1,11 @@
-//! The second program: everything that document 01 says, and what document 02 says of months, by the plainest algorithm.
-//! It stands beside the proved code and shares nothing with it; where the two differ, one of them has misread the paper.
+//! The second program: everything that document 01 says, and what document 02 says of months and of the bridge cable, by
+//! the plainest algorithm. It stands beside the proved code and shares nothing with it; where the two differ, one of them
+//! has misread the paper.
 
 pub mod answer;
 pub mod batch;
 pub mod build;
+pub mod cable;
 pub mod calls;
 pub mod file;
 pub mod generate;

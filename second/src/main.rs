@@ -7,7 +7,7 @@ use second::{answer, batch, samples};
 
 const USAGE: &str = "usage: second answer CASES | second generate --seed N --count K [--operations 1,2,..] OUT | \
 second traces --seed N --count K OUT | second compare CASES ANSWERS | second samples DIR\n\
-operations: 1 read, 2 write, 3 update, 4 listing, 9 month";
+operations: 1 read, 2 write, 3 update, 4 listing, 9 month, 11 reply, 12 take, 13 tell";
 
 fn main() -> ExitCode {
     let words: Vec<String> = std::env::args().skip(1).collect();

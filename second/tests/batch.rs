@@ -15,6 +15,9 @@ fn cases() -> Vec<Case> {
         Case::update(vec![4], vec![5, 6], 8, u32::MAX),
         Case::listing(vec![0; 20]),
         month(),
+        Case::reply(vec![1], vec![2, 3, 4]),
+        Case::take(vec![5, 6], vec![7], 3, 400_000),
+        Case::tell(vec![8], 9),
     ];
     assert_eq!(cases.iter().map(|case| case.operation).collect::<Vec<_>>(), OPERATIONS);
     cases

@@ -3,8 +3,8 @@
 
 use std::collections::{BTreeMap, BTreeSet};
 
-use second::answer::all;
-use second::batch::{fnv, framed, Case, LISTING, MONTH, OPERATIONS, READ, UPDATE, WRITE};
+use second::answer::{all, More};
+use second::batch::{fnv, framed, Case, LISTING, MONTH, OPERATIONS, READ, REPLY, TAKE, TELL, UPDATE, WRITE};
 use second::generate::chart::{Chart, Kind, Node};
 use second::generate::{corpus, directed, form, random_case, random_month, table, Directed, Intent, RandomMonth};
 use second::month::Held;
@@ -17,22 +17,37 @@ const CORPUS: usize = 5400;
 const MONTHS: usize = 600;
 const SEEDS: [u64; 3] = [1, 2, 3];
 
+/// What an answer tells behind the words that all have: of a parcel taken the length of the chart, of a reply none.
+fn more_of(case: &Case, chart: usize) -> More {
+    match case.operation {
+        REPLY => More::Reply(None),
+        TAKE => More::Chart(chart),
+        _ => More::Nothing,
+    }
+}
+
 /// What an answer has in common with an intended one.
 fn seen(answered: &Answered, case: &Case) -> Intent {
     match answered {
-        Answered::Call { number, file, record, length, count, out, work_zero: true, held: Some(held) } => {
+        Answered::Call { number, file, record, length, count, out, work_zero: true, more: More::Month(held) } => {
             assert!(*number == 0 || (*length, *count) == (0, 0), "length and count of a refusal");
             let outcome = if *number == 0 { Ok((*length, *count)) } else { Err((*number, *file, *record)) };
             let (first, second) = out.split_at(case.first.len());
             Intent::Month { outcome, held: *held, pools: [first.to_vec(), second.to_vec()] }
         }
-        Answered::Call { number: 0, file: 0, record: 0, length, count, out, work_zero: true, held: None } => {
+        Answered::Call { number: 0, file: 0, record: 0, length, count, out, more: More::Reply(found), .. } => {
+            assert!((*length, *count) == (0, 0) && out.is_empty(), "a reply writes nothing");
+            Intent::Replied(*found)
+        }
+        Answered::Call { number: 0, file: 0, record: 0, length, count, out, work_zero: true, more } => {
             let zero_behind = out[*length..].iter().all(|byte| *byte == 0);
             assert!(zero_behind && (case.operation != READ || *length == 0), "the output behind the written length");
+            assert_eq!(*more, more_of(case, *length), "the words behind");
             Intent::Done { written: out[..*length].to_vec(), count: *count }
         }
-        Answered::Call { number, file, record, length: 0, count: 0, out, work_zero: true, held: None } => {
+        Answered::Call { number, file, record, length: 0, count: 0, out, work_zero: true, more } => {
             assert!(out.iter().all(|byte| *byte == 0), "the output of a refusal");
+            assert_eq!(*more, more_of(case, case.first.len()), "the words behind a refusal");
             Intent::Refused(*number, *file, *record)
         }
         Answered::Call { .. } => panic!("an answer that is neither done nor refused: {answered:?}"),
@@ -173,7 +188,9 @@ fn answers_met(cases: &[Case]) -> Met {
             match seen(&answered, case) {
                 Intent::Done { .. } => *met.entry((case.operation, 0, 0)).or_default() += 1,
                 Intent::Refused(number, file, _) => *met.entry((case.operation, number, file)).or_default() += 1,
-                Intent::Month { .. } => panic!("a month is no call on one dataset"),
+                Intent::Month { .. } | Intent::Replied(_) => {
+                    panic!("neither a month nor a reply is a call on one dataset")
+                }
                 Intent::Prints(text) => {
                     let word = text.split(' ').next().unwrap_or("");
                     *printed.entry(word.to_string()).or_default() += 1;
@@ -269,15 +286,16 @@ fn a_corpus_of_months_has_every_directed_one() {
     assert!(months.len() * 5 <= MONTHS * 2, "directed ones are at most two fifths");
 }
 
-/// Months beside other operations take nothing from those.
+/// The operations apart take nothing from the others, nor from each other.
 #[test]
 fn a_corpus_can_be_of_all_operations() {
-    let count = 500;
-    let cases = corpus(7, count, &OPERATIONS);
-    let (months, others): (Vec<&Case>, Vec<&Case>) = cases.iter().partition(|case| case.operation == MONTH);
-    assert_eq!((months.len(), others.len()), (100, 400));
-    let alone = corpus(7, 400, &SINGLE);
-    assert!(alone.iter().all(|case| others.contains(&case)));
-    let months_alone = corpus(7, 100, &[MONTH]);
-    assert!(months_alone.iter().all(|case| months.contains(&case)));
+    let cases = corpus(7, 800, &OPERATIONS);
+    let of = |operations: &[u8]| -> Vec<&Case> {
+        cases.iter().filter(|case| operations.contains(&case.operation)).collect()
+    };
+    for (operations, count) in [(&SINGLE[..], 400), (&[MONTH], 100), (&[REPLY], 100), (&[TAKE], 100), (&[TELL], 100)] {
+        let (here, alone) = (of(operations), corpus(7, count, operations));
+        assert_eq!(here.len(), count, "of operations {operations:?}");
+        assert!(alone.iter().all(|case| here.contains(&case)), "operations {operations:?}");
+    }
 }

@@ -70,7 +70,7 @@ fn padded(written: &[u8], length: usize) -> Vec<u8> {
 fn none_applied(asked: &MonthCall) -> Refusal {
     let reply = reply(&Case::month(asked));
     assert_eq!((reply.length, reply.count), (0, 0), "length and count");
-    assert_eq!(reply.held, Some(Held { applied: 0, pool: 1, length: asked.length }));
+    assert_eq!(reply.more, More::Month(Held { applied: 0, pool: 1, length: asked.length }));
     assert!(pools(asked, &reply) == (asked.first.clone(), vec![0; asked.second]), "bytes of the pools");
     assert!(reply.work_zero, "workspace is not zero");
     (reply.number, reply.file, reply.record)
@@ -82,7 +82,7 @@ fn some_applied(asked: &MonthCall, applied: usize, chart: &[Record]) -> Refusal 
     let done = (written.len(), chart.len());
     assert_eq!((reply.length, reply.count), if reply.number == 0 { done } else { (0, 0) }, "length and count");
     let pool = if applied % 2 == 1 { 2 } else { 1 };
-    assert_eq!(reply.held, Some(Held { applied, pool, length: written.len() }));
+    assert_eq!(reply.more, More::Month(Held { applied, pool, length: written.len() }));
     let wanted = match pool {
         1 => (padded(&written, asked.first.len()), vec![0; asked.second]),
         _ => (vec![0; asked.first.len()], padded(&written, asked.second)),

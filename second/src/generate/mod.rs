@@ -1,5 +1,6 @@
 //! Cases for every comparison: named ones for each cause in the paper, and random ones that a seed decides.
 
+mod cable;
 pub mod chart;
 mod damage;
 mod directed;
@@ -12,33 +13,46 @@ pub mod revise;
 mod scatter;
 mod trace;
 
+pub use cable::{random_reply, random_taken, random_told, RandomReply, RandomTaken, RandomTold};
 pub use directed::{directed, table, Directed, Intent};
 pub use month::{random_month, RandomMonth};
 pub use scatter::{random_case, Scattered};
 pub use trace::{trace, Trace};
 
-use crate::batch::{Case, MONTH};
+use crate::batch::{Case, MONTH, REPLY, TAKE, TELL};
 use random::Random;
 
-/// A corpus of so many cases of these operations. Beside other operations months get the share of one.
+/// The operations whose random cases are a series of their own.
+const APART: [u8; 4] = [MONTH, REPLY, TAKE, TELL];
+
+/// A corpus of so many cases of these operations. Beside other operations each of those apart gets the share of one.
 pub fn corpus(seed: u64, count: usize, operations: &[u8]) -> Vec<Case> {
-    let (months, others): (Vec<u8>, Vec<u8>) = operations.iter().partition(|operation| **operation == MONTH);
-    let month = |number: usize| Some(random_month(seed, number).case);
-    let other = |number: usize| {
-        let wanted = others.contains(&scatter::operation(seed, number));
-        wanted.then(|| random_case(seed, number).case)
-    };
-    if months.is_empty() {
-        return series(seed, count, &others, other);
-    }
-    if others.is_empty() {
-        return series(seed, count, &months, month);
+    let others: Vec<u8> = operations.iter().copied().filter(|operation| !APART.contains(operation)).collect();
+    let apart = APART.into_iter().filter(|operation| operations.contains(operation)).map(|operation| vec![operation]);
+    let mut groups: Vec<Vec<u8>> = apart.collect();
+    if !others.is_empty() {
+        groups.insert(0, others);
     }
     let share = count / operations.len();
-    let mut cases = series(seed, count - share, &others, other);
-    cases.extend(series(seed, share, &months, month));
-    Random::new(seed).shuffle(&mut cases);
+    let first = count - share * (groups.len() - 1);
+    let lengths = std::iter::once(first).chain(std::iter::repeat(share));
+    let series = |(group, length): (&Vec<u8>, usize)| series(seed, length, group, |number| random(seed, number, group));
+    let mut cases: Vec<Case> = groups.iter().zip(lengths).flat_map(series).collect();
+    if groups.len() > 1 {
+        Random::new(seed).shuffle(&mut cases);
+    }
     cases
+}
+
+/// The random case of this number, where it is of one of the operations.
+fn random(seed: u64, number: usize, operations: &[u8]) -> Option<Case> {
+    match operations {
+        [MONTH] => Some(random_month(seed, number).case),
+        [REPLY] => Some(random_reply(seed, number).case),
+        [TAKE] => Some(random_taken(seed, number).case),
+        [TELL] => Some(random_told(seed, number).case),
+        _ => operations.contains(&scatter::operation(seed, number)).then(|| random_case(seed, number).case),
+    }
 }
 
 /// So many cases of these operations, directed ones and those that numbers scatter. The directed ones are at most two

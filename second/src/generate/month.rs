@@ -90,7 +90,7 @@ fn pools(random: &mut Random, publisher: &Publisher, dataset: usize, applied: Op
 }
 
 /// Around what is needed: exact, a byte less, something less, or more.
-fn room(random: &mut Random, needed: usize) -> usize {
+pub(super) fn room(random: &mut Random, needed: usize) -> usize {
     match random.below(20) {
         0 => needed.saturating_sub(1),
         1 => random.below(needed + 1),

@@ -107,7 +107,7 @@ pub(super) fn any_workspace(random: &mut Random) -> usize {
 }
 
 /// An output slice for what the chart's written form needs, and whether it is long enough.
-fn room(random: &mut Random, chart: &Chart) -> (u32, bool) {
+pub(super) fn room(random: &mut Random, chart: &Chart) -> (u32, bool) {
     let needed = form::written(chart).len();
     let length = match random.below(40) {
         0 => 0,

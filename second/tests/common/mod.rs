@@ -4,6 +4,7 @@
 // Each test file is a program of its own and uses a part of this one.
 #![allow(dead_code)]
 
+pub use second::answer::More;
 pub use second::batch::Case;
 pub use second::build::*;
 pub use second::month::Held;
@@ -244,13 +245,13 @@ pub struct Reply {
     pub count: usize,
     pub out: Vec<u8>,
     pub work_zero: bool,
-    pub held: Option<Held>,
+    pub more: More,
 }
 
 pub fn reply(case: &Case) -> Reply {
     match answer(case) {
-        Answered::Call { number, file, record, length, count, out, work_zero, held } => {
-            Reply { number, file, record, length, count, out, work_zero, held }
+        Answered::Call { number, file, record, length, count, out, work_zero, more } => {
+            Reply { number, file, record, length, count, out, work_zero, more }
         }
         Answered::Printed(_) => panic!("a call is answered in numbers"),
     }

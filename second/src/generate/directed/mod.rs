@@ -1,6 +1,7 @@
 //! Named cases, one for each cause that the paper gives, each with the answer that the paper asks for.
 
 mod base;
+mod cable;
 mod changes;
 mod disagreements;
 mod fields;
@@ -18,6 +19,7 @@ mod values;
 
 use crate::batch::{Case, READ, UPDATE, WRITE};
 use crate::build::{self, Field};
+use crate::cable::Found;
 use crate::month::Held;
 use base::{dataset, heading, Records};
 
@@ -40,6 +42,8 @@ pub enum Intent {
         held: Held,
         pools: [Vec<u8>; 2],
     },
+    /// The parcel of the shelf that answers a holding, or silence.
+    Replied(Option<Found>),
 }
 
 #[derive(Clone, Debug)]
@@ -53,6 +57,7 @@ pub struct Directed {
 pub fn table() -> Vec<Directed> {
     let mut table = small_table();
     sizes::huge(&mut table);
+    cable::huge(&mut table);
     table.rows
 }
 
@@ -87,6 +92,7 @@ fn small_table() -> Table {
     many::rows(&mut table);
     large::rows(&mut table);
     months::rows(&mut table);
+    cable::rows(&mut table);
     table
 }
 

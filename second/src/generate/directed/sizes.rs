@@ -194,7 +194,7 @@ fn widest(table: &mut Table) {
 
 /// The longest file.
 const LONGEST: usize = 16_777_216;
-/// How many cases huge adds.
+/// How many cases huge adds; of the cable there are fewer.
 pub const HUGE: usize = 7;
 
 /// Cases of sixteen megabytes each: one for each place of 14, and one result that just fits.

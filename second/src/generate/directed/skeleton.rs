@@ -25,7 +25,7 @@ fn update() -> Records {
 }
 
 /// The file with the bytes of one record changed.
-fn edited(records: &Records, number: usize, edit: impl FnOnce(&mut Vec<u8>)) -> Vec<u8> {
+pub(super) fn edited(records: &Records, number: usize, edit: impl FnOnce(&mut Vec<u8>)) -> Vec<u8> {
     let mut pieces: Vec<Vec<u8>> = records.iter().enumerate().map(|(n, fields)| record(n == 0, 5, 5, fields)).collect();
     edit(&mut pieces[number - 1]);
     pieces.concat()
@@ -83,7 +83,7 @@ fn ends(table: &mut Table) {
 }
 
 /// Adds to the five digits at a place.
-fn number_at(record: &mut [u8], at: usize, more: i64) {
+pub(super) fn number_at(record: &mut [u8], at: usize, more: i64) {
     let old: i64 = std::str::from_utf8(&record[at..at + 5]).expect("digits").parse().expect("a number");
     record[at..at + 5].copy_from_slice(format!("{:05}", old + more).as_bytes());
 }
