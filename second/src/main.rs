@@ -6,7 +6,8 @@ use std::process::ExitCode;
 use second::{answer, batch, samples};
 
 const USAGE: &str = "usage: second answer CASES | second generate --seed N --count K [--operations 1,2,..] OUT | \
-second traces --seed N --count K OUT | second compare CASES ANSWERS | second samples DIR\n\
+second traces --seed N --count K OUT | second exchanges --seed N --count K OUT | second compare CASES ANSWERS | \
+second samples DIR\n\
 operations: 1 read, 2 write, 3 update, 4 listing, 9 month, 11 reply, 12 take, 13 tell";
 
 fn main() -> ExitCode {
@@ -19,6 +20,7 @@ fn main() -> ExitCode {
             operations(some).and_then(|some| generated(seed, count, &some, out))
         }
         ["traces", "--seed", seed, "--count", count, out] => traced(seed, count, out),
+        ["exchanges", "--seed", seed, "--count", count, out] => exchanged(seed, count, out),
         ["compare", cases, answers] => compared(cases, answers),
         ["samples", folder] => sampled(folder),
         _ => Err(USAGE.to_string()),
@@ -64,6 +66,13 @@ fn traced(seed: &str, count: &str, out: &str) -> Outcome {
     let (seed, count) = seeded(seed, count)?;
     let cases: Vec<batch::Case> = (0..count).flat_map(|n| second::generate::trace(seed, n).calls).collect();
     written(&cases, out)
+}
+
+/// The calls of so many bridges.
+fn exchanged(seed: &str, count: &str, out: &str) -> Outcome {
+    let (seed, count) = seeded(seed, count)?;
+    let steps = (0..count).flat_map(|n| second::generate::exchanges(seed, n).steps);
+    written(&steps.map(|step| step.case).collect::<Vec<_>>(), out)
 }
 
 fn seeded(seed: &str, count: &str) -> Result<(u64, usize), String> {

@@ -4,6 +4,7 @@ mod cable;
 pub mod chart;
 mod damage;
 mod directed;
+mod exchange;
 pub mod form;
 pub mod invent;
 mod month;
@@ -15,6 +16,7 @@ mod trace;
 
 pub use cable::{random_reply, random_taken, random_told, RandomReply, RandomTaken, RandomTold};
 pub use directed::{directed, table, Directed, Intent};
+pub use exchange::{exchanges, Act, Exchanges, Step};
 pub use month::{random_month, RandomMonth};
 pub use scatter::{random_case, Scattered};
 pub use trace::{trace, Trace};

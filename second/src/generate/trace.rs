@@ -14,7 +14,7 @@ pub struct Trace {
 }
 
 /// The slice and the workspace that a display lends: mostly long enough.
-fn lent(random: &mut Random, needed: usize) -> (u32, u32) {
+pub(super) fn lent(random: &mut Random, needed: usize) -> (u32, u32) {
     let room = match random.below(10) {
         0 => needed - 1,
         1..=3 => needed,
