@@ -14,8 +14,8 @@ use crate::build::Field;
 
 /// The bytes of a file that something happened to. Most of them are short, so that it happens to the first two records.
 fn damaged(random: &mut Random, mut records: Vec<Vec<Field>>) -> Vec<u8> {
-    records.truncate(random.pick(&[2, 2, 3, 100]));
-    let fate = random.pick(&[Fate::Fields, Fate::Fields, Fate::Bytes]);
+    records.truncate(random.pick(&[2, 2, 2, 3, 100]));
+    let fate = random.pick(&[Fate::Fields, Fate::Bytes]);
     arrived(random, records, fate)
 }
 

@@ -35,20 +35,18 @@ pub fn random_reply(seed: u64, number: usize) -> RandomReply {
     let files = files(random, &publisher);
     let mut parcels: Vec<Vec<u8>> = files.iter().map(|file| parcel(2, &file.bytes)).collect();
     let mut told = holding(held.edition, held.update, &held.name);
-    let whole = random.percent(60);
-    if whole {
+    if random.percent(55) {
         let answer = expected(&held, &files);
         return RandomReply { case: Case::reply(told, parcels.concat()), answer: Some(answer) };
     }
     match random.below(12) {
-        0 => odd_parcel(random, &mut told),
-        1..=2 => told = other_holding(random, &held),
-        3..=5 => damage_one(random, &publisher, &mut parcels),
-        6..=9 if !parcels.is_empty() => {
+        0..=1 => odd_parcel(random, &mut told),
+        2..=3 => told = other_holding(random, &held),
+        4..=6 => damage_one(random, &publisher, &mut parcels),
+        7..=10 if !parcels.is_empty() => {
             let at = random.below(parcels.len());
             odd_head(random, &mut parcels[at]);
         }
-        10 => damage_one(random, &publisher, &mut parcels),
         _ => {
             let mut shelf = parcels.concat();
             let (length, more) = (random.between(0, shelf.len()), random.between(1, 5));

@@ -24,7 +24,7 @@ pub fn random_told(seed: u64, number: usize) -> RandomTold {
     let mut records = form::records(&chart, &mut Form::Free(random));
     let told = holding(chart.general.edition, chart.general.update, &chart.general.name);
     let out = room(random, told.len());
-    if random.percent(35) {
+    if random.percent(50) {
         let bytes = damaged(random, records);
         return RandomTold { case: Case::tell(bytes, out as u32), accepted: None };
     }
