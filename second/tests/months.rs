@@ -4,6 +4,7 @@ mod common;
 use common::*;
 use second::answer::{answer, line};
 use second::batch::{fnv, MonthCall};
+use second::month::Held;
 
 /// The pools of most tests: lengths that differ, and bytes behind the dataset.
 const FIRST: usize = 3_000;

@@ -7,7 +7,6 @@
 pub use second::answer::More;
 pub use second::batch::Case;
 pub use second::build::*;
-pub use second::month::Held;
 use second::{answer, Answered};
 
 pub const INSERT: u8 = 1;
