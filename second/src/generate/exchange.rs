@@ -121,6 +121,7 @@ impl Bridge {
         let repeated = random.percent(20);
         self.repeated += usize::from(repeated);
         let arrived = if repeated { self.on_way[at].clone() } else { self.on_way.swap_remove(at) };
+        // One in twenty comes to the wrong end of the cable, and a third of the answers to every display.
         let all = self.shown.len();
         let anyone = random.below(all);
         match (random.below(20), arrived.is_answer) {

@@ -16,7 +16,7 @@ pub fn rows(table: &mut Table) {
 }
 
 /// A change to the bytes of one record.
-type Edit = fn(&mut Vec<u8>);
+pub(super) type Edit = fn(&mut Vec<u8>);
 
 /// An update with several fields in its third record, and a record behind that.
 fn update() -> Records {

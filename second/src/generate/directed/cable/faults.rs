@@ -1,6 +1,6 @@
 //! Files of which one of the first two records cannot be read, a third one standing behind them.
 
-use super::super::skeleton::{edited, number_at};
+use super::super::skeleton::{edited, number_at, Edit};
 use super::*;
 
 /// What is wrong, the bytes of the file, and number and record of the refusal.
@@ -56,7 +56,7 @@ fn ends(records: &Records) -> Vec<Fault> {
 
 /// Leader and directory of one of the two records, changed.
 fn skeletons(records: &Records, place: usize) -> Vec<Fault> {
-    let rows: [(&str, u32, fn(&mut Vec<u8>)); 12] = [
+    let rows: [(&str, u32, Edit); 12] = [
         ("a length far past the end", 1, |r| r[..5].copy_from_slice(b"99999")),
         ("a blank in the length", 2, |r| r[0] = b' '),
         ("another byte 6 in the leader", 2, |r| r[6] = b'~'),
@@ -70,7 +70,7 @@ fn skeletons(records: &Records, place: usize) -> Vec<Fault> {
         ("a last field that ends in 1F", 3, |r| *r.last_mut().expect("bytes") = 0x1f),
         ("no entry", 3, |r| r[24] = 0x1e),
     ];
-    let at = |(name, number, edit): (&str, u32, fn(&mut Vec<u8>))| {
+    let at = |(name, number, edit): (&str, u32, Edit)| {
         fault(&format!("{name}, record {place}"), edited(records, place, edit), number, place)
     };
     let mut found: Vec<Fault> = rows.into_iter().map(at).collect();
