@@ -1,67 +1,14 @@
 #include "batch.h"
 #include "files.h"
+#include "framed.h"
 #include "hash.h"
 #include "lists.h"
+#include "little.h"
 #include "words.h"
 
-enum { READ = 1, WRITE = 2, UPDATE = 3, LISTING = 4, MONTH = 9, OPERATIONS };
-enum { HEAD = 17 };
+enum { READ = 1, WRITE = 2, UPDATE = 3, LISTING = 4, MONTH = 9, REPLY = 11, TAKE = 12, TELL = 13, OPERATIONS };
 
-/* What the lent slices are filled with before a call, so that zeroing shows. */
-enum { FILLED = 0xa5 };
-
-/* One case: what is asked, the bytes handed over, and how long the lent slices are. */
-struct framed {
-    word operation, first_length, second_length, out_length, work_length;
-    const byte *first, *second;
-};
-
-/* What can be in the way of a case. */
-static const char *const CUT = "the file ends inside it", *const NO_MEMORY = "there is no memory for its slices";
-
-static word little_endian(const byte *at) {
-    return at[0] | (word)at[1] << 8 | (word)at[2] << 16 | (word)at[3] << 24;
-}
-
-/* The case at the beginning of so many bytes, and how long it is; 0 where they end inside it. */
-static word unframed(const byte *at, word left, struct framed *one) {
-    if (left < HEAD) return 0;
-    one->operation = at[0];
-    one->first_length = little_endian(at + 1);
-    one->second_length = little_endian(at + 5);
-    one->out_length = little_endian(at + 9);
-    one->work_length = little_endian(at + 13);
-    one->first = at + HEAD;
-    one->second = one->first + one->first_length;
-    word length = HEAD + one->first_length + one->second_length;
-    return length <= left ? length : 0;
-}
-
-static int all_zero(const byte *bytes, word length) {
-    for (word i = 0; i < length; i++)
-        if (bytes[i] != 0) return 0;
-    return 1;
-}
-
-/* A slice to lend, to be freed; null where there is no memory. */
-static byte *lent(word length) {
-    byte *slice = malloc(length + 1);
-    if (slice) memset(slice, FILLED, length);
-    return slice;
-}
-
-/* The words that every line but a listing's begins with. */
-static void print_words(const word answer[EZDURVASH_NUMBERS], word out_hash, int work_is_zero) {
-    for (int i = 0; i < EZDURVASH_NUMBERS; i++) printf("%lu ", answer[i]);
-    printf("%016lx %d", out_hash, work_is_zero);
-}
-
-static void print_line(const word answer[EZDURVASH_NUMBERS], word out_hash, int work_is_zero) {
-    print_words(answer, out_hash, work_is_zero);
-    printf("\n");
-}
-
-/* Answers a case of an operation; or says what is in the way. */
+/* Answers a case of an operation with a line; or says what is in the way. */
 typedef const char *answering(const struct framed *one);
 
 static const char *read_one(const struct framed *one) {
@@ -79,13 +26,7 @@ static const char *listed_one(const struct framed *one) {
 }
 
 static const char *written_one(const struct framed *one) {
-    word answer[EZDURVASH_NUMBERS];
-    byte *out = lent(one->out_length);
-    if (!out) return NO_MEMORY;
-    ezdurvash_write(one->first, one->first_length, out, one->out_length, answer, EZDURVASH_NUMBERS);
-    print_line(answer, hash(out, one->out_length), 1);
-    free(out);
-    return 0;
+    return made_one(one, ezdurvash_write);
 }
 
 /* The call of an update, its slices lent. */
@@ -105,30 +46,48 @@ static const char *updated_one(const struct framed *one) {
     return wrong;
 }
 
-/* The call of a month, its pools and workspace lent. The second part is the dataset's length in the first pool, then the list. */
+/* The second part is the dataset's length in the first pool, then the list. */
 static void month_called(const struct framed *one, byte *first, byte *second, byte *work) {
-    word answer[EZDURVASH_NUMBERS], result[EZDURVASH_MONTH];
-    memcpy(first, one->first, one->first_length);
-    ezdurvash_month(one->second + LENGTH_BYTES, one->second_length - LENGTH_BYTES, first, one->first_length, little_endian(one->second),
-                    second, one->out_length, work, one->work_length, answer, EZDURVASH_NUMBERS, result, EZDURVASH_MONTH);
+    word answer[EZDURVASH_NUMBERS], result[EZDURVASH_MONTH], size = little_endian(one->second, LENGTH_BYTES);
+    ezdurvash_month(one->second + LENGTH_BYTES, one->second_length - LENGTH_BYTES, first, one->first_length, size, second, one->out_length,
+                    work, one->work_length, answer, EZDURVASH_NUMBERS, result, EZDURVASH_MONTH);
     print_words(answer, hash_on(hash(first, one->first_length), second, one->out_length), all_zero(work, one->work_length));
     printf(" %lu %lu %lu\n", result[EZDURVASH_APPLIED], result[EZDURVASH_POOL], result[EZDURVASH_RESULT_LENGTH]);
 }
 
 static const char *month_one(const struct framed *one) {
-    if (one->second_length < LENGTH_BYTES) return CUT;
-    byte *first = lent(one->first_length), *second = lent(one->out_length), *work = lent(one->work_length);
-    const char *wrong = first && second && work ? 0 : NO_MEMORY;
-    if (!wrong) month_called(one, first, second, work);
-    free(first);
-    free(second);
-    free(work);
-    return wrong;
+    return one->second_length < LENGTH_BYTES ? CUT : pooled_one(one, month_called);
+}
+
+static const char *replied_one(const struct framed *one) {
+    word answer[EZDURVASH_NUMBERS], result[EZDURVASH_REPLY];
+    ezdurvash_reply(one->first, one->first_length, one->second, one->second_length, answer, EZDURVASH_NUMBERS, result, EZDURVASH_REPLY);
+    print_words(answer, hash(0, 0), 1);
+    printf(" %lu %lu %lu\n", result[EZDURVASH_FOUND], result[EZDURVASH_START], result[EZDURVASH_PARCEL_LENGTH]);
+    return 0;
+}
+
+/* The chart fills the first pool. */
+static void take_called(const struct framed *one, byte *first, byte *second, byte *work) {
+    word answer[EZDURVASH_NUMBERS];
+    word length = ezdurvash_take(0, one->first_length, first, one->first_length, second, one->out_length, one->second, one->second_length,
+                                 work, one->work_length, answer, EZDURVASH_NUMBERS);
+    print_words(answer, hash(second, one->out_length), all_zero(work, one->work_length));
+    printf(" %lu\n", length);
+}
+
+static const char *taken_one(const struct framed *one) {
+    return pooled_one(one, take_called);
+}
+
+static const char *told_one(const struct framed *one) {
+    return made_one(one, ezdurvash_tell);
 }
 
 static const char *answered(const struct framed *one) {
     static answering *const ANSWERS[OPERATIONS] = {
-        [READ] = read_one, [WRITE] = written_one, [UPDATE] = updated_one, [LISTING] = listed_one, [MONTH] = month_one};
+        [READ] = read_one,   [WRITE] = written_one, [UPDATE] = updated_one, [LISTING] = listed_one,
+        [MONTH] = month_one, [REPLY] = replied_one, [TAKE] = taken_one,     [TELL] = told_one};
     answering *answer = one->operation < OPERATIONS ? ANSWERS[one->operation] : 0;
     return answer ? answer(one) : "there is no such operation";
 }

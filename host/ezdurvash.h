@@ -5,11 +5,11 @@
 /* The places of an answer's numbers. */
 enum { EZDURVASH_NUMBER, EZDURVASH_FILE, EZDURVASH_RECORD, EZDURVASH_LENGTH, EZDURVASH_COUNT, EZDURVASH_NUMBERS };
 
-/* Everywhere: any bytes may be handed over, and those of dataset and update are never written, but for a dataset in the pool of a month. No
-   pointer is null, also where its length is 0. The slices that are written lie apart from each other and from what is read. The five
-   numbers of an answer go into `answer`, whose `answer_length` is EZDURVASH_NUMBERS: number of the refusal (0 for done), file, record,
-   written length, count of records; a shorter `answer` is left as it is. No memory is taken but the stack: some 100 KiB, and more where
-   attributes are nested deep. As deep as a record allows, 2.3 MB were measured for a read or a write, 5.1 MB for an update. */
+/* Everywhere: any bytes may be handed over, and those of dataset, update, holding, shelf and parcel are never written, but for a dataset in
+   the pool of a month. No pointer is null, also where its length is 0. The slices that are written lie apart from each other and from what
+   is read. The five numbers of an answer go into `answer`, whose `answer_length` is EZDURVASH_NUMBERS: number of the refusal (0 for done),
+   file, record, written length, count of records; a shorter `answer` is left as it is. No memory is taken but the stack: some 100 KiB, and
+   more where attributes are nested deep. As deep as a record allows, 2.3 MB were measured for a read or a write, 5.1 MB for an update. */
 
 /* Checks a dataset; the written length is 0. */
 void ezdurvash_read(const unsigned char *dataset, unsigned long dataset_length, unsigned long *answer, unsigned long answer_length);
@@ -60,6 +60,37 @@ void ezdurvash_month(const unsigned char *list, unsigned long list_length, unsig
                      unsigned long size, unsigned char *second, unsigned long second_length, unsigned char *work,
                      unsigned long work_length, unsigned long *answer, unsigned long answer_length, unsigned long *result,
                      unsigned long result_length);
+
+/* The bridge cable carries parcels. A parcel is its whole length (four bytes, the lowest first, these six and the body counted), its kind
+   (two bytes) and its body. A holding, of kind 1, tells what a display holds: edition and update number of its chart, two bytes each, then
+   its name to the end. A parcel of kind 2 carries an update file. A shelf is parcels of kind 2 one after the other, or nothing. Numbers have
+   their lowest byte first. A parcel whose length or kind is wrong is refused with 27, file and record 0. */
+enum { EZDURVASH_PARCEL_HEAD = 6, EZDURVASH_HOLDING = 1, EZDURVASH_UPDATE_FILE = 2 };
+
+/* Where a holding has what it tells. */
+enum { EZDURVASH_EDITION_TOLD = 6, EZDURVASH_NUMBER_TOLD = 8, EZDURVASH_NAME_TOLD = 10 };
+
+/* A display tells what it holds: puts the holding of a chart, of which the first two records are read, at the beginning of `out`; the rest
+   of `out` is zero, on a refusal all of it, also where `answer` is shorter. The written length is the holding's, the count 0. A name stands
+   in a record of at most 99,999 bytes, so that EZDURVASH_HOLDING_LONGEST bytes are always enough. */
+enum { EZDURVASH_HOLDING_LONGEST = 99950 };
+void ezdurvash_tell(const unsigned char *chart, unsigned long chart_length, unsigned char *out, unsigned long out_length,
+                    unsigned long *answer, unsigned long answer_length);
+
+/* A master answers a holding with the first parcel of its shelf that follows it: whose file has the holding's name and edition, and its
+   update number plus one. The first two records of a file are read, and it follows nothing where they are not right. Whether there is one
+   (1 or 0), where it starts in the shelf and its whole length there go into `result`, whose `result_length` is EZDURVASH_REPLY, 0 0 0 for
+   silence and on a refusal; a shorter one is left as it is. Written length and count are 0. Nothing but `answer` and `result` is written. */
+enum { EZDURVASH_FOUND, EZDURVASH_START, EZDURVASH_PARCEL_LENGTH, EZDURVASH_REPLY };
+void ezdurvash_reply(const unsigned char *holding, unsigned long holding_length, const unsigned char *shelf, unsigned long shelf_length,
+                     unsigned long *answer, unsigned long answer_length, unsigned long *result, unsigned long result_length);
+
+/* A display takes a parcel: as ezdurvash_hand, with a parcel of kind 2 in the place of the file. Where its length or kind is wrong the chart
+   stays in its place, and the other pool and `work`, however short, are zero, as after every refusal. */
+unsigned long ezdurvash_take(unsigned long place, unsigned long size, unsigned char *first, unsigned long first_length,
+                             unsigned char *second, unsigned long second_length, const unsigned char *parcel,
+                             unsigned long parcel_length, unsigned char *work, unsigned long work_length, unsigned long *answer,
+                             unsigned long answer_length);
 
 /* The longest dataset, update or result. */
 enum { EZDURVASH_LONGEST = 16777216 };
