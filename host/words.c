@@ -17,6 +17,7 @@ static const char *const MEANING[] = {
     "output slice too short",
     "file above 16,777,216 bytes",
     "workspace under 400,000 bytes",
+    [27] = "length or kind of a parcel",
 };
 
 static const char *const FILES[] = {"no file", "dataset", "update", "result"};
@@ -43,7 +44,8 @@ const char *reason(void) {
 }
 
 const char *meaning(word number) {
-    return number < sizeof MEANING / sizeof *MEANING ? MEANING[number] : "no number of the paper";
+    const char *found = number < sizeof MEANING / sizeof *MEANING ? MEANING[number] : 0;
+    return found ? found : "no number of the paper";
 }
 
 int said(const word answer[EZDURVASH_NUMBERS], int writes) {
