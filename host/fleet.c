@@ -1,5 +1,6 @@
 #include "fleet.h"
 #include "hash.h"
+#include "packing.h"
 #include "words.h"
 
 static byte work[EZDURVASH_WORKSPACE];
@@ -15,7 +16,7 @@ static void furnish(struct display *display) {
     display->work = EZDURVASH_WORKSPACE;
 }
 
-const byte *chart_of(const struct display *display) {
+static const byte *chart_of(const struct display *display) {
     return display->pools[display->place];
 }
 
@@ -30,26 +31,35 @@ void equipped(struct display *display, const struct display *other) {
     memcpy(display->pools[0], chart_of(other), other->length);
 }
 
-void handed(struct display *display, const struct file *update, word answer[EZDURVASH_NUMBERS]) {
+/* Hands a display a file, or a parcel by the call that takes one. */
+static void given(struct display *display, const byte *bytes, word length, int parcel, word answer[EZDURVASH_NUMBERS]) {
     word lent[2] = {EZDURVASH_LONGEST, EZDURVASH_LONGEST};
     lent[1 - display->place] = display->room;
-    display->length = ezdurvash_hand(display->place, display->length, display->pools[0], lent[0], display->pools[1], lent[1], update->bytes,
-                                     update->length, work, display->work, answer, EZDURVASH_NUMBERS);
+    display->length = (parcel ? ezdurvash_take : ezdurvash_hand)(display->place, display->length, display->pools[0], lent[0],
+                                                                 display->pools[1], lent[1], bytes, length, work, display->work, answer,
+                                                                 EZDURVASH_NUMBERS);
     if (answer[EZDURVASH_NUMBER] == 0) display->place = 1 - display->place;
 }
 
-static word decimal(const byte *at) {
-    word value = 0;
-    for (int i = 0; i < 5; i++) value = value * 10 + (word)(at[i] - '0');
-    return value;
+void handed(struct display *display, const struct file *update, word answer[EZDURVASH_NUMBERS]) {
+    given(display, update->bytes, update->length, 0, answer);
 }
 
-/* In a written chart the second record's first field is DSID: RCNM, RCID, six texts, EDTN, UPDN. */
+void took(struct display *display, const byte *parcel, word length, word answer[EZDURVASH_NUMBERS]) {
+    given(display, parcel, length, 1, answer);
+}
+
+word told(const struct display *display, byte holding[EZDURVASH_HOLDING_LONGEST]) {
+    word answer[EZDURVASH_NUMBERS];
+    ezdurvash_tell(chart_of(display), display->length, holding, EZDURVASH_HOLDING_LONGEST, answer, EZDURVASH_NUMBERS);
+    if (answer[EZDURVASH_NUMBER] != 0) exit(trouble("a display cannot tell what it holds", meaning(answer[EZDURVASH_NUMBER])));
+    return answer[EZDURVASH_LENGTH];
+}
+
 word shown_number(const struct display *display) {
-    const byte *chart = chart_of(display), *general = chart + decimal(chart);
-    const byte *at = general + decimal(general + 12) + 5;
-    for (int texts = 0; texts < 6; at++) texts += *at == 0x1f;
-    return at[2] | (word)at[3] << 8;
+    static byte holding[EZDURVASH_HOLDING_LONGEST];
+    told(display, holding);
+    return number_told(holding);
 }
 
 word shown_hash(const struct display *display) {
