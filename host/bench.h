@@ -12,6 +12,9 @@ int bench_update(word mebibytes);
 /* Measures a month of updates at once against a call for each of them, on a dataset of so many MiB. A status of the tool. */
 int bench_month(word mebibytes);
 
+/* Measures how long a master looks for an answer on a shelf of so many MiB. A status of the tool. */
+int bench_cable(word mebibytes);
+
 /* Measures shapes that try to be slow, those whose names have these words, over a quarter, a half and all of so many bytes, at least
    262,144. A status of the tool; TROUBLE where one is answered otherwise than meant, or none has such a name. */
 int bench_worst(word bytes, const char *words);

@@ -9,7 +9,7 @@
 enum { KIBIBYTE = 1024, MEBIBYTE = 1048576 };
 
 static int usage(void) {
-    return trouble("usage", "read FILE | list FILE | fields FILE RECORD | write FILE OUT | update FILE UPDATE.. OUT | demo .. | batch CASES | bench read|write|update|month [MIB] | bench worst [MIB|KIBK [WORDS]]");
+    return trouble("usage", "read FILE | list FILE | fields FILE RECORD | write FILE OUT | update FILE UPDATE.. OUT | demo .. | batch CASES | bench read|write|update|month|cable [MIB] | bench worst [MIB|KIBK [WORDS]]");
 }
 
 static int is(const char *given, const char *wanted) {
@@ -31,6 +31,7 @@ static int measured(int count, char **words) {
     if (mebibytes > 0 && is(words[2], "write")) return bench_write(mebibytes);
     if (mebibytes > 0 && is(words[2], "update")) return bench_update(mebibytes);
     if (mebibytes > 0 && is(words[2], "month")) return bench_month(mebibytes);
+    if (mebibytes > 0 && is(words[2], "cable")) return bench_cable(mebibytes);
     if (bytes >= 256 * KIBIBYTE && is(words[2], "worst")) return bench_worst(bytes, count == 5 ? words[4] : "");
     return usage();
 }

@@ -4,6 +4,10 @@
 /* How many bytes a parcel's whole length takes; its kind, and a holding's two numbers, take half as many. */
 enum { WHOLE = 4, HALF = 2 };
 
+word whole_length(const byte *parcel) {
+    return little_endian(parcel, WHOLE);
+}
+
 int packable(word length) {
     return (length + EZDURVASH_PARCEL_HEAD) >> 8 * WHOLE == 0;
 }

@@ -5,6 +5,9 @@
 #include "ezdurvash.h"
 #include "system.h"
 
+/* The whole length that a parcel states. */
+word whole_length(const byte *parcel);
+
 /* Whether a body of this length fits into a parcel, whose whole length has four bytes. */
 int packable(word length);
 

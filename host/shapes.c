@@ -12,12 +12,17 @@ void descriptive_record(struct record *r, word filling) {
 }
 
 void general_record(struct record *r, word update_number) {
-    static const char *const TEXTS[6] = {"S-100 Part 10a", "1.0", "INT.EZDURVASH.BENCH", "1.0", "1", "EZBENCH"};
+    named_record(r, "EZBENCH", update_number);
+}
+
+void named_record(struct record *r, const char *name, word update_number) {
+    static const char *const TEXTS[5] = {"S-100 Part 10a", "1.0", "INT.EZDURVASH.BENCH", "1.0", "1"};
     record_begin(r);
     field_begin(r, "DSID");
     field_number(r, 10, 1);
     field_number(r, 1, 4);
-    for (word i = 0; i < 6; i++) field_text(r, TEXTS[i]);
+    for (word i = 0; i < 5; i++) field_text(r, TEXTS[i]);
+    field_text(r, name);
     field_number(r, 1, 2);
     field_number(r, update_number, 2);
     for (word i = 0; i < 8; i++) field_number(r, (word)"20260101"[i], 1);

@@ -7,9 +7,10 @@
 enum { INFORMATION, POINT, MULTI, FEATURE, KINDS };
 enum { INSERT = 1, DELETE = 2, MODIFY = 3 };
 
-/* Each of these begins a record anew. */
+/* Each of these begins a record anew; a named one is a general record with another dataset name. */
 void descriptive_record(struct record *r, word filling);
 void general_record(struct record *r, word update_number);
+void named_record(struct record *r, const char *name, word update_number);
 void systems_record(struct record *r);
 void identified_record(struct record *r, int kind, word rcid, word version, word instruction);
 
