@@ -10,12 +10,6 @@ int read_chart(const char *path) {
     return said(answer, 0);
 }
 
-/* A byte of a tag, for people. */
-static char printable(word letter) {
-    letter &= 255;
-    return letter < ' ' || letter > '~' ? '?' : (char)letter;
-}
-
 int list_chart(const char *path) {
     static byte text[EZDURVASH_LISTING];
     struct file chart;

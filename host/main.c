@@ -4,12 +4,13 @@
 #include "commands.h"
 #include "demo.h"
 #include "months.h"
+#include "parcels.h"
 #include "words.h"
 
 enum { KIBIBYTE = 1024, MEBIBYTE = 1048576 };
 
 static int usage(void) {
-    return trouble("usage", "read FILE | list FILE | fields FILE RECORD | write FILE OUT | update FILE UPDATE.. OUT | demo .. | batch CASES | bench read|write|update|month|cable [MIB] | bench worst [MIB|KIBK [WORDS]]");
+    return trouble("usage", "read FILE | list FILE | fields FILE RECORD | write FILE OUT | update FILE UPDATE.. OUT | tell FILE OUT | shelf UPDATE.. OUT | reply HOLDING SHELF OUT | take FILE PARCEL OUT | demo .. | batch CASES | bench read|write|update|month|cable [MIB] | bench worst [MIB|KIBK [WORDS]]");
 }
 
 static int is(const char *given, const char *wanted) {
@@ -42,6 +43,10 @@ static int chosen(int count, char **words) {
     if (count == 4 && is(words[1], "fields")) return show_fields(words[2], words[3]);
     if (count == 4 && is(words[1], "write")) return write_chart(words[2], words[3]);
     if (count >= 5 && is(words[1], "update")) return update_chart(words[2], words + 3, (word)count - 4, words[count - 1]);
+    if (count == 4 && is(words[1], "tell")) return tell_holding(words[2], words[3]);
+    if (count >= 4 && is(words[1], "shelf")) return join_shelf(words + 2, (word)count - 3, words[count - 1]);
+    if (count == 5 && is(words[1], "reply")) return reply_parcel(words[2], words[3], words[4]);
+    if (count == 5 && is(words[1], "take")) return take_parcel(words[2], words[3], words[4]);
     if (count >= 2 && is(words[1], "demo")) return demo(count - 2, words + 2);
     if (count == 3 && is(words[1], "batch")) return batch(words[2]);
     if ((count == 3 || count == 4) && is(words[1], "bench")) return measured(count, words);

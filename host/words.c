@@ -33,6 +33,11 @@ const char *counted(word number, char room[DIGITS]) {
     return at;
 }
 
+char printable(word letter) {
+    letter &= 255;
+    return letter < ' ' || letter > '~' ? '?' : (char)letter;
+}
+
 int trouble(const char *subject, const char *what) {
     fflush(0);
     dprintf(2, "ez: %s: %s\n", subject, what);

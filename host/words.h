@@ -14,6 +14,9 @@ enum { DIGITS = 32 };
 /* A number with a comma after each three digits, in the room. */
 const char *counted(word number, char room[DIGITS]);
 
+/* A byte of a tag or a name, for people. */
+char printable(word letter);
+
 /* Says what was wrong with a file or another subject; TROUBLE. */
 int trouble(const char *subject, const char *what);
 
