@@ -13,8 +13,8 @@ struct parcel {
     const char *how; /* how it comes, in words; none where everything was in time */
 };
 
-/* More than these are lost. */
-enum { MOST_UNDER_WAY = 512 };
+/* Enough for twelve displays that tell once a round, with all that can be late or come again; any more would be lost. */
+enum { MOST_UNDER_WAY = 1024 };
 
 struct cable {
     word *random;

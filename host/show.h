@@ -24,8 +24,9 @@ struct outcome {
     word update, number;
 };
 
-/* What there is to see of a display in a round: the number that it told, and what came of that and of what was under way. */
-enum { MOST_OUTCOMES = 64 };
+/* What there is to see of a display in a round: the number that it told, and what came of that and of what was under way.
+   There are never as many outcomes. */
+enum { MOST_OUTCOMES = 128 };
 struct seen {
     word told, count;
     struct outcome outcomes[MOST_OUTCOMES];
