@@ -56,7 +56,7 @@ fn replied(holding: &[u8], shelf: &[u8]) -> Result<Option<(usize, usize)>, Refus
 const WRONG: Refusal = (27, 0, 0);
 const SILENCE: Result<Option<(usize, usize)>, Refusal> = Ok(None);
 
-// ---- B1: parcels ----
+// ---- H1: parcels ----
 
 #[test]
 fn b1_the_whole_length_counts_its_own_six_bytes() {
@@ -93,7 +93,7 @@ fn b1_a_name_goes_to_the_end_of_its_parcel() {
     assert_eq!(replied(&[14, 0, 0, 0, 1, 0, 3, 0, 4, 0, b'E', b'Z', b'1', 0], &shelf), SILENCE);
 }
 
-// ---- B2: the order of a reply ----
+// ---- H2: the order of a reply ----
 
 #[test]
 fn b2_the_holdings_length_is_that_of_its_slice() {
@@ -174,7 +174,7 @@ fn b2_the_line_tells_it_behind_the_old_words() {
     assert_eq!(told(vec![0]), format!("27 0 0 0 0 {none} 1 0 0 0"));
 }
 
-// ---- B3: what follows ----
+// ---- H3: what follows ----
 
 #[test]
 fn b3_name_edition_and_number() {
@@ -231,7 +231,7 @@ fn b3_the_rest_is_not_read() {
     assert_eq!(replied(&HELD, &carried(&given(&base()))), SILENCE);
 }
 
-// ---- B4: telling and taking ----
+// ---- H4: telling and taking ----
 
 /// The holding of a chart in a slice that is longer.
 fn told(chart: Vec<u8>) -> Vec<u8> {
@@ -338,7 +338,7 @@ fn b4_the_line_tells_the_charts_length() {
     assert_eq!(done, format!("0 0 0 {length} 10 {hash:016x} 1 {length}"));
 }
 
-// ---- B5: what is not tested ----
+// ---- H5: what is not tested ----
 
 #[test]
 fn b5_two_records_of_a_chart_are_enough_and_there_is_no_14() {
@@ -376,7 +376,7 @@ fn b5_a_holdings_numbers_have_no_range_and_65535_is_followed_by_nothing() {
     assert_eq!(replied(&holding([255, 255], [4, 0]), &file([255, 255], [5, 0])), SILENCE);
 }
 
-// ---- B6: a wrong parcel ----
+// ---- H6: a wrong parcel ----
 
 #[test]
 fn b6_a_parcel_has_its_slice_to_itself() {
