@@ -95,6 +95,22 @@ static word put_bare(byte *at, word number) {
     return put_behind_first(at, 1);
 }
 
+/* All others are the next update too, but of another chart. */
+static word put_other_chart(byte *at, word number) {
+    if (number != OTHER) return put_bare(at, number);
+    named_record(&r, "EZOTHER", FOLLOWING);
+    return put_behind_first(at, 1);
+}
+
+/* All others seem to follow: only the tests of their second record, which end with a field that no such record has, tell that they do not. */
+static word put_broken(byte *at, word number) {
+    if (number != OTHER) return put_bare(at, number);
+    general_record(&r, FOLLOWING);
+    field_begin(&r, "ZZZZ");
+    field_end(&r);
+    return put_behind_first(at, 1);
+}
+
 /* The first record has as many fields as fit. */
 static word put_long_directory(byte *at, word number) {
     general_record(&r, number);
@@ -171,6 +187,8 @@ int bench_cable(word mebibytes) {
         {"updates of 100 records", put_hundred},
         {"updates of one record", put_one},
         {"updates of no record", put_bare},
+        {"updates of other charts, no record", put_other_chart},
+        {"updates with a wrong general record", put_broken},
         {"empty parcels", put_none},
         {"general records with long tables", put_long_tables},
         {"first records of 9,000 fields", put_long_directory},

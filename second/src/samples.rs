@@ -3,9 +3,10 @@
 use crate::answer::{self, Answered};
 use crate::batch::{framed, Case, MonthCall};
 use crate::build::{
-    attr, c2il, c2it, cocc, field, file, foid, frid, inas, irid, joined, mrid, pooled, prid, spas, Field,
+    attr, c2il, c2it, cocc, field, file, foid, frid, inas, irid, joined, mrid, parcel, pooled, prid, spas, Field,
     Tuple,
 };
+use crate::cable;
 use crate::calls::WORKSPACE;
 
 /// A sample file: its name and its bytes.
@@ -238,11 +239,29 @@ fn result(chart: &[u8], update: &[u8]) -> Vec<u8> {
     }
 }
 
+/// Exchanges over a shelf with both updates, the later one first: the holding of each chart, its answer, and what is made
+/// of that. Behind the last chart there is silence.
+fn exchanges(charts: [&[u8]; 3], updates: [&[u8]; 2], room: u32) -> Vec<Case> {
+    let parcels = updates.map(|update| parcel(2, update));
+    let shelf = [&parcels[1][..], &parcels[0]].concat();
+    let mut cases = Vec::new();
+    for (number, chart) in charts.into_iter().enumerate() {
+        let holding = cable::tell(chart, room as usize).expect("a sample chart tells its holding");
+        cases.push(Case::tell(chart.to_vec(), room));
+        cases.push(Case::reply(holding, shelf.clone()));
+        if let Some(parcel) = parcels.get(number) {
+            cases.push(Case::take(chart.to_vec(), parcel.clone(), room, WORKSPACE));
+        }
+    }
+    cases
+}
+
 /// All sample files, and the calls that they are made for as framed cases with their answers.
 pub fn samples() -> Vec<Sample> {
     let chart = chart();
     let (first, second) = (first_update(), second_update());
     let after_first = result(&chart, &first);
+    let after_second = result(&after_first, &second);
     let room = 8_192;
     let mut cases = vec![
         Case::read(chart.clone()),
@@ -250,7 +269,7 @@ pub fn samples() -> Vec<Sample> {
         Case::write(chart.clone(), room),
         Case::update(chart.clone(), first.clone(), room, WORKSPACE),
         Case::update(after_first.clone(), second.clone(), room, WORKSPACE),
-        Case::listing(result(&after_first, &second)),
+        Case::listing(after_second.clone()),
     ];
     // Both updates at once, in pools of this room; and the second again behind them.
     for files in [vec![first.clone(), second.clone()], vec![first.clone(), second.clone(), second.clone()]] {
@@ -258,6 +277,7 @@ pub fn samples() -> Vec<Sample> {
         let call = MonthCall { first: pool, length: chart.len(), list, second: room as usize, work: WORKSPACE };
         cases.push(Case::month(&call));
     }
+    cases.extend(exchanges([&chart, &after_first, &after_second], [&first, &second], room));
     let mut files = vec![("chart.000".to_string(), chart.clone()), ("chart.001".to_string(), first)];
     files.push(("chart.002".to_string(), second));
     for (number, cause, bytes) in refused() {
@@ -284,8 +304,10 @@ mod tests {
 
     #[test]
     fn good_ones_are_done_and_refused_ones_have_their_number() {
-        let expected = ["0", "listing", "0", "0", "0", "listing", "0", "8", "6", "7", "8", "9", "11"];
-        assert_eq!(numbers(), expected);
+        let expected = ["0", "listing", "0", "0", "0", "listing", "0", "8"];
+        let exchanges = ["0"; 8];
+        let refused = ["6", "7", "8", "9", "11"];
+        assert_eq!(numbers(), [&expected[..], &exchanges, &refused].concat());
     }
 
     #[test]
