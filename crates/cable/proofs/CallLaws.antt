@@ -1,11 +1,12 @@
 -- Demand 3 on the cable, of displays and a master that run: what their calls say is what it speaks of. Assumes nothing.
 use Prim.Native.Nat.{ℕ, _-_}
-use mathlib.Core.Path.{_≡_, sym, ap, ap₂, subst, _∙_}
+use mathlib.Core.Path.{_≡_, refl, sym, ap, ap₂, subst, _∙_}
 use mathlib.Core.Option.{Option, some, none}
-use mathlib.Core.List.{List, [], _∷_}
+use mathlib.Core.List.{List, [], _∷_, _++_}
 use lib.Dec.{ltb}
 use lib.ListN.{length, take, replicate}
 use lib.Seq.{take-append-seam}
+use Rattle.base.specs.Lists.{gather}
 use Rattle.rules.specs.Written.{Dataset, writtenBytes}
 use Rattle.rules.specs.Outcome.{Outcome, done}
 use Rattle.rules.specs.File.{writable}
@@ -21,7 +22,7 @@ use Rattle.display.specs.Pools.{chartIn, Begun}
 use Rattle.display.specs.declared.Shown.{Shown}
 use Rattle.parcels.specs.Holding.{told}
 use Rattle.parcels.specs.Taking.{Reached, afterParcel, shownBy}
-use Rattle.parcels.specs.Exchange.{Exchange, Brings, RoomNext, whenTold, whenAnswered, afterAnswer, afterExchange, Arrives, Exchanges, afterAll}
+use Rattle.parcels.specs.Exchange.{Exchange, Brings, RoomNext, whenTold, whenAnswered, afterAnswer, afterExchange, answered, broughtBy, Arrives, Exchanges, allBrought, afterAll}
 use Rattle.parcels.specs.Cable.{chartBy, TellsRight, OnCable}
 use Rattle.parcels.specs.declared.Reply.{Reply}
 use Rattle.parcels.proofs.HoldingLaws.{tell-gives}
@@ -46,6 +47,17 @@ took-answer : (c : List ℕ) (a : Option Reached) (e : List ℕ) → TookAnswer 
 unfolding TookAnswer afterAnswer
 took-answer c none e w = w
 took-answer c (some t) e w = take-step c t e w
+
+-- calls behind others
+took-join : (c : List ℕ) (ts us : List Reached) (m e : List ℕ) → Took c ts m → Took m us e → Took c (ts ++ us) e
+unfolding Took
+took-join c [] us m e v w = subst (λ (l : List ℕ). Took l us e) v w
+took-join c (t ∷ ts) us m e (n, x, v) w = (n, x, took-join n ts us m e v w)
+
+took-last : (c : List ℕ) (a : Option Reached) (e : List ℕ) → TookAnswer c a e → Took c (answered a) e
+unfolding TookAnswer answered Took
+took-last c none e w = w
+took-last c (some t) e w = (e, w, refl)
 
 -- ---- `tell`
 
@@ -86,6 +98,16 @@ module _ (P : Publisher) (s : List ℕ) where
       let (a, z) = call-arrives c x m k in
       let (b, w) = calls-arrive xs m e l in
       ((a, subst (λ (n : List ℕ). Exchanges P s n xs) z b), w ∙ ap (λ (n : List ℕ). afterAll n xs) z)
+
+  -- and what they brought was taken
+  calls-took : (xs : List Exchange) (c e : List ℕ) → AllCalls P s c xs e → Took c (allBrought xs) e
+  unfolding AllCalls allBrought broughtBy gather Took
+  calls-took [] c e k = k
+  calls-took (x ∷ xs) c e (m, k, l) =
+      took-join c (broughtBy x) (allBrought xs) m e
+      (took-join c (x .earlier) (x .meanwhile ++ answered (x .answer)) (k .chart-told) m (k .came)
+      (took-join (k .chart-told) (x .meanwhile) (answered (x .answer)) (k .chart-met) m (k .came-then) (took-last (k .chart-met) (x .answer) m (k .took))))
+      (calls-took xs m e l)
 
 -- ---- `begin`
 
@@ -148,4 +170,9 @@ module _ (P : Publisher) where
             let z = run-is c r in
             let (x, w) = calls-arrive P s xs c e k in
             rw (w, z) ((on-cable P) .raised (r .reached) (r .brought) s xs (rw z at y) (rw z at x));
+        again = λ c r s xs e n y k.
+            let z = run-is c r in
+            let (x, w) = calls-arrive P s xs c e k in
+            let (b, v) = (on-cable P) .again (r .reached) (r .brought) s xs n (rw z at y) (rw z at x) in
+            record { reached = r .reached ++ allBrought xs; brought = b; took = took-join (start P) (r .reached) (allBrought xs) c e (r .took) (calls-took P s xs c e k) };
       }

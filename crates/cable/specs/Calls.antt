@@ -109,3 +109,5 @@ pub record ByCalls (P : Publisher) : Type 0 where
   -- over a shelf with the next k files, k exchanges that arrive raise a display by at least k
   pub raised : (c : List ℕ) → Runs P c → (s : List ℕ) (xs : List Exchange) (e : List ℕ) → Ready P s (numberShown c) (length xs) → AllCalls P s c xs e
       → numberShown c + length xs ≤ numberShown e
+  -- and all of this holds of the display again, over another shelf too
+  pub again : (c : List ℕ) → Runs P c → (s : List ℕ) (xs : List Exchange) (e : List ℕ) (k : ℕ) → Ready P s (numberShown c) k → AllCalls P s c xs e → Runs P e

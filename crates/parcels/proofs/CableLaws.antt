@@ -2,16 +2,16 @@
 use mathlib.Core.Path.{_≡_, refl, sym, ap, subst, _∙_}
 use mathlib.Core.Bool.{true}
 use mathlib.Core.Option.{Option, some, none}
-use mathlib.Core.List.{List, [], _∷_}
+use mathlib.Core.List.{List, [], _∷_, _++_}
 use Prim.Native.Nat.{ℕ, suc, _+_, _-_, _≤_, _<_}
 use native.Mathlib.Omega.{arith}
 use borrow.Author.Tests.{ltb-true, ltb-false}
 use lib.Dec.{ltb}
 use lib.ListN.{length, drop}
-use Rattle.base.specs.Lists.{Each}
+use Rattle.base.specs.Lists.{gather, Each}
 use Rattle.base.specs.Keys.{same}
 use Rattle.base.proofs.KeysLaws.{same-sound}
-use Rattle.base.proofs.EachLaws.{each-zip}
+use Rattle.base.proofs.EachLaws.{each-join, each-zip}
 use Rattle.fields.specs.Valid.{Bytes}
 use Rattle.fields.proofs.ByteLaws.{bytes-drop, bytes-take}
 use Rattle.sequence.proofs.Tests.{by-bool}
@@ -28,8 +28,8 @@ use Rattle.parcels.specs.Parcel.{bodyOf, tellsHolding, carriesFile}
 use Rattle.parcels.specs.Front.{generalIn}
 use Rattle.parcels.specs.Holding.{numberTold, follows, holding}
 use Rattle.parcels.specs.Shelf.{Placed, parcelIn, fileIn, shelfFrom, replyFrom, reply}
-use Rattle.parcels.specs.Taking.{Reached, afterParcel}
-use Rattle.parcels.specs.Exchange.{GenuineParcel, Brought, Exchange, whenTold, whenAnswered, afterAnswer, afterExchange, Brings, RoomNext, Arrives, Exchanges, afterAll}
+use Rattle.parcels.specs.Taking.{Reached, afterParcel, shownBy}
+use Rattle.parcels.specs.Exchange.{GenuineParcel, Brought, Exchange, whenTold, whenAnswered, afterAnswer, afterExchange, answered, broughtBy, Brings, RoomNext, Arrives, Exchanges, allBrought, afterAll}
 use Rattle.parcels.specs.Cable.{numberIn, Issued, copies, Waits, Ready, chartBy, OnCable}
 use Rattle.parcels.specs.declared.Reply.{Reply}
 use Rattle.parcels.specs.declared.Reply.the-variants.{Refused, Silence, Parcel}
@@ -167,6 +167,46 @@ module _ (P : Publisher) (s : List ℕ) where
         let r = climbs xs (n + 1) (afterExchange c x) q′ up (λ i m. subst (Waits P s) (let z : n + suc i ≡ n + 1 + i = omega arith in z) (w (suc i) (omega arith))) (e .1) in
         omega arith
 
+-- ---- all that exchanges brought
+
+shown-join : (c : List ℕ) (ts us : List Reached) → shownBy c (ts ++ us) ≡ shownBy (shownBy c ts) us
+unfolding shownBy
+shown-join c [] us = refl
+shown-join c (t ∷ ts) us = shown-join (afterParcel c t) ts us
+
+answer-shown : (c : List ℕ) (a : Option Reached) → afterAnswer c a ≡ shownBy c (answered a)
+unfolding afterAnswer answered shownBy
+answer-shown c none = refl
+answer-shown c (some t) = refl
+
+exchange-shown : (c : List ℕ) (x : Exchange) → afterExchange c x ≡ shownBy c (broughtBy x)
+unfolding broughtBy
+exchange-shown c x =
+    answer-shown (whenAnswered c x) (x .answer) ∙ sym (shown-join (whenTold c x) (x .meanwhile) (answered (x .answer)))
+    ∙ sym (shown-join c (x .earlier) (x .meanwhile ++ answered (x .answer)))
+
+all-shown : (xs : List Exchange) (c : List ℕ) → afterAll c xs ≡ shownBy c (allBrought xs)
+unfolding afterAll allBrought gather shownBy
+all-shown [] c = refl
+all-shown (x ∷ xs) c =
+    all-shown xs (afterExchange c x) ∙ ap (λ (l : List ℕ). shownBy l (allBrought xs)) (exchange-shown c x) ∙ sym (shown-join c (broughtBy x) (allBrought xs))
+
+module _ (P : Publisher) (s : List ℕ) (n k : ℕ) (y : Ready P s n k) where
+  answer-brought : (h : List ℕ) (a : Option Reached) → Brings s (reply h s) a → Brought P (answered a)
+  unfolding Brought answered Each
+  answer-brought h none b = tt
+  answer-brought h (some t) b = (answer-genuine P s h t (all-good P s k n y) b, tt)
+
+  all-brought : (xs : List Exchange) (c : List ℕ) → Exchanges P s c xs → Brought P (allBrought xs)
+  unfolding Exchanges allBrought broughtBy gather Brought Each
+  all-brought [] c e = tt
+  all-brought (x ∷ xs) c e =
+      let a = e .0 in
+      each-join _ (broughtBy x) (allBrought xs)
+      (each-join _ (x .earlier) (x .meanwhile ++ answered (x .answer)) (a .earlier)
+      (each-join _ (x .meanwhile) (answered (x .answer)) (a .meanwhile) (answer-brought (a .holding) (x .answer) (a .answers))))
+      (all-brought xs (afterExchange c x) (e .1))
+
 -- ---- what is promised
 
 module _ (P : Publisher) where
@@ -183,4 +223,8 @@ module _ (P : Publisher) where
         onward = λ ts b t r e i o m. moves-on P (chartBy P ts) t r (charted ts b) e i o m;
         tells = λ ts b. let (d, e) = chart-read P (chartBy P ts) (charted ts b) in tells-so (chartBy P ts) d e;
         raised = λ ts b s xs y e. climbs P s (length xs) (numberShown (chartBy P ts)) y xs (numberShown (chartBy P ts)) (chartBy P ts) (charted ts b) (omega arith) (y .next) e;
+        again = λ ts b s xs k y e. (
+          unfold Brought in each-join _ ts (allBrought xs) b (all-brought P s (numberShown (chartBy P ts)) k y xs (chartBy P ts) e),
+          all-shown xs (chartBy P ts) ∙ sym (shown-join (start P) ts (allBrought xs)),
+        );
       }

@@ -4,7 +4,7 @@ use mathlib.Core.Path.{_≡_}
 use mathlib.Core.Bool.{true}
 use mathlib.Core.Logic.{_↔_, _⊎_}
 use mathlib.Core.Option.{Option, some, none}
-use mathlib.Core.List.{List, [], _∷_}
+use mathlib.Core.List.{List, [], _∷_, _++_}
 use lib.ListN.{length}
 use Rattle.base.specs.Choice.{pick}
 use Rattle.base.specs.Keys.{same}
@@ -23,7 +23,7 @@ use Rattle.parcels.specs.Front.{generalIn}
 use Rattle.parcels.specs.Holding.{numberTold, told}
 use Rattle.parcels.specs.Shelf.{Placed, fileIn, shelfFrom}
 use Rattle.parcels.specs.Taking.{Reached, afterParcel, shownBy}
-use Rattle.parcels.specs.Exchange.{Brought, Exchange, Fits, Exchanges, afterAll}
+use Rattle.parcels.specs.Exchange.{Brought, Exchange, Fits, Exchanges, allBrought, afterAll}
 
 -- ---- the shelf
 
@@ -85,3 +85,6 @@ pub record OnCable (P : Publisher) : Type 0 where
   -- over a shelf with the next k files, k exchanges that arrive raise a display by at least k
   pub raised : (ts : List Reached) → Brought P ts → (s : List ℕ) (xs : List Exchange) → Ready P s (numberShown (chartBy P ts)) (length xs)
       → Exchanges P s (chartBy P ts) xs → numberShown (chartBy P ts) + length xs ≤ numberShown (afterAll (chartBy P ts) xs)
+  -- and what they brought is what the cable may bring: all of this holds of the display again, over another shelf too
+  pub again : (ts : List Reached) → Brought P ts → (s : List ℕ) (xs : List Exchange) (k : ℕ) → Ready P s (numberShown (chartBy P ts)) k
+      → Exchanges P s (chartBy P ts) xs → Brought P (ts ++ allBrought xs) × (afterAll (chartBy P ts) xs ≡ chartBy P (ts ++ allBrought xs))

@@ -3,9 +3,9 @@ use Prim.Native.Nat.{ℕ, suc, _-_, _≤_}
 use mathlib.Core.Path.{_≡_}
 use mathlib.Core.Bool.{true}
 use mathlib.Core.Option.{Option, some, none}
-use mathlib.Core.List.{List, [], _∷_}
+use mathlib.Core.List.{List, [], _∷_, _++_}
 use lib.ListN.{length}
-use Rattle.base.specs.Lists.{Each}
+use Rattle.base.specs.Lists.{gather, Each}
 use Rattle.rules.specs.Written.{Dataset, writtenBytes}
 use Rattle.rules.specs.Outcome.{done}
 use Rattle.displays.specs.Display.{numberShown}
@@ -51,6 +51,14 @@ afterAnswer c (some t) = afterParcel c t
 abbrev pub afterExchange : List ℕ → Exchange → List ℕ
 afterExchange c x = afterAnswer (whenAnswered c x) (x .answer)
 
+-- all that an exchange brought to the display
+unfoldable pub answered : Option Reached → List Reached
+answered none = []
+answered (some t) = t ∷ []
+
+unfoldable pub broughtBy : Exchange → List Reached
+broughtBy x = x .earlier ++ (x .meanwhile ++ answered (x .answer))
+
 -- what arrives is the parcel that the master answered with
 unfoldable pub Brings : List ℕ → Reply → Option Reached → Type 0
 Brings s Refused a = ⊥
@@ -83,6 +91,10 @@ pub record Arrives (P : Publisher) (s c : List ℕ) (x : Exchange) : Type 0 wher
 unfoldable pub Exchanges : Publisher → List ℕ → List ℕ → List Exchange → Type 0
 Exchanges P s c [] = Unit {0}
 Exchanges P s c (x ∷ xs) = Arrives P s c x × Exchanges P s (afterExchange c x) xs
+
+-- all that they brought to the display
+unfoldable pub allBrought : List Exchange → List Reached
+allBrought xs = gather broughtBy xs
 
 -- the chart after them
 unfoldable pub afterAll : List ℕ → List Exchange → List ℕ
