@@ -2,7 +2,7 @@ pub mod ParcelLaws
 pub mod GlanceLaws
 pub mod FrontLaws
 pub mod NamingLaws
-pub mod FollowsLaws
+pub mod SuccessorLaws
 pub mod ShelfLaws
 pub mod TellingLaws
 pub mod TakenLaws

@@ -1,8 +1,8 @@
 -- `ends_next` meets its contract. Assumes nothing.
-use Rattle.cable.proofs.FollowsLaws.{next-ways}
+use Rattle.cable.proofs.SuccessorLaws.{next-ways}
 use borrow.Author.Needs.{needs}
-use Rattle.cable.proofs.shelf.ends_next.Statement.{statement}
-use Rattle.cable.proofs.shelf.ends_next.Tie as tie
+use Rattle.cable.proofs.successor.ends_next.Statement.{statement}
+use Rattle.cable.proofs.successor.ends_next.Tie as tie
 
 returns : tie.Need-returns
 returns c = search next-ways

@@ -1,8 +1,8 @@
 -- `may_follow` meets its contract. Assumes nothing.
-use Rattle.cable.proofs.FollowsLaws.{may-ways}
+use Rattle.cable.proofs.SuccessorLaws.{may-ways}
 use borrow.Author.Needs.{needs}
-use Rattle.cable.proofs.shelf.may_follow.Statement.{statement}
-use Rattle.cable.proofs.shelf.may_follow.Tie as tie
+use Rattle.cable.proofs.successor.may_follow.Statement.{statement}
+use Rattle.cable.proofs.successor.may_follow.Tie as tie
 
 glanced-requires : tie.Need-glanced-requires
 glanced-requires c κs = search needs
