@@ -59,7 +59,7 @@ const SILENCE: Result<Option<(usize, usize)>, Refusal> = Ok(None);
 // ---- H1: parcels ----
 
 #[test]
-fn b1_the_whole_length_counts_its_own_six_bytes() {
+fn h1_the_whole_length_counts_its_own_six_bytes() {
     let parcel = [&[112, 0, 0, 0, 2, 0], &FILE[..]].concat();
     assert_eq!(parcel, carried(FILE));
     assert_eq!(replied(&HELD, &parcel), Ok(Some((0, 112))));
@@ -70,7 +70,7 @@ fn b1_the_whole_length_counts_its_own_six_bytes() {
 }
 
 #[test]
-fn b1_numbers_are_little_endian() {
+fn h1_numbers_are_little_endian() {
     let shelf = carried(FILE);
     let swapped = |at: usize, length: usize| {
         let mut holding = HELD;
@@ -86,7 +86,7 @@ fn b1_numbers_are_little_endian() {
 }
 
 #[test]
-fn b1_a_name_goes_to_the_end_of_its_parcel() {
+fn h1_a_name_goes_to_the_end_of_its_parcel() {
     let shelf = carried(FILE);
     assert_eq!(replied(&[12, 0, 0, 0, 1, 0, 3, 0, 4, 0, b'E', b'Z'], &shelf), SILENCE);
     assert_eq!(replied(&[14, 0, 0, 0, 1, 0, 3, 0, 4, 0, b'E', b'Z', b'1', 0x1f], &shelf), SILENCE);
@@ -96,7 +96,7 @@ fn b1_a_name_goes_to_the_end_of_its_parcel() {
 // ---- H2: the order of a reply ----
 
 #[test]
-fn b2_the_holdings_length_is_that_of_its_slice() {
+fn h2_the_holdings_length_is_that_of_its_slice() {
     let shelf = carried(FILE);
     for (at, byte) in [(0, 12), (0, 14), (0, 0), (0, 255), (1, 1), (2, 1), (3, 1), (3, 128)] {
         let mut holding = HELD;
@@ -109,7 +109,7 @@ fn b2_the_holdings_length_is_that_of_its_slice() {
 }
 
 #[test]
-fn b2_the_holdings_kind_is_1_and_it_has_ten_bytes() {
+fn h2_the_holdings_kind_is_1_and_it_has_ten_bytes() {
     let shelf = carried(FILE);
     for kind in [[0, 0], [2, 0], [3, 0], [0, 1], [1, 1], [1, 2], [255, 255]] {
         let mut holding = HELD;
@@ -126,7 +126,7 @@ fn b2_the_holdings_kind_is_1_and_it_has_ten_bytes() {
 }
 
 #[test]
-fn b2_the_shelf_is_27_where_the_search_comes_to_a_wrong_parcel() {
+fn h2_the_shelf_is_27_where_the_search_comes_to_a_wrong_parcel() {
     let (file, other) = (carried(FILE), other());
     let wrong: [&[u8]; 12] = [
         &[0],
@@ -154,7 +154,7 @@ fn b2_the_shelf_is_27_where_the_search_comes_to_a_wrong_parcel() {
 }
 
 #[test]
-fn b2_the_first_that_follows_or_silence() {
+fn h2_the_first_that_follows_or_silence() {
     let (file, other, empty) = (carried(FILE), other(), [6, 0, 0, 0, 2, 0]);
     assert_eq!(replied(&HELD, &[]), SILENCE);
     assert_eq!(replied(&HELD, &empty), SILENCE);
@@ -166,7 +166,7 @@ fn b2_the_first_that_follows_or_silence() {
 }
 
 #[test]
-fn b2_the_line_tells_it_behind_the_old_words() {
+fn h2_the_line_tells_it_behind_the_old_words() {
     let told = |shelf: Vec<u8>| line(&answer(&Case::reply(HELD.to_vec(), shelf)));
     let none = format!("{:016x}", fnv(&[]));
     assert_eq!(told([other(), carried(FILE)].concat()), format!("0 0 0 0 0 {none} 1 1 112 112"));
@@ -177,7 +177,7 @@ fn b2_the_line_tells_it_behind_the_old_words() {
 // ---- H3: what follows ----
 
 #[test]
-fn b3_name_edition_and_number() {
+fn h3_name_edition_and_number() {
     let follows = |at: usize, byte: u8| replied(&HELD, &carried(&poked_file(at, byte))) == Ok(Some((0, 112)));
     assert!(follows(UPDATE_NUMBER, 5));
     for byte in [0, 3, 4, 6] {
@@ -192,7 +192,7 @@ fn b3_name_edition_and_number() {
 }
 
 #[test]
-fn b3_the_first_two_records_pass_the_first_pass_of_an_update() {
+fn h3_the_first_two_records_pass_the_first_pass_of_an_update() {
     let broken: [(&str, Vec<u8>); 12] = [
         ("no bytes", Vec::new()),
         ("1 in record 1", FILE[..SECOND_RECORD - 1].to_vec()),
@@ -217,7 +217,7 @@ fn b3_the_first_two_records_pass_the_first_pass_of_an_update() {
 }
 
 #[test]
-fn b3_the_rest_is_not_read() {
+fn h3_the_rest_is_not_read() {
     let rests: [&[u8]; 5] = [b"", b"\0", b"                       ", b"                        ", FILE];
     for rest in rests {
         let file = [&FILE[..], rest].concat();
@@ -247,7 +247,7 @@ fn tell_refused(chart: &[u8], out: u32) -> Refusal {
 }
 
 #[test]
-fn b4_the_holding_of_a_chart() {
+fn h4_the_holding_of_a_chart() {
     assert_eq!(told(given(&base())), HELD);
     assert_eq!(told(FILE.to_vec()), [13, 0, 0, 0, 1, 0, 3, 0, 5, 0, b'E', b'Z', b'1']);
     let texts = ["EZ1", "", "", "", "", "\u{e9}"];
@@ -258,7 +258,7 @@ fn b4_the_holding_of_a_chart() {
 }
 
 #[test]
-fn b4_its_refusals_are_the_readers_of_the_first_two_records_then_13() {
+fn h4_its_refusals_are_the_readers_of_the_first_two_records_then_13() {
     let chart = given(&base());
     let first = given(&base()[..1]).len();
     for out in [0, 40] {
@@ -301,7 +301,7 @@ fn taken(parcel: &[u8], out: u32, work: u32) -> Result<Vec<u8>, Refusal> {
 }
 
 #[test]
-fn b4_a_parcel_taken_is_its_body_handed_to_the_updater() {
+fn h4_a_parcel_taken_is_its_body_handed_to_the_updater() {
     let bodies = [
         FILE.to_vec(),
         update_file(&[vec![prid(9, 1, INSERT), c2it(1, 2)]]),
@@ -328,7 +328,7 @@ fn b4_a_parcel_taken_is_its_body_handed_to_the_updater() {
 }
 
 #[test]
-fn b4_the_line_tells_the_charts_length() {
+fn h4_the_line_tells_the_charts_length() {
     let (chart, short) = (given(&base()), vec![0; 9]);
     let refused = line(&answer(&Case::take(chart.clone(), vec![0], 9, WORK)));
     assert_eq!(refused, format!("27 0 0 0 0 {:016x} 1 {}", fnv(&short), chart.len()));
@@ -341,7 +341,7 @@ fn b4_the_line_tells_the_charts_length() {
 // ---- H5: what is not tested ----
 
 #[test]
-fn b5_two_records_of_a_chart_are_enough_and_there_is_no_14() {
+fn h5_two_records_of_a_chart_are_enough_and_there_is_no_14() {
     assert_eq!(told(given(&base()[..2])), HELD);
     let mut long = given(&base()[..2]);
     for length in [long.len() + 1, long.len() + 24, FILE_LIMIT + 1] {
@@ -356,7 +356,7 @@ fn b5_two_records_of_a_chart_are_enough_and_there_is_no_14() {
 }
 
 #[test]
-fn b5_a_holdings_numbers_have_no_range_and_65535_is_followed_by_nothing() {
+fn h5_a_holdings_numbers_have_no_range_and_65535_is_followed_by_nothing() {
     let holding = |edition: [u8; 2], update: [u8; 2]| [&[13, 0, 0, 0, 1, 0], &edition[..], &update, b"EZ1"].concat();
     let file = |edition: [u8; 2], update: [u8; 2]| {
         let mut file = FILE.to_vec();
@@ -379,7 +379,7 @@ fn b5_a_holdings_numbers_have_no_range_and_65535_is_followed_by_nothing() {
 // ---- H6: a wrong parcel ----
 
 #[test]
-fn b6_a_parcel_has_its_slice_to_itself() {
+fn h6_a_parcel_has_its_slice_to_itself() {
     let good = carried(FILE);
     assert!(taken(&good, ROOM, WORK).is_ok());
     assert_eq!(taken(&[&good[..], &[0]].concat(), ROOM, WORK), Err(WRONG));
@@ -398,7 +398,7 @@ fn b6_a_parcel_has_its_slice_to_itself() {
 }
 
 #[test]
-fn b6_27_comes_before_15_and_all_else() {
+fn h6_27_comes_before_15_and_all_else() {
     for work in [0, 1, WORK - 1, WORK] {
         assert_eq!(taken(&[0], ROOM, work), Err(WRONG));
         assert_eq!(taken(&HELD, 0, work), Err(WRONG));
