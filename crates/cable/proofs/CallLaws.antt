@@ -3,27 +3,19 @@ use Prim.Native.Nat.{ℕ, _-_}
 use mathlib.Core.Path.{_≡_, refl, sym, ap, ap₂, subst, _∙_}
 use mathlib.Core.Option.{Option, some, none}
 use mathlib.Core.List.{List, [], _∷_, _++_}
-use lib.Dec.{ltb}
-use lib.ListN.{length, take, replicate}
-use lib.Seq.{take-append-seam}
+use lib.ListN.{length, take}
 use Rattle.base.specs.Lists.{gather}
-use Rattle.rules.specs.Written.{Dataset, writtenBytes}
 use Rattle.rules.specs.Outcome.{Outcome, done}
-use Rattle.rules.specs.File.{writable}
-use Rattle.rules.specs.Answers.{success, notTooLong, Written, readOutcome, roomFor, outputOf, writeOutcome, write}
+use Rattle.rules.specs.Answers.{success}
 use Rattle.rules.specs.declared.Answer.{Answer}
-use Rattle.rules.proofs.OutcomeLaws.{done-inj, refuses, andThen-inv}
-use Rattle.numbers.proofs.Answers.{zero-is-done}
-use Rattle.sequence.proofs.Tests.{by-bool}
-use Rattle.displays.specs.Display.{taken, numberShown}
+use Rattle.displays.specs.Display.{taken}
 use Rattle.displays.specs.Publisher.{Publisher, start}
 use Rattle.displays.specs.Demand.{InStep}
-use Rattle.display.specs.Pools.{chartIn, Begun}
-use Rattle.display.specs.declared.Shown.{Shown}
+use Rattle.display.proofs.CallLaws.{begun-start}
 use Rattle.parcels.specs.Holding.{told}
 use Rattle.parcels.specs.Taking.{Reached, afterParcel, shownBy}
 use Rattle.parcels.specs.Exchange.{Exchange, Brings, RoomNext, whenTold, whenAnswered, afterAnswer, afterExchange, answered, broughtBy, Arrives, Exchanges, allBrought, afterAll}
-use Rattle.parcels.specs.Cable.{chartBy, TellsRight, OnCable}
+use Rattle.parcels.specs.Cable.{chartBy, TellsRight}
 use Rattle.parcels.specs.declared.Reply.{Reply}
 use Rattle.parcels.proofs.HoldingLaws.{tell-gives}
 use Rattle.parcels.proofs.ZeroLaws.{tell-done}
@@ -108,37 +100,6 @@ module _ (P : Publisher) (s : List ℕ) where
       (took-join c (x .earlier) (x .meanwhile ++ answered (x .answer)) (k .chart-told) m (k .came)
       (took-join (k .chart-told) (x .meanwhile) (answered (x .answer)) (k .chart-met) m (k .came-then) (took-last (k .chart-met) (x .answer) m (k .took))))
       (calls-took xs m e l)
-
--- ---- `begin`
-
--- what is written of a dataset that is not too long, where there is room
-room-bytes : (room : ℕ) (d : Dataset) (w : Written) → roomFor room d ≡ done w → w .bytes ≡ writtenBytes d
-unfolding roomFor
-room-bytes room d w e =
-    let (u, x, y) = andThen-inv (notTooLong 3 (writtenBytes d)) _ w e in
-    by-bool (ltb room (length (writtenBytes d)))
-    (λ z. refuses (rw z at y))
-    (λ z. ap (λ (v : Written). v .bytes) (sym (done-inj _ w (rw z at y))))
-
-module _ (P : Publisher) (room : ℕ) where
-  begun-bytes : (w : Written) → writeOutcome room (P .source) ≡ done w → w .bytes ≡ start P
-  unfolding writeOutcome readOutcome start
-  begun-bytes w e =
-      let (d, x, y) = andThen-inv (readOutcome (P .source)) _ w e in
-      let (u, v, k) = andThen-inv (notTooLong 1 (P .source)) _ d x in
-      let ed : d ≡ P .dataset = done-inj d (P .dataset) (sym k ∙ P .isRead) in
-      let (q, m, n) = andThen-inv (writable d) _ w y in
-      let eq : q ≡ P .dataset = done-inj q (P .dataset) (sym m ∙ rw ed (P .isWritable)) in
-      room-bytes room q w n ∙ ap writtenBytes eq
-
-  begun-chart : (w : Written) → writeOutcome room (P .source) ≡ done w → taken [] (write (P .source) room) ≡ start P
-  unfolding write outputOf taken success
-  begun-chart w e = rw e (take-append-seam (w .bytes) (replicate (room - length (w .bytes)) 0)) ∙ begun-bytes w e
-
-  begun-start : (r : Shown) (first second : List ℕ) → Begun (P .source) room r first → r .answer .number ≡ 0 → chartIn (r .chart) first second ≡ start P
-  begun-start r first second b z =
-      let (w, e) = (zero-is-done .writes (P .source) room) .0 (ap (λ (a : Answer). a .number) (sym (b .said)) ∙ z) in
-      b .holds second ∙ begun-chart w e
 
 -- ---- what is promised
 

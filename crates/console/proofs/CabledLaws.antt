@@ -1,21 +1,18 @@
--- Laws of what the calls of the bridge cable leave behind. Assumes nothing.
+-- Laws of what C sees of the calls of the bridge cable. Assumes nothing.
 use Prim.Native.Nat.{ℕ}
-use mathlib.Core.Path.{_≡_, refl, sym, ap, _∙_}
+use mathlib.Core.Path.{_≡_, ap, subst, _∙_}
 use mathlib.Core.Bool.{not}
 use mathlib.Core.List.{List}
 use lib.Dec.{eqb}
 use Rattle.rules.specs.declared.Answer.{Answer}
 use Rattle.display.specs.declared.Shown.{Shown}
-use Rattle.parcels.specs.Holding.{tell}
-use Rattle.parcels.specs.Shelf.{replyAnswer}
+use Rattle.parcels.specs.Shelf.{reply, replyAnswer}
 use Rattle.parcels.specs.declared.Reply.{Reply}
 use Rattle.parcels.specs.declared.Reply.the-variants.{Refused, Silence, Parcel}
-use Rattle.cable.specs.Promise.{Tells}
 use Rattle.cable.specs.Taken.{Taken}
-use Rattle.cable.proofs.Unique.{takes-once}
-use Rattle.console.specs.Numbered.{numbered, threeOf}
-use Rattle.console.specs.Shown.{chartAt}
-use Rattle.console.specs.Cabled.{replyNumbers, Takes}
+use Rattle.console.specs.Numbered.{threeOf, Says}
+use Rattle.console.specs.Shown.{chartAt, SaysShown}
+use Rattle.console.specs.Cabled.{replyNumbers, SaysReply, SaysTake}
 
 -- ---- `put_reply`
 
@@ -34,34 +31,18 @@ module _ (r : Reply) (old new : List ℕ) where
 
 pub ruleset put-ways = (put-refused, put-silence, put-parcel)
 
--- ---- `ezdurvash_reply`
+-- ---- the calls
 
-pub replies-so : (t r : Reply) (a : Answer) (old new three three′ : List ℕ) → r ≡ t → a ≡ replyAnswer r → new ≡ numbered a old → three′ ≡ replyNumbers r three
-    → (new ≡ numbered (replyAnswer t) old) × (three′ ≡ replyNumbers t three)
-replies-so t r a old new three three′ e x y z = rw (← e) (rw (← x) y, z)
+pub says-reply : (holding shelf : List ℕ) (r : Reply) (a : Answer) (old three : List ℕ) (n : ℕ) (new three′ : List ℕ) → r ≡ reply holding shelf → a ≡ replyAnswer r
+    → three′ ≡ replyNumbers r three → Says a old n new → SaysReply holding shelf old three n new three′
+says-reply holding shelf r a old three n new three′ e x t s =
+    record {
+      says = subst (λ (b : Answer). Says b old n new) (x ∙ ap replyAnswer e) s;
+      others = t ∙ ap (λ (q : Reply). replyNumbers q three) e;
+    }
 
--- ---- `ezdurvash_tell`
-
-pub tells-so : (chart : List ℕ) (room : ℕ) (a : Answer) (out old new : List ℕ) → Tells chart room a out → new ≡ numbered a old
-    → (out ≡ (tell chart room) .out) × (new ≡ numbered ((tell chart room) .answer) old)
-tells-so chart room a out old new t e = (t .fills, e ∙ ap (λ (x : Answer). numbered x old) (t .answers))
-
--- ---- `ezdurvash_take`
-
-pub takes-so : (place size : ℕ) (first second parcel : List ℕ) (work : ℕ) (old : List ℕ) (r : Shown) (first′ second′ w′ new : List ℕ)
-    → Taken (record { second = not (eqb place 0); length = size }) first second parcel work r first′ second′ w′ → new ≡ numbered (r .answer) old
-    → Takes place size first second parcel work old (r .chart .length) first′ second′ w′ new
+pub says-take : (place size : ℕ) (first second parcel : List ℕ) (work : ℕ) (r : Shown) (old places : List ℕ) (n : ℕ) (first′ second′ w′ new places′ : List ℕ)
+    → Taken (record { second = not (eqb place 0); length = size }) first second parcel work r first′ second′ w′ → SaysShown r old places n new places′
+    → SaysTake place size first second parcel work old places n first′ second′ w′ new places′
 unfolding chartAt
-takes-so place size first second parcel work old r first′ second′ w′ new t n = record { shown = r; taken = t; long = refl; numbers = n }
-
--- two outcomes of one call
-pub taken-once : (place size : ℕ) (first second parcel : List ℕ) (work : ℕ) (old : List ℕ) (n m : ℕ) (f s w a f′ s′ w′ a′ : List ℕ)
-    → Takes place size first second parcel work old n f s w a → Takes place size first second parcel work old m f′ s′ w′ a′
-    → (n ≡ m) × ((f ≡ f′) × (s ≡ s′)) × (w ≡ w′) × (a ≡ a′)
-taken-once place size first second parcel work old n m f s w a f′ s′ w′ a′ x y =
-    let (r, p, z) = takes-once (chartAt place size) first second parcel work (x .shown) (y .shown) f s w f′ s′ w′ (x .taken) (y .taken) in (
-      x .long ∙ ap (λ (q : Shown). q .chart .length) r ∙ sym (y .long),
-      p,
-      z,
-      x .numbers ∙ ap (λ (q : Shown). numbered (q .answer) old) r ∙ sym (y .numbers),
-    )
+says-take place size first second parcel work r old places n first′ second′ w′ new places′ t s = record { shown = r; taken = t; says = s }

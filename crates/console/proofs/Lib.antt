@@ -3,3 +3,5 @@ pub mod ShownLaws
 pub mod FieldLaws
 pub mod MonthLaws
 pub mod CabledLaws
+pub mod Unique
+pub mod RunLaws

@@ -1,21 +1,33 @@
--- Laws of what a display's calls leave behind. Assumes nothing.
-use Prim.Native.Nat.{ℕ}
-use mathlib.Core.Path.{_≡_, refl}
+-- Laws of what C sees of a display's calls. Assumes nothing.
+use Prim.Native.Nat.{ℕ, _≤_, _<_}
+use mathlib.Core.Path.{_≡_, ap, _∙_}
 use mathlib.Core.Bool.{not}
 use mathlib.Core.List.{List}
 use lib.Dec.{eqb}
-use Rattle.display.specs.Pools.{Begun, Followed}
+use lib.ListN.{length, set}
+use Rattle.base.specs.Choice.{pick}
+use Rattle.display.specs.Pools.{Followed}
 use Rattle.display.specs.declared.Chart.{Chart}
 use Rattle.display.specs.declared.Shown.{Shown}
-use Rattle.console.specs.Numbered.{numbered}
-use Rattle.console.specs.Shown.{chartAt, Begins, Hands}
+use Rattle.console.specs.Numbered.{Says}
+use Rattle.console.specs.Shown.{chartAt, charted, SaysShown, SaysHand}
+use Rattle.console.proofs.NumberedLaws.{two-left, two-put}
 
-pub begins-so : (dataset : List ℕ) (room : ℕ) (old : List ℕ) (r : Shown) (first new : List ℕ) → Begun dataset room r first → new ≡ numbered (r .answer) old
-    → Begins dataset room old (r .chart .length) first new
-begins-so dataset room old r first new b n = record { shown = r; begun = b; long = refl; numbers = n }
+-- ---- `put_chart`
 
-pub hands-so : (place size : ℕ) (first second file : List ℕ) (work : ℕ) (old : List ℕ) (r : Shown) (first′ second′ w′ new : List ℕ)
-    → Followed (record { second = not (eqb place 0); length = size }) first second file work r first′ second′ w′ → new ≡ numbered (r .answer) old
-    → Hands place size first second file work old (r .chart .length) first′ second′ w′ new
+module _ (c : Chart) (l : List ℕ) where
+  pub chart-left : length l < 2 → l ≡ charted c l
+  unfolding charted
+  chart-left h = two-left _ _ l h
+
+  pub chart-put : (p : ℕ) → p ≡ pick (c .second) 1 0 → 2 ≤ length l → set (set l 0 p) 1 (c .length) ≡ charted c l
+  unfolding charted
+  chart-put p e h = ap (λ (x : ℕ). set (set l 0 x) 1 (c .length)) e ∙ two-put _ _ l h
+
+-- ---- `ezdurvash_hand`
+
+pub says-hand : (place size : ℕ) (first second file : List ℕ) (work : ℕ) (r : Shown) (old places : List ℕ) (n : ℕ) (first′ second′ w′ new places′ : List ℕ)
+    → Followed (record { second = not (eqb place 0); length = size }) first second file work r first′ second′ w′ → SaysShown r old places n new places′
+    → SaysHand place size first second file work old places n first′ second′ w′ new places′
 unfolding chartAt
-hands-so place size first second file work old r first′ second′ w′ new f n = record { shown = r; followed = f; long = refl; where-now = f .stands; numbers = n }
+says-hand place size first second file work r old places n first′ second′ w′ new places′ f s = record { shown = r; followed = f; says = s }

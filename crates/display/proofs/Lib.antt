@@ -1,2 +1,3 @@
 pub mod PoolLaws
-pub mod FollowLaws
+pub mod CallLaws
+pub mod Unique

@@ -1,6 +1,6 @@
 -- Laws of a display's two pools. Assumes nothing.
 use Prim.Native.Nat.{ℕ, _-_, _≤_, _<_}
-use mathlib.Core.Path.{_≡_, refl, sym, ap, _∙_}
+use mathlib.Core.Path.{_≡_, refl, sym, ap, subst, _∙_}
 use mathlib.Core.Bool.{Bool, true, false, not}
 use mathlib.Core.List.{List, []}
 use native.Mathlib.Omega.{arith}
@@ -10,14 +10,14 @@ use lib.Seq.{take-all}
 use lib.Dec.{ltb, eqb}
 use Rattle.base.specs.Choice.{pick}
 use Rattle.rules.specs.Outcome.{Outcome, done, refused}
-use Rattle.rules.specs.Answers.{Output, Written, refusal, success, outputOf, writeOutcome, write, update, workAfter}
+use Rattle.rules.specs.Answers.{Output, Written, refusal, success, outputOf, writeOutcome, write}
 use Rattle.rules.specs.declared.Answer.{Answer}
+use Rattle.promises.specs.Promise.{Writes, Updates}
 use Rattle.sequence.proofs.Tests.{by-bool}
 use Rattle.displays.specs.Display.{taken}
 use Rattle.updater.specs.Stages.{TestedIf}
-use Rattle.display.specs.Pools.{pool, other, chartIn, nextChart, Handed, Begun, Followed}
+use Rattle.display.specs.Pools.{pool, other, chartIn, nextChart, Begun, Followed}
 use Rattle.display.specs.declared.Chart.{Chart}
-use Rattle.display.specs.declared.Shown.{Shown}
 
 -- ---- the chart at the front of a pool
 
@@ -38,17 +38,10 @@ held-front n l k e =
     (λ h. let z : k ≡ length l = rw h at e in
     take-all (k - 0) l (omega arith) ∙ sym (take-all n l (ltb-false n (length l) h)))
 
--- the updater's contract, at the front of a pool
-pub handed-front : (n : ℕ) (from file o w : List ℕ) (k : ℕ) (a : Answer) (o′ w′ : List ℕ) → k ≡ pick (ltb n (length from)) n (length from)
-    → a ≡ (update (take (k - 0) (drop 0 from)) file (length o) (length w)) .answer → o′ ≡ (update (take (k - 0) (drop 0 from)) file (length o) (length w)) .out → w′ ≡ workAfter (length w)
-    → Handed (take n from) file o w a o′ w′
-handed-front n from file o w k a o′ w′ e x y z =
-    let s = held-front n from k e in
-    record {
-      said = x ∙ ap (λ (c : List ℕ). (update c file (length o) (length w)) .answer) s;
-      built = y ∙ ap (λ (c : List ℕ). (update c file (length o) (length w)) .out) s;
-      zero = z;
-    }
+-- the updater's promise, at the front of a pool
+pub handed-front : (n : ℕ) (from file : List ℕ) (room work k : ℕ) (a : Answer) (o w : List ℕ) → k ≡ pick (ltb n (length from)) n (length from)
+    → Updates (take (k - 0) (drop 0 from)) file room work a o w → Updates (take n from) file room work a o w
+handed-front n from file room work k a o w e u = subst (λ (c : List ℕ). Updates c file room work a o w) (held-front n from k e) u
 
 -- what is known of the front of a pool is known of what is lent of it
 pub tested-front : (t : Bool) (n : ℕ) (from : List ℕ) (k : ℕ) → k ≡ pick (ltb n (length from)) n (length from) → TestedIf t (take n from) → TestedIf t (take (k - 0) (drop 0 from))
@@ -82,7 +75,7 @@ unfolding taken
 answered c o a b x y = rw (x, y)
 
 -- the chart stood in the first pool, or in the second
-module _ (n : ℕ) (first second file w : List ℕ) (a : Answer) (w′ : List ℕ) where
+module _ (n : ℕ) (first second file : List ℕ) (work : ℕ) (a : Answer) (w′ : List ℕ) where
   next-first : (s′ : List ℕ) → chartIn (nextChart (record { second = false; length = n }) a) first s′ ≡ pick (eqb (a .number) 0) (take (a .length) s′) (take n first)
   unfolding pool chartIn nextChart
   next-first s′ = by-bool (eqb (a .number) 0) (λ t. rw t) (λ t. rw t)
@@ -91,22 +84,22 @@ module _ (n : ℕ) (first second file w : List ℕ) (a : Answer) (w′ : List �
   unfolding pool chartIn nextChart
   next-second f′ = by-bool (eqb (a .number) 0) (λ t. rw t) (λ t. rw t)
 
-  in-first : (s′ : List ℕ) → Handed (take n first) file second w a s′ w′
-      → Followed (record { second = false; length = n }) first second file (length w) (record { answer = a; chart = nextChart (record { second = false; length = n }) a }) first s′ w′
+  in-first : (s′ : List ℕ) → Updates (take n first) file (length second) work a s′ w′
+      → Followed (record { second = false; length = n }) first second file work (record { answer = a; chart = nextChart (record { second = false; length = n }) a }) first s′ w′
   unfolding pool other chartIn
-  in-first s′ h = record { said = h .said; stands = refl; holds = next-first s′ ∙ answered (take n first) _ a s′ (h .said) (h .built); inUse = refl; built = h .built; zero = h .zero }
+  in-first s′ h = record { said = h .answers; stands = refl; holds = next-first s′ ∙ answered (take n first) _ a s′ (h .answers) (h .fills); inUse = refl; built = h .fills; zero = h .clears }
 
-  in-second : (f′ : List ℕ) → Handed (take n second) file first w a f′ w′
-      → Followed (record { second = true; length = n }) first second file (length w) (record { answer = a; chart = nextChart (record { second = true; length = n }) a }) f′ second w′
+  in-second : (f′ : List ℕ) → Updates (take n second) file (length first) work a f′ w′
+      → Followed (record { second = true; length = n }) first second file work (record { answer = a; chart = nextChart (record { second = true; length = n }) a }) f′ second w′
   unfolding pool other chartIn
-  in-second f′ h = record { said = h .said; stands = refl; holds = next-second f′ ∙ answered (take n second) _ a f′ (h .said) (h .built); inUse = refl; built = h .built; zero = h .zero }
+  in-second f′ h = record { said = h .answers; stands = refl; holds = next-second f′ ∙ answered (take n second) _ a f′ (h .answers) (h .fills); inUse = refl; built = h .fills; zero = h .clears }
 
-module _ (c : Chart) (first second file w : List ℕ) (a : Answer) (w′ : List ℕ) (to : Chart) (e : to ≡ nextChart c a) where
-  pub followed-first : c .second ≡ false → (s′ : List ℕ) → Handed (take (c .length) first) file second w a s′ w′ → Followed c first second file (length w) (record { answer = a; chart = to }) first s′ w′
-  followed-first h s′ g = rw e (let z = in-first (c .length) first second file w a w′ s′ g in rw (← h) at z)
+module _ (c : Chart) (first second file : List ℕ) (work : ℕ) (a : Answer) (w′ : List ℕ) (to : Chart) (e : to ≡ nextChart c a) where
+  pub followed-first : c .second ≡ false → (s′ : List ℕ) → Updates (take (c .length) first) file (length second) work a s′ w′ → Followed c first second file work (record { answer = a; chart = to }) first s′ w′
+  followed-first h s′ g = rw e (let z = in-first (c .length) first second file work a w′ s′ g in rw (← h) at z)
 
-  pub followed-second : c .second ≡ true → (f′ : List ℕ) → Handed (take (c .length) second) file first w a f′ w′ → Followed c first second file (length w) (record { answer = a; chart = to }) f′ second w′
-  followed-second h f′ g = rw e (let z = in-second (c .length) first second file w a w′ f′ g in rw (← h) at z)
+  pub followed-second : c .second ≡ true → (f′ : List ℕ) → Updates (take (c .length) second) file (length first) work a f′ w′ → Followed c first second file work (record { answer = a; chart = to }) f′ second w′
+  followed-second h f′ g = rw e (let z = in-second (c .length) first second file work a w′ f′ g in rw (← h) at z)
 
 -- ---- the beginning
 
@@ -116,7 +109,7 @@ unfolding outputOf taken success refusal
 as-taken room (done w) = refl
 as-taken room (refused file n x) = by-bool (eqb (x .number) 0) (λ h. rw h) (λ h. rw h)
 
-pub begun : (dataset : List ℕ) (room : ℕ) (a : Answer) (first : List ℕ) → a ≡ (write dataset room) .answer → first ≡ (write dataset room) .out
+pub begun : (dataset : List ℕ) (room : ℕ) (a : Answer) (first : List ℕ) → Writes dataset room a first
     → Begun dataset room (record { answer = a; chart = record { second = false; length = a .length } }) first
 unfolding pool chartIn write
-begun dataset room a first x y = record { said = x; wrote = y; stands = refl; holds = λ second. rw (x, y) (as-taken room (writeOutcome room dataset)) }
+begun dataset room a first w = record { said = w .answers; wrote = w .fills; stands = refl; holds = λ second. rw (w .answers, w .fills) (as-taken room (writeOutcome room dataset)) }

@@ -1,2 +1,2 @@
 pub mod Pools
-pub mod Followed
+pub mod Calls

@@ -6,7 +6,7 @@ use mathlib.Core.List.{List, []}
 use lib.ListN.{length, take}
 use lib.Dec.{eqb}
 use Rattle.base.specs.Choice.{pick}
-use Rattle.rules.specs.Answers.{Output, write, update, workAfter}
+use Rattle.rules.specs.Answers.{write, update, workAfter}
 use Rattle.rules.specs.declared.Answer.{Answer}
 use Rattle.displays.specs.Display.{taken}
 use Rattle.display.specs.declared.Chart.{Chart}
@@ -26,12 +26,6 @@ chartIn c first second = take (c .length) (pool c first second)
 -- where it stands after an answer
 unfoldable pub nextChart : Chart → Answer → Chart
 nextChart c a = pick (eqb (a .number) 0) (record { second = not (c .second); length = a .length }) c
-
--- the updater was called with the chart c and a file: its answer a, every byte of the pool o that is o′ now, and of the workspace w that is w′ now
-pub record Handed (c file o w : List ℕ) (a : Answer) (o′ w′ : List ℕ) : Type 0 where
-  pub said : a ≡ (update c file (length o) (length w)) .answer
-  pub built : o′ ≡ (update c file (length o) (length w)) .out
-  pub zero : w′ ≡ workAfter (length w)
 
 -- the writer was called with a dataset and the first pool: its answer, every byte of the pool, and as the chart what it wrote
 pub record Begun (dataset : List ℕ) (room : ℕ) (r : Shown) (first : List ℕ) : Type 0 where

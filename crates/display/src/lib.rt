@@ -7,8 +7,9 @@ ghost use mathlib.Core.Path.{_≡_};
 ghost use lib.ListN.{length, take};
 ghost use lib.Dec.{ltb};
 ghost use Rattle.base.specs.Choice.{pick};
+ghost use Rattle.promises.specs.Promise.{Updates};
 ghost use Rattle.updater.specs.Stages.{TestedIf};
-ghost use Rattle.display.specs.Pools.{chartIn, nextChart, Handed, Begun, Followed};
+ghost use Rattle.display.specs.Pools.{chartIn, nextChart, Begun, Followed};
 
 // Where the chart stands: in the second pool or in the first, and its length there.
 pub struct Chart {
@@ -36,15 +37,15 @@ fn held(length: usize, room: usize) -> usize
 fn hand_over(
     tested: bool,
     from: &[u8],
-    length: usize,
+    size: usize,
     file: &[u8],
     to: &mut [u8],
     work: &mut [u8],
 ) -> Answer
-    requires { ⌜ TestedIf tested (take length (now from)) ⌝ }
-    ensures { λ a. ⌜ Handed (take length (now (from .entry))) (now (file .entry)) (now (to .entry)) (now (work .entry)) a (now (to .exit)) (now (work .exit)) ⌝ }
+    requires { ⌜ TestedIf tested (take size (now from)) ⌝ }
+    ensures { λ a. ⌜ Updates (take size (now (from .entry))) (now (file .entry)) (length (now (to .entry))) (length (now (work .entry))) a (now (to .exit)) (now (work .exit)) ⌝ }
 {
-    let n = held(length, from.len());
+    let n = held(size, from.len());
     update_tested(tested, &from[0..n], file, to, work)
 }
 

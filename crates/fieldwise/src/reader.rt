@@ -15,7 +15,7 @@ pub struct Fields<'a> {
 
 // The reader at the first field of a record.
 pub fn start<'a>(rec: &'a [u8]) -> Fields<'a>
-    ensures { λ f. ⌜ (f .rec ≡ rec .entry) × (f .at ≡ 24) ⌝ }
+    ensures { λ f. ⌜ f ≡ record { rec = rec .entry; at = 24 } ⌝ }
 {
     Fields { rec, at: 24 }
 }
@@ -36,7 +36,7 @@ pub fn body<'a>(f: Fields<'a>) -> &'a [u8]
 
 // The reader moved on by one field.
 pub fn next<'a>(f: Fields<'a>) -> Fields<'a>
-    ensures { λ g. ⌜ (g .rec ≡ f .entry .rec) × (g .at ≡ nextHere (now (f .entry .rec)) (f .entry .at)) ⌝ }
+    ensures { λ g. ⌜ g ≡ record { rec = f .entry .rec; at = nextHere (now (f .entry .rec)) (f .entry .at) } ⌝ }
 {
     Fields {
         rec: f.rec,

@@ -7,3 +7,4 @@ pub mod PassedLaws
 pub mod RecordLaws
 pub mod WalkLaws
 pub mod TableLaws
+pub mod ListsLaws

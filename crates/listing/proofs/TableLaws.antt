@@ -1,6 +1,5 @@
 -- Laws of the listing of a whole input. Assumes nothing.
 use mathlib.Core.Path.{_≡_, refl, sym, ap, ap₂, _∙_}
-use mathlib.Core.Bool.{Bool}
 use mathlib.Core.List.{List, [], _∷_, _++_, append-assoc}
 use Prim.Native.Nat.{ℕ, _+_, _-_, _≤_, _<_}
 use native.Mathlib.Omega.{arith}
@@ -9,7 +8,6 @@ use lib.Dec.{ltb}
 use lib.ListN.{length, take}
 use Rattle.base.specs.Choice.{pick}
 use Rattle.base.specs.Text.{ascii}
-use Rattle.base.specs.Walk.{Got}
 use Rattle.memory.specs.Hold.{zeros, hold}
 use Rattle.memory.specs.Wrote.{Wrote}
 use Rattle.memory.proofs.HoldLaws.{hold-nil}
@@ -34,6 +32,7 @@ use Rattle.reader.proofs.ReaderLaws.{three-in}
 use Rattle.listing.specs.Said.{PassedFrom}
 use Rattle.listing.specs.Lines.{refusalLine, totalLine, linesFrom}
 use Rattle.listing.specs.Listed.{longest, listed}
+use Rattle.listing.specs.Lists.{Lists}
 use Rattle.listing.proofs.PassedLaws.{fourth-clean, fourth-passed, fourth-said, read-inv}
 
 -- ---- what the reader has answered
@@ -148,17 +147,17 @@ module _ (f : List ℕ) (n : ℕ) (d e : List ℕ) (w : Wrote 0 (listing f) d n 
   long-is : length e ≡ length d
   long-is = wrote-length (w .0)
 
-  pub list-longest : length (listing f) ≤ longest
+  list-longest : length (listing f) ≤ longest
   list-longest = omega (arith, length-is, w .1)
 
-  pub list-none : length e < n → (g : List ℕ) → g ≡ zeros (length e) → (0 ≡ length (listed f (length d))) × (g ≡ hold (length d) (listed f (length d)))
-  list-none h g eg = (sym (ap length nothing), eg ∙ ap zeros long-is ∙ sym (ap (hold (length d)) nothing ∙ hold-nil (length d)))
+  pub list-none : length e < n → (g : List ℕ) → g ≡ zeros (length e) → Lists f (length d) 0 g
+  list-none h g eg = record { long = sym (ap length nothing); holds = eg ∙ ap zeros long-is ∙ sym (ap (hold (length d)) nothing ∙ hold-nil (length d)); enough = list-longest }
     where
       nothing : listed f (length d) ≡ []
       nothing = listed-none f (length d) (omega (arith, long-is, length-is))
 
-  pub list-all : n ≤ length e → (g : List ℕ) → g ≡ hold (length e) (take n e) → (n ≡ length (listed f (length d))) × (g ≡ hold (length d) (listed f (length d)))
-  list-all h g eg = (sym (ap length all ∙ length-is), eg ∙ ap₂ hold long-is (wrote-take (w .0) (omega (arith, long-is, length-is)) ∙ sym all))
+  pub list-all : n ≤ length e → (g : List ℕ) → g ≡ hold (length e) (take n e) → Lists f (length d) n g
+  list-all h g eg = record { long = sym (ap length all ∙ length-is); holds = eg ∙ ap₂ hold long-is (wrote-take (w .0) (omega (arith, long-is, length-is)) ∙ sym all); enough = list-longest }
     where
       all : listed f (length d) ≡ listing f
       all = listed-all f (length d) (omega (arith, long-is, length-is))

@@ -23,7 +23,6 @@ ghost use mathlib.Core.Path.{_≡_};
 ghost use Prim.Native.Nat.{_+_, _≤_, _<_};
 ghost use lib.ListN.{length};
 ghost use Rattle.base.specs.Walk.{Got};
-ghost use Rattle.memory.specs.Hold.{hold};
 ghost use Rattle.memory.specs.Wrote.{Wrote};
 ghost use Rattle.skeleton.specs.File.{recordsFrom};
 ghost use Rattle.skeleton.specs.Place.{fieldsAt};
@@ -33,7 +32,8 @@ ghost use Rattle.rules.specs.File.{readDataset};
 ghost use Rattle.rules.specs.Listing.{recordLine, printed, listing};
 ghost use Rattle.listing.specs.Said.{Passed, PassedFrom, recordIn};
 ghost use Rattle.listing.specs.Lines.{linesFrom};
-ghost use Rattle.listing.specs.Listed.{longest, listed};
+ghost use Rattle.listing.specs.Listed.{longest};
+ghost use Rattle.listing.specs.Lists.{Lists};
 
 // The line of record n, whose bytes are r.
 fn put_record(r: &[u8], h: Shape, n: usize, out: &mut [u8], at: usize) -> usize
@@ -122,8 +122,7 @@ fn put_listing(f: &[u8], out: &mut [u8]) -> usize
 // Lists a dataset: `out` holds the listing of the input and is zero behind it, and the result is its length; where it has no room, `out` is
 // wholly zero, and the result is 0. A slice of 327,736 bytes always has room.
 pub fn list(input: &[u8], out: &mut [u8]) -> usize
-    ensures { λ n. ⌜ (n ≡ length (listed (now (input .entry)) (length (now (out .entry))))) × (now (out .exit) ≡ hold (length (now (out .entry))) (listed (now (input .entry)) (length (now (out .entry))))) ⌝ }
-    ensures { λ n. ⌜ length (listing (now (input .entry))) ≤ longest ⌝ }
+    ensures { λ n. ⌜ Lists (now (input .entry)) (length (now (out .entry))) n (now (out .exit)) ⌝ }
 {
     let n = put_listing(input, out);
     if out.len() < n {

@@ -8,10 +8,10 @@ use borrow.Author.Tests.{ltb-false}
 use lib.Dec.{ltb}
 use lib.ListN.{length, take}
 use Rattle.base.specs.Choice.{pick}
-use Rattle.memory.specs.Hold.{hold}
 use Rattle.memory.proofs.HoldLaws.{length-hold, take-hold}
 use Rattle.rules.specs.Listing.{listing}
 use Rattle.listing.specs.Listed.{listed}
+use Rattle.listing.specs.Lists.{Lists}
 
 listed-in : (f : List ℕ) (room : ℕ) → length (listed f room) ≤ room
 unfolding listed
@@ -21,9 +21,9 @@ listed-in f room = go (ltb room (length (listing f))) refl
     go true e = omega arith
     go false e = ltb-false room (length (listing f)) e
 
-module _ (f : List ℕ) (room n : ℕ) (e : List ℕ) (w : (n ≡ length (listed f room)) × (e ≡ hold room (listed f room))) where
+module _ (f : List ℕ) (room n : ℕ) (e : List ℕ) (w : Lists f room n e) where
   pub text-fits : n ≤ length e
-  text-fits = omega (arith, w .0, listed-in f room, ap length (w .1) ∙ length-hold room (listed f room) (listed-in f room))
+  text-fits = omega (arith, w .long, listed-in f room, ap length (w .holds) ∙ length-hold room (listed f room) (listed-in f room))
 
   pub text-long : n ≡ length (take n e)
-  text-long = w .0 ∙ ap length (sym (ap (take n) (w .1) ∙ take-hold room n (listed f room) (sym (w .0))))
+  text-long = w .long ∙ ap length (sym (ap (take n) (w .holds) ∙ take-hold room n (listed f room) (sym (w .long))))

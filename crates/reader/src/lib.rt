@@ -11,6 +11,7 @@ ghost use Prim.Native.Nat.{_≤_};
 ghost use lib.ListN.{length};
 ghost use Rattle.rules.specs.Outcome.{done};
 ghost use Rattle.rules.specs.Answers.{read as theAnswer};
+ghost use Rattle.promises.specs.Promise.{Reads};
 ghost use Rattle.opening.specs.Carried.{firstThree};
 
 // The records behind the third, which begin at start: numbers 1 to 7 of each, and then the references between them.
@@ -48,7 +49,7 @@ fn after_three(f: &[u8], start: usize) -> Answer
 
 // Reads a dataset: the answer is that of the rules, for any bytes.
 pub fn read(f: &[u8]) -> Answer
-    ensures { λ r. ⌜ r ≡ theAnswer (now (f .entry)) ⌝ }
+    ensures { λ r. ⌜ Reads (now (f .entry)) r ⌝ }
 {
     if 16777216 < f.len() {
         return Answer {

@@ -6,11 +6,12 @@ use native.Mathlib.Omega.{arith}
 use lib.ListN.{length, take, length-take}
 use Rattle.memory.specs.Hold.{zeros, hold}
 use Rattle.rules.specs.Outcome.{Outcome, done, refused}
-use Rattle.rules.specs.Answers.{Output, Written, success, outputOf, updateOutcome, update, workAfter}
+use Rattle.rules.specs.Answers.{Written, success, outputOf, updateOutcome, update, workAfter}
 use Rattle.rules.specs.declared.Answer.{Answer}
+use Rattle.promises.specs.Promise.{Updates}
 use Rattle.numbers.specs.Zero.{Done}
 use Rattle.numbers.proofs.Answers.{zero-is-done}
-use Rattle.updater.specs.Stages.{Built, Updates}
+use Rattle.updater.specs.Stages.{Built}
 
 module _ (f u : List ℕ) (room size : ℕ) (r : Answer) (o : List ℕ) (b : Built f u room size r o) where
   -- a refusal leaves the output wholly zero
@@ -56,8 +57,8 @@ module _ (f u : List ℕ) (room size : ℕ) (r : Answer) (o : List ℕ) (b : Bui
 
   pub left-refused : (r .number ≡ 0 → ⊥) → (o′ : List ℕ) → o′ ≡ zeros (length o)
       → Updates f u room size r o′ w′
-  left-refused nz o′ e = (b .said, ended-refused f u room size r o b nz o′ (e ∙ ap zeros same), work-left)
+  left-refused nz o′ e = record { answers = b .said; fills = ended-refused f u room size r o b nz o′ (e ∙ ap zeros same); clears = work-left }
 
   pub left-done : r .number ≡ 0 → (o′ : List ℕ) → o′ ≡ hold (length o) (take (r .length) o)
       → Updates f u room size r o′ w′
-  left-done z o′ e = (b .said, ended-done f u room size r o b z same o′ e, work-left)
+  left-done z o′ e = record { answers = b .said; fills = ended-done f u room size r o b z same o′ e; clears = work-left }

@@ -5,7 +5,6 @@ use mathlib.Core.Bool.{Bool, true}
 use mathlib.Core.List.{List, []}
 use lib.ListN.{length, take, getD}
 use Rattle.base.specs.Check.{ok, pass}
-use Rattle.base.specs.Walk.{Got}
 use Rattle.memory.specs.Put.{put}
 use Rattle.skeleton.specs.File.{Field, recordsFrom, recordsOf}
 use Rattle.rules.specs.General.{generalRecord, merged}
@@ -13,7 +12,7 @@ use Rattle.rules.specs.Written.{Dataset}
 use Rattle.rules.specs.Outcome.{done}
 use Rattle.rules.specs.File.{readDataset, writable}
 use Rattle.rules.specs.Update.{general}
-use Rattle.rules.specs.Answers.{Output, Written, updateOutcome, update, workAfter}
+use Rattle.rules.specs.Answers.{Written, updateOutcome, update}
 use Rattle.rules.specs.declared.Answer.{Answer}
 use Rattle.rules.specs.declared.Mode.the-variants.{InDataset}
 use Rattle.updates.specs.Streamed.{headLength}
@@ -91,7 +90,3 @@ pub record Acted (f u : List ℕ) (ds us front room size : ℕ) (r : Answer) (o 
 pub record Built (f u : List ℕ) (room size : ℕ) (r : Answer) (o : List ℕ) : Type 0 where
   pub said : r ≡ (update f u room size) .answer
   pub stands : (w : Written) → updateOutcome room size f u ≡ done w → take (length (w .bytes)) o ≡ w .bytes
-
--- the updater was called: its answer r, every byte o of the output and every byte w of the workspace are those of the rules
-abbrev pub Updates : List ℕ → List ℕ → ℕ → ℕ → Answer → List ℕ → List ℕ → Type 0
-Updates f u room size r o w = (r ≡ (update f u room size) .answer) × (o ≡ (update f u room size) .out) × (w ≡ workAfter size)

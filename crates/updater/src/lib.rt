@@ -26,12 +26,13 @@ ghost use mathlib.Core.Path.{_≡_};
 ghost use Prim.Native.Nat.{_≤_};
 ghost use lib.ListN.{length};
 ghost use Rattle.rules.specs.Outcome.{done};
+ghost use Rattle.promises.specs.Promise.{Updates};
 ghost use Rattle.updates.specs.Streamed.{verdicts};
 ghost use Rattle.keys.specs.Listed.{keysFrom};
 ghost use Rattle.keys.specs.Table.{Laid};
 ghost use Rattle.stock.specs.Stock.{stockFrom};
 ghost use Rattle.sorting.specs.Indices.{Indices};
-ghost use Rattle.updater.specs.Stages.{sentFrom, Legible, Tested, TestedIf, Fits, Begun, Acted, Built, Updates};
+ghost use Rattle.updater.specs.Stages.{sentFrom, Legible, Tested, TestedIf, Fits, Begun, Acted, Built};
 ghost use Rattle.version.specs.Areas.{flagArea};
 ghost use Rattle.history.specs.Flags.{Flags};
 

@@ -16,8 +16,9 @@ use Rattle.fields.specs.Valid.{Bytes}
 use Rattle.rules.specs.Written.{Dataset, fieldWidth, written, writtenBytes, count}
 use Rattle.rules.specs.Outcome.{Outcome, done, refused, andThen}
 use Rattle.rules.specs.File.{writable}
-use Rattle.rules.specs.Answers.{refusal, success, notTooLong, readOutcome, readAnswer, read, Output, Written, roomFor, outputOf, writeOutcome, write}
+use Rattle.rules.specs.Answers.{refusal, success, notTooLong, readOutcome, readAnswer, read, Output, roomFor, outputOf, writeOutcome, write}
 use Rattle.rules.specs.declared.Answer.{Answer}
+use Rattle.promises.specs.Promise.{Writes}
 use Rattle.numbers.specs.Zero.{Done}
 use Rattle.numbers.proofs.Answers.{zero-is-done}
 use Rattle.writer.specs.Forms.{formsFrom, lengths}
@@ -34,15 +35,11 @@ refused-as : (f : List ℕ) (room file n : ℕ) (x : Fault) → writeOutcome roo
 unfolding write outputOf refusal zeros
 refused-as f room file n x e = ap (outputOf room) e
 
--- the answer and the output, for an output of so many bytes
-abbrev Answers : List ℕ → ℕ → Answer → List ℕ → Type 0
-Answers f room r o = (r ≡ (write f room) .answer) × (o ≡ (write f room) .out)
-
 answers-refused : (f : List ℕ) (room file n : ℕ) (x : Fault) (r : Answer) (o : List ℕ) → writeOutcome room f ≡ refused file n x
-    → r ≡ record { number = x .number; file = file; rec = n; length = 0; count = 0 } → o ≡ zeros room → Answers f room r o
+    → r ≡ record { number = x .number; file = file; rec = n; length = 0; count = 0 } → o ≡ zeros room → Writes f room r o
 answers-refused f room file n x r o e er eo =
     let w = refused-as f room file n x e in
-    (er ∙ sym (ap (λ (y : Output). y .answer) w), eo ∙ sym (ap (λ (y : Output). y .out) w))
+    record { answers = er ∙ sym (ap (λ (y : Output). y .answer) w); fills = eo ∙ sym (ap (λ (y : Output). y .out) w) }
 
 -- ---- a dataset that can be written
 
@@ -61,7 +58,7 @@ module _ (f : List ℕ) (size records : ℕ) (k : Ready f size records) where
   form-is = ap (emits fieldWidth fieldWidth true) (k .forms)
 
   pub out-long : (room : ℕ) → 16777216 < size → (r : Answer) (o : List ℕ) → r ≡ record { number = 14; file = 3; rec = 0; length = 0; count = 0 } → o ≡ zeros room
-      → Answers f room r o
+      → Writes f room r o
   unfolding roomFor notTooLong andThen
   out-long room h r o =
       answers-refused f room 3 0 (fault 14 0 0) r o
@@ -73,7 +70,7 @@ module _ (f : List ℕ) (size records : ℕ) (k : Ready f size records) where
     short = rw (le-ltb 16777216 (length (writtenBytes (k .dataset))) (omega (arith, form-long)))
 
     pub out-short : (room : ℕ) → room < size → (r : Answer) (o : List ℕ) → r ≡ record { number = 13; file = 3; rec = 0; length = 0; count = 0 } → o ≡ zeros room
-        → Answers f room r o
+        → Writes f room r o
     unfolding roomFor andThen
     out-short room h r o =
         answers-refused f room 3 0 (fault 13 0 0) r o
@@ -103,11 +100,11 @@ module _ (f : List ℕ) (size records : ℕ) (k : Ready f size records) where
         pub out-end : end ≤ length o
         out-end = omega (arith, end-is, form-long, wrote-length w)
 
-        pub out-done : (o′ : List ℕ) → o′ ≡ hold (length o) (take end o) → Answers f (length out) (record { number = 0; file = 0; rec = 0; length = end; count = records }) o′
+        pub out-done : (o′ : List ℕ) → o′ ≡ hold (length o) (take end o) → Writes f (length out) (record { number = 0; file = 0; rec = 0; length = end; count = records }) o′
         unfolding hold
         out-done o′ e =
             let front : take end o ≡ writtenBytes (k .dataset) = wrote-take w (omega (arith, form-long, ap length form-is)) ∙ form-is in
-            (rw (fits, end-is, k .counted), rw (fits, e, front, wrote-length w))
+            record { answers = rw (fits, end-is, k .counted); fills = rw (fits, e, front, wrote-length w) }
 
 pub ruleset out-ways = (out-long, out-short, out-room, out-end, out-done, arith)
 
@@ -116,11 +113,11 @@ pub ruleset out-ways = (out-long, out-short, out-room, out-end, out-done, arith)
 module _ (f : List ℕ) (a : Answer) (ea : a ≡ read f) where
   -- what the reader refuses
   pub answer-refused : (a .number ≡ 0 → ⊥) → (room : ℕ) (r : Answer) (o : List ℕ)
-      → r ≡ record { number = a .number; file = a .file; rec = a .rec; length = 0; count = 0 } → o ≡ zeros room → Answers f room r o
+      → r ≡ record { number = a .number; file = a .file; rec = a .rec; length = 0; count = 0 } → o ≡ zeros room → Writes f room r o
   unfolding read readAnswer writeOutcome andThen refusal success
   answer-refused z room r o er eo = go (readOutcome f) refl
     where
-      go : (c : Outcome Dataset) → readOutcome f ≡ c → Answers f room r o
+      go : (c : Outcome Dataset) → readOutcome f ≡ c → Writes f room r o
       go (done d) h = absurd (z (ap (λ (y : Answer). y .number) (ea ∙ ap readAnswer h)))
       go (refused file n x) h =
           let said = ap {B = Answer} (λ y. record { number = y .number; file = y .file; rec = y .rec; length = 0; count = 0 }) (ea ∙ ap readAnswer h) in
@@ -151,7 +148,7 @@ module _ (f : List ℕ) (a : Answer) (ea : a ≡ read f) where
           }
 
       pub answer-long : (n : ℕ) → m ≡ TooLong n → (room : ℕ) (r : Answer) (o : List ℕ) → r ≡ record { number = 12; file = 1; rec = n; length = 0; count = 0 }
-          → o ≡ zeros room → Answers f room r o
+          → o ≡ zeros room → Writes f room r o
       unfolding writeOutcome writable andThen
       answer-long n x room r o =
           let s = first-long 1 0 n (written (is-done .0)) (sym (ap (measuredFrom 1 0) forms-are) ∙ sym em ∙ x) in

@@ -16,7 +16,7 @@ ghost use Rattle.memory.specs.Hold.{zeros};
 ghost use Rattle.memory.specs.Wrote.{Wrote};
 ghost use Rattle.skeleton.specs.Emit.{emits};
 ghost use Rattle.rules.specs.Written.{fieldWidth};
-ghost use Rattle.rules.specs.Answers.{Output, write as theOutput};
+ghost use Rattle.promises.specs.Promise.{Writes};
 ghost use Rattle.writer.specs.Forms.{formsFrom, lengths};
 ghost use Rattle.writer.specs.Measured.{measuredFrom};
 ghost use Rattle.writer.specs.Ready.{Ready};
@@ -100,7 +100,7 @@ fn refuse(number: u8, file: u8, rec: usize, out: &mut [u8]) -> Answer
 // A file whose written form has so many bytes and records: numbers 14 and 13, then the written form and zeroes behind it.
 fn put_out(f: &[u8], size: usize, records: usize, out: &mut [u8]) -> Answer
     requires { ⌜ (length (now f) ≤ 16777216) × Ready (now f) size records ⌝ }
-    ensures { λ r. ⌜ (r ≡ (theOutput (now (f .entry)) (length (now (out .entry)))) .answer) × (now (out .exit) ≡ (theOutput (now (f .entry)) (length (now (out .entry)))) .out) ⌝ }
+    ensures { λ r. ⌜ Writes (now (f .entry)) (length (now (out .entry))) r (now (out .exit)) ⌝ }
 {
     if 16777216 < size {
         return refuse(14, 3, 0, out);
@@ -121,7 +121,7 @@ fn put_out(f: &[u8], size: usize, records: usize, out: &mut [u8]) -> Answer
 
 // Writes a dataset: the answer and every byte of the output are those of the rules, for any bytes and an output of any length.
 pub fn write(dataset: &[u8], out: &mut [u8]) -> Answer
-    ensures { λ r. ⌜ (r ≡ (theOutput (now (dataset .entry)) (length (now (out .entry)))) .answer) × (now (out .exit) ≡ (theOutput (now (dataset .entry)) (length (now (out .entry)))) .out) ⌝ }
+    ensures { λ r. ⌜ Writes (now (dataset .entry)) (length (now (out .entry))) r (now (out .exit)) ⌝ }
 {
     let a = read(dataset);
     if a.number != 0 {

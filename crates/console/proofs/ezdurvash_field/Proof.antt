@@ -23,10 +23,10 @@ same-length : tie.Need-same-length
 same-length c = search needs
 
 returns : tie.Need-returns
-returns c = field-found _ _ _ _ _ _ _ (c .before .before .before .before .before .tag .given .1) (c .before .before .before .before .before .before .before .field-of-record .ensures) (c .before .before .put-three .ensures)
+returns c = search field-found
 
 returns-2 : tie.Need-returns-2
-returns-2 c = field-none _ _ _ (c .enum-told .given .1) (c .before .before .field-of-record .ensures)
+returns-2 c = search field-none
 
 pub ezdurvash-field-spec : {M : Type 1} → statement M
 ezdurvash-field-spec =

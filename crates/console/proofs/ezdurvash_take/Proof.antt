@@ -1,5 +1,5 @@
 -- `ezdurvash_take` meets its contract. Assumes nothing.
-use Rattle.console.proofs.CabledLaws.{takes-so}
+use Rattle.console.proofs.CabledLaws.{says-take}
 use borrow.Author.Needs.{needs}
 use Rattle.console.proofs.ezdurvash_take.Statement.{statement}
 use Rattle.console.proofs.ezdurvash_take.Tie as tie
@@ -7,8 +7,8 @@ use Rattle.console.proofs.ezdurvash_take.Tie as tie
 take-requires : tie.Need-take-requires
 take-requires c κs = search needs
 
-put-answer-requires : tie.Need-put-answer-requires
-put-answer-requires c κs = search needs
+say-shown-requires : tie.Need-say-shown-requires
+say-shown-requires c κs = search needs
 
 same-length : tie.Need-same-length
 same-length c = search needs
@@ -22,17 +22,21 @@ same-length-3 c = search needs
 same-length-4 : tie.Need-same-length-4
 same-length-4 c = search needs
 
+same-length-5 : tie.Need-same-length-5
+same-length-5 c = search needs
+
 returns : tie.Need-returns
-returns c = search takes-so
+returns c = search says-take
 
 pub ezdurvash-take-spec : {M : Type 1} → statement M
 ezdurvash-take-spec =
     tie.close
     (tie.spec
     take-requires
-    put-answer-requires
+    say-shown-requires
     same-length
     same-length-2
     same-length-3
     same-length-4
+    same-length-5
     returns)

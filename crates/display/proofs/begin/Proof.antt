@@ -11,7 +11,7 @@ same-length : tie.Need-same-length
 same-length c = search needs
 
 returns : tie.Need-returns
-returns c = begun _ _ _ _ (c .before .before .write .ensures .0) (c .before .before .write .ensures .1)
+returns c = begun _ _ _ _ (c .before .before .write .ensures)
 
 pub begin-spec : {M : Type 1} → statement M
 begin-spec = tie.close (tie.spec write-requires same-length returns)

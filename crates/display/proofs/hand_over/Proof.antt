@@ -26,7 +26,9 @@ same-length-2 : tie.Need-same-length-2
 same-length-2 c = search needs
 
 returns : tie.Need-returns
-returns c = let x = c .before .before .before .before .update-tested .ensures in handed-front _ _ _ _ _ _ _ _ _ (c .before .before .before .before .before .before .before .before .held .ensures) (x .0) (x .1) (x .2)
+returns c =
+    let x = c .before .before .before .before in
+    handed-front _ _ _ _ _ _ _ _ _ (x .before .before .before .before .held .ensures) (x .update-tested .ensures)
 
 pub hand-over-spec : {M : Type 1} → statement M
 hand-over-spec =

@@ -22,10 +22,10 @@ list-requires : tie.Need-list-requires
 list-requires c κs = search needs
 
 array-share-prefix-out : tie.Need-array-share-prefix-out
-array-share-prefix-out c = text-fits _ _ _ _ (c .before .list .ensures .0)
+array-share-prefix-out c = text-fits _ _ _ _ (c .before .list .ensures)
 
 slice-aggregate-write-all : tie.Need-slice-aggregate-write-all
-slice-aggregate-write-all c = text-long _ _ _ _ (c .before .before .list .ensures .0)
+slice-aggregate-write-all c = text-long _ _ _ _ (c .before .before .list .ensures)
 
 write-all-requires : tie.Need-write-all-requires
 write-all-requires c κs = search needs

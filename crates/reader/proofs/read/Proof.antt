@@ -4,7 +4,7 @@ use Rattle.reader.proofs.read.Statement.{statement}
 use Rattle.reader.proofs.read.Tie as tie
 
 returns : tie.Need-returns
-returns c = search read-ways
+returns c = record { answers = search read-ways }
 
 first-three-requires : tie.Need-first-three-requires
 first-three-requires c κs = search needs
@@ -19,10 +19,10 @@ enum-known-k : tie.Need-enum-known-k
 enum-known-k c = search needs
 
 returns-2 : tie.Need-returns-2
-returns-2 c = search needs
+returns-2 c = record { answers = search needs }
 
 returns-3 : tie.Need-returns-3
-returns-3 c = search read-ways
+returns-3 c = record { answers = search read-ways }
 
 pub read-spec : {M : Type 1} → statement M
 read-spec =

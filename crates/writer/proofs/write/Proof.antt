@@ -18,7 +18,7 @@ returns c =
     let z = c .before .before in
     let t = z .before .before in
     let r = t .before .before in
-    answer-refused _ _ (r .read .ensures) (t .if1 .taken) _ _ _ (z .refuse .ensures .0) (z .refuse .ensures .1)
+    answer-refused _ _ (r .read .ensures .answers) (t .if1 .taken) _ _ _ (z .refuse .ensures .0) (z .refuse .ensures .1)
 
 measure-requires : tie.Need-measure-requires
 measure-requires c κs = search answer-small
@@ -32,7 +32,7 @@ put-out-requires c κs =
     let t = m .before in
     let r = t .before .before in
     let g = r .before .before in
-    (search answer-small, answer-ready _ _ (r .read .ensures) (t .if1 .left) (λ k. omega (arith, g .shared-slice-known .given k)) _ (m .measure .ensures) _ (search needs))
+    (search answer-small, answer-ready _ _ (r .read .ensures .answers) (t .if1 .left) (λ k. omega (arith, g .shared-slice-known .given k)) _ (m .measure .ensures) _ (search needs))
 
 enum-known-n : tie.Need-enum-known-n
 enum-known-n c = search needs
@@ -56,7 +56,7 @@ returns-3 c =
     let t = m .before in
     let r = t .before .before in
     let g = r .before .before in
-    answer-long _ _ (r .read .ensures) (t .if1 .left) (λ k. omega (arith, g .shared-slice-known .given k)) _ (m .measure .ensures) _ (f .before .before .before .n .given .1) _ _ _ (f .refuse2 .ensures .0)
+    answer-long _ _ (r .read .ensures .answers) (t .if1 .left) (λ k. omega (arith, g .shared-slice-known .given k)) _ (m .measure .ensures) _ (f .before .before .before .n .given .1) _ _ _ (f .refuse2 .ensures .0)
     (f .refuse2 .ensures .1)
 
 pub write-spec : {M : Type 1} → statement M

@@ -175,7 +175,7 @@ module _ {M : Type 1} (𝓤 : URA M) (H : Heap 𝓤) (A : Atoms 𝓤) (W : Given
       nothing ! $ move ! (1 ∷ 0 ∷ []) $ fjoin ! $ move ! (2 ∷ 0 ∷ []) $ use2 W (raw (Start 𝓤 H A mem run .pre to-start)) (qed W (tok ∷ ‵ (owns (ShrSlice (named 0) κ u8 ∷ []) (s, tt) (v ∷ [], tt)) ∷ []) ∵ join ! $ frame ! $ done !) $ frame ! $ done !
 
   abbrev Started : Fields → Type 0
-  Started f = (f .rec ≡ s) × (f .at ≡ 24)
+  Started f = f ≡ record { rec = s; at = 24 }
 
   start-said : (f : Fields) → ent 𝓤 (ensured 𝓤 H A start.ended (start.clauses 𝓤 H A mem run) (κ, tt) (s, tt) tt f) (fact 𝓤 (Started f))
   start-said f = exE 𝓤 _ (λ ws. snd∗ 𝓤 (sem 𝓤 H A (lasts start.ended (κ, tt) (s, tt) ws)) (fact 𝓤 (Started f)))
@@ -208,7 +208,7 @@ module _ {M : Type 1} (𝓤 : URA M) (H : Heap 𝓤) (A : Atoms 𝓤) (W : Given
   goes-next f u = qed W (‵ (OwnF f u) ∷ tok ∷ []) ∵ nothing ! $ move ! (1 ∷ 0 ∷ []) $ fjoin ! $ move ! (1 ∷ 0 ∷ []) $ join ! $ frame ! $ done !
 
   abbrev Moved : Fields → Fields → Type 0
-  Moved f g = (g .rec ≡ f .rec) × (g .at ≡ nextHere (now (f .rec)) (f .at))
+  Moved f g = g ≡ record { rec = f .rec; at = nextHere (now (f .rec)) (f .at) }
 
   next-said : (f g : Fields) → ent 𝓤 (ensured 𝓤 H A next.ended (next.clauses 𝓤 H A mem run) (κ, tt) (f, tt) tt g) (fact 𝓤 (Moved f g))
   next-said f g = exE 𝓤 _ (λ ws. snd∗ 𝓤 (sem 𝓤 H A (lasts next.ended (κ, tt) (f, tt) ws)) (fact 𝓤 (Moved f g)))
@@ -257,7 +257,7 @@ module _ {M : Type 1} (𝓤 : URA M) (H : Heap 𝓤) (A : Atoms 𝓤) (W : Given
   seen t p e = e ∙ ap (λ (x : RefT (List ℕ)). fieldHere (now x) (t .f .at)) (t .over)
 
   there : (t : At) (g : Fields) → Moved (t .f) g → g .at ≡ nextHere (now s) (t .f .at)
-  there t g m = m .1 ∙ ap (λ (x : RefT (List ℕ)). nextHere (now x) (t .f .at)) (t .over)
+  there t g m = ap (λ (x : Fields). x .at) m ∙ ap (λ (x : RefT (List ℕ)). nextHere (now x) (t .f .at)) (t .over)
 
   -- the search goes on past the field where the reader stands
   abbrev Passing : At → Type 0
@@ -271,7 +271,7 @@ module _ {M : Type 1} (𝓤 : URA M) (H : Heap 𝓤) (A : Atoms 𝓤) (W : Given
     f = g;
     u = y;
     is = is;
-    over = m .0 ∙ t .over;
+    over = ap (λ (x : Fields). x .rec) m ∙ t .over;
     left = k;
     fits = gk;
     same =
@@ -287,10 +287,10 @@ module _ {M : Type 1} (𝓤 : URA M) (H : Heap 𝓤) (A : Atoms 𝓤) (W : Given
     f = f;
     u = u;
     is = is;
-    over = e .0;
+    over = ap (λ (x : Fields). x .rec) e;
     left = n;
     fits = gn;
-    same = ap (λ (i : ℕ). foundOf (numbered n (passedFrom (now s) i))) (e .1) ∙ from-start (now s) n;
+    same = ap (λ (i : ℕ). foundOf (numbered n (passedFrom (now s) i))) (ap (λ (x : Fields). x .at) e) ∙ from-start (now s) n;
   }
 
   -- what is answered where the search ends

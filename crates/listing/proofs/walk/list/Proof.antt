@@ -1,4 +1,4 @@
-use Rattle.listing.proofs.TableLaws.{list-none, list-all, list-longest}
+use Rattle.listing.proofs.TableLaws.{list-none, list-all}
 use borrow.Author.Needs.{needs}
 use Rattle.listing.proofs.walk.list.Statement.{statement}
 use Rattle.listing.proofs.walk.list.Tie as tie
@@ -13,7 +13,7 @@ same-length : tie.Need-same-length
 same-length c = search needs
 
 returns : tie.Need-returns
-returns c = (list-none _ _ _ _ (c .before .before .before .before .before .before .before .put-listing .ensures) (search needs) _ (c .before .before .zero .ensures), list-longest _ _ _ _ (c .before .before .before .before .before .before .before .put-listing .ensures))
+returns c = list-none _ _ _ _ (c .before .before .before .before .before .before .before .put-listing .ensures) (search needs) _ (c .before .before .zero .ensures)
 
 zero-from-requires : tie.Need-zero-from-requires
 zero-from-requires c κs = search needs
@@ -22,7 +22,7 @@ same-length-2 : tie.Need-same-length-2
 same-length-2 c = search needs
 
 returns-2 : tie.Need-returns-2
-returns-2 c = (list-all _ _ _ _ (c .before .before .before .before .before .before .before .put-listing .ensures) (search needs) _ (c .before .before .zero-from .ensures), list-longest _ _ _ _ (c .before .before .before .before .before .before .before .put-listing .ensures))
+returns-2 c = list-all _ _ _ _ (c .before .before .before .before .before .before .before .put-listing .ensures) (search needs) _ (c .before .before .zero-from .ensures)
 
 pub list-spec : {M : Type 1} → statement M
 list-spec =

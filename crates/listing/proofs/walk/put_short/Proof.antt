@@ -19,10 +19,10 @@ same-length : tie.Need-same-length
 same-length c = search needs
 
 returns : tie.Need-returns
-returns c = short-refused _ (c .before .before .before .before .before .before .before .before .before .before .before .pre) _ (c .before .before .before .before .before .before .before .before .read .ensures) (search needs) _ _ _ (c .before .before .put-refusal .ensures)
+returns c = short-refused _ (c .before .before .before .before .before .before .before .before .before .before .before .pre) _ (c .before .before .before .before .before .before .before .before .read .ensures .answers) (search needs) _ _ _ (c .before .before .put-refusal .ensures)
 
 put-table-requires : tie.Need-put-table-requires
-put-table-requires c κs = (c .before .before .before .before .before .before .pre, short-count _ (c .before .before .before .before .before .before .pre) _ (c .before .before .before .read .ensures), short-some _ (c .before .before .before .before .before .before .pre) _ (c .before .before .before .read .ensures) (search needs))
+put-table-requires c κs = (c .before .before .before .before .before .before .pre, short-count _ (c .before .before .before .before .before .before .pre) _ (c .before .before .before .read .ensures .answers), short-some _ (c .before .before .before .before .before .before .pre) _ (c .before .before .before .read .ensures .answers) (search needs))
 
 same-length-2 : tie.Need-same-length-2
 same-length-2 c = search needs
