@@ -69,11 +69,11 @@ static const char *replied_one(const struct framed *one) {
 
 /* The chart fills the first pool. */
 static void take_called(const struct framed *one, byte *first, byte *second, byte *work) {
-    word answer[EZDURVASH_NUMBERS];
-    word length = ezdurvash_take(0, one->first_length, first, one->first_length, second, one->out_length, one->second, one->second_length,
-                                 work, one->work_length, answer, EZDURVASH_NUMBERS);
+    word answer[EZDURVASH_NUMBERS], chart[EZDURVASH_CHART];
+    ezdurvash_take(0, one->first_length, first, one->first_length, second, one->out_length, one->second, one->second_length, work,
+                   one->work_length, answer, EZDURVASH_NUMBERS, chart, EZDURVASH_CHART);
     print_words(answer, hash(second, one->out_length), all_zero(work, one->work_length));
-    printf(" %lu\n", length);
+    printf(" %lu\n", chart[EZDURVASH_CHART_LENGTH]);
 }
 
 static const char *taken_one(const struct framed *one) {

@@ -44,9 +44,9 @@ static void applies_one_by_one(void *at) {
     for (outcome->applied = 0; outcome->applied < UPDATES; outcome->applied++) {
         const struct invented *update = desk->updates + outcome->applied;
         word from = outcome->applied % 2;
-        ezdurvash_update(pools[from], length, update->bytes, update->length, pools[1 - from], EZDURVASH_LONGEST, work,
-                         EZDURVASH_WORKSPACE, outcome->answer, EZDURVASH_NUMBERS);
-        if (outcome->answer[EZDURVASH_NUMBER] != 0) return;
+        word number = ezdurvash_update(pools[from], length, update->bytes, update->length, pools[1 - from], EZDURVASH_LONGEST, work,
+                                       EZDURVASH_WORKSPACE, outcome->answer, EZDURVASH_NUMBERS);
+        if (number != 0) return;
         length = outcome->answer[EZDURVASH_LENGTH];
     }
 }

@@ -40,7 +40,7 @@ int write_chart(const char *path, const char *to) {
     struct file chart;
     word answer[EZDURVASH_NUMBERS];
     if (!loaded(path, &chart) || !leads_elsewhere(to, &chart, "dataset")) return TROUBLE;
-    ezdurvash_write(chart.bytes, chart.length, out, EZDURVASH_LONGEST, answer, EZDURVASH_NUMBERS);
-    if (answer[EZDURVASH_NUMBER] == 0 && !saved(to, out, answer[EZDURVASH_LENGTH])) return TROUBLE;
+    word number = ezdurvash_write(chart.bytes, chart.length, out, EZDURVASH_LONGEST, answer, EZDURVASH_NUMBERS);
+    if (number == 0 && !saved(to, out, answer[EZDURVASH_LENGTH])) return TROUBLE;
     return said(answer, 1);
 }

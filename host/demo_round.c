@@ -15,7 +15,7 @@ static void furnished(struct show *show, word round) {
     int early = 2 * round <= show->rounds;
     for (word d = 0; d < DISPLAYS; d++) {
         struct display *display = &show->displays[d];
-        display->room = early && (d == 3 || d == 7) ? display->length - 1 : show->master.room;
+        display->room = early && (d == 3 || d == 7) ? display->chart[EZDURVASH_CHART_LENGTH] - 1 : show->master.room;
         display->work = early && d == 10 ? EZDURVASH_WORKSPACE - 1 : EZDURVASH_WORKSPACE;
     }
 }
@@ -49,8 +49,7 @@ static void answers(struct show *show, const struct parcel *holding, word round,
 
 static void takes(struct show *show, const struct parcel *answer, struct seen *seen) {
     word numbers[EZDURVASH_NUMBERS];
-    took(&show->displays[answer->display], answer->bytes, answer->length, numbers);
-    noted(seen, answer, TAKEN, numbers[EZDURVASH_NUMBER]);
+    noted(seen, answer, TAKEN, took(&show->displays[answer->display], answer->bytes, answer->length, numbers));
 }
 
 /* All that a display has part in. Displays know nothing of each other, and the shelf stays as it is for a round: so one goes after the other. */

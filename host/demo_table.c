@@ -43,7 +43,7 @@ void show_display(const struct show *show, word d, const struct seen *seen) {
     const struct display *display = &show->displays[d];
     char bytes[DIGITS];
     printf("%8lu %7lu %s%7lu%s %11s  %06lx  ", d + 1, seen->told, tint(show, BOLD), shown_number(display), tint(show, PLAIN),
-           counted(display->length, bytes), shown_hash(display) >> 40);
+           counted(display->chart[EZDURVASH_CHART_LENGTH], bytes), shown_hash(display) >> 40);
     for (word i = 0; i < seen->count; i++) {
         if (i > 0) printf("%46s", "");
         show_outcome(show, seen->outcomes + i);

@@ -8,19 +8,19 @@
 
 struct display {
     byte *pools[2];
-    word place, length; /* which pool holds the chart, and how long that is */
-    word room, work;    /* what it lends for a result: so much of the other pool, and a workspace */
+    word chart[EZDURVASH_CHART]; /* which pool holds the chart, and how long that is */
+    word room, work;             /* what it lends for a result: so much of the other pool, and a workspace */
 };
 
-/* A display that holds the written form of a dataset; the answer says whether it does. */
-void started(struct display *display, const struct file *dataset, word answer[EZDURVASH_NUMBERS]);
+/* A display that holds the written form of a dataset; the number of the refusal, 0 for done. */
+word started(struct display *display, const struct file *dataset, word answer[EZDURVASH_NUMBERS]);
 
 /* A display that holds the same chart as another in pools of its own. */
 void equipped(struct display *display, const struct display *other);
 
-/* Hands a display an update, and a parcel with one. */
-void handed(struct display *display, const struct file *update, word answer[EZDURVASH_NUMBERS]);
-void took(struct display *display, const byte *parcel, word length, word answer[EZDURVASH_NUMBERS]);
+/* Hands a display an update, and a parcel with one; the number of the refusal, 0 for done. */
+word handed(struct display *display, const struct file *update, word answer[EZDURVASH_NUMBERS]);
+word took(struct display *display, const byte *parcel, word length, word answer[EZDURVASH_NUMBERS]);
 
 /* Tells what a display holds; the holding's length. */
 word told(const struct display *display, byte holding[EZDURVASH_HOLDING_LONGEST]);

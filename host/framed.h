@@ -27,7 +27,7 @@ void print_words(const word answer[EZDURVASH_NUMBERS], word out_hash, int work_i
 void print_line(const word answer[EZDURVASH_NUMBERS], word out_hash, int work_is_zero);
 
 /* Answers a case with a line, by a function that makes an output of the first part; or says what is in the way. */
-typedef void making(const byte *given, word given_length, byte *out, word out_length, word *answer, word answer_length);
+typedef word making(const byte *given, word given_length, byte *out, word out_length, word *answer, word answer_length);
 const char *made_one(const struct framed *one, making *makes);
 
 /* The same by a call with two pools, the first filled with the first part, the second the output, and a workspace; it prints the line. */

@@ -5,11 +5,10 @@
 
 int begun(struct master *master, struct display *displays, word count) {
     word answer[EZDURVASH_NUMBERS];
-    started(&master->display, &master->dataset, answer);
-    if (answer[EZDURVASH_NUMBER] != 0) return said(answer, 1);
+    if (started(&master->display, &master->dataset, answer) != 0) return said(answer, 1);
     master->first = shown_number(&master->display);
     master->hashes[0] = shown_hash(&master->display);
-    master->room = master->display.length;
+    master->room = master->display.chart[EZDURVASH_CHART_LENGTH];
     for (word d = 0; d < count; d++) equipped(&displays[d], &master->display);
     return DONE;
 }
@@ -17,13 +16,13 @@ int begun(struct master *master, struct display *displays, word count) {
 int rehearsed(struct master *master) {
     word answer[EZDURVASH_NUMBERS];
     for (word n = 0; n < master->count; n++) {
-        handed(&master->display, &master->updates[n], answer);
-        if (answer[EZDURVASH_NUMBER] != 0) {
+        if (handed(&master->display, &master->updates[n], answer) != 0) {
             printf("the master cannot take update file %lu: ", n + 1);
             return said(answer, 1);
         }
         master->hashes[n + 1] = shown_hash(&master->display);
-        if (master->display.length > master->room) master->room = master->display.length;
+        word length = master->display.chart[EZDURVASH_CHART_LENGTH];
+        if (length > master->room) master->room = length;
     }
     return DONE;
 }
@@ -50,8 +49,9 @@ void published(struct master *master, word count) {
 
 byte *answered(const struct master *master, const byte *holding, word holding_length, word *length) {
     word answer[EZDURVASH_NUMBERS], result[EZDURVASH_REPLY];
-    ezdurvash_reply(holding, holding_length, master->shelf, master->shelf_length, answer, EZDURVASH_NUMBERS, result, EZDURVASH_REPLY);
-    if (answer[EZDURVASH_NUMBER] != 0) exit(trouble("the master cannot answer", meaning(answer[EZDURVASH_NUMBER])));
+    word number = ezdurvash_reply(holding, holding_length, master->shelf, master->shelf_length, answer, EZDURVASH_NUMBERS, result,
+                                  EZDURVASH_REPLY);
+    if (number != 0) exit(trouble("the master cannot answer", meaning(number)));
     *length = result[EZDURVASH_PARCEL_LENGTH];
     return result[EZDURVASH_FOUND] ? master->shelf + result[EZDURVASH_START] : 0;
 }

@@ -20,8 +20,8 @@ int tell_holding(const char *path, const char *to) {
     struct file chart;
     word answer[EZDURVASH_NUMBERS];
     if (!loaded(path, &chart) || !leads_elsewhere(to, &chart, "dataset")) return TROUBLE;
-    ezdurvash_tell(chart.bytes, chart.length, holding, EZDURVASH_HOLDING_LONGEST, answer, EZDURVASH_NUMBERS);
-    if (answer[EZDURVASH_NUMBER] != 0) return said(answer, 1);
+    if (ezdurvash_tell(chart.bytes, chart.length, holding, EZDURVASH_HOLDING_LONGEST, answer, EZDURVASH_NUMBERS) != 0)
+        return said(answer, 1);
     if (!saved(to, holding, answer[EZDURVASH_LENGTH])) return TROUBLE;
     say_holding(holding, answer[EZDURVASH_LENGTH]);
     return DONE;
@@ -44,8 +44,9 @@ int reply_parcel(const char *told, const char *kept, const char *to) {
     char start[DIGITS], bytes[DIGITS];
     if (!loaded(told, &holding) || !loaded(kept, &shelf)) return TROUBLE;
     if (!leads_elsewhere(to, &holding, "holding") || !leads_elsewhere(to, &shelf, "shelf")) return TROUBLE;
-    ezdurvash_reply(holding.bytes, holding.length, shelf.bytes, shelf.length, answer, EZDURVASH_NUMBERS, result, EZDURVASH_REPLY);
-    if (answer[EZDURVASH_NUMBER] != 0) return said(answer, 1);
+    word number = ezdurvash_reply(holding.bytes, holding.length, shelf.bytes, shelf.length, answer, EZDURVASH_NUMBERS, result,
+                                  EZDURVASH_REPLY);
+    if (number != 0) return said(answer, 1);
     if (!result[EZDURVASH_FOUND]) {
         printf("silence: nothing on the shelf follows the holding\n");
         return DONE;
@@ -59,11 +60,12 @@ int reply_parcel(const char *told, const char *kept, const char *to) {
 int take_parcel(const char *path, const char *given, const char *to) {
     static byte second[EZDURVASH_LONGEST], work[EZDURVASH_WORKSPACE];
     struct file chart, parcel;
-    word answer[EZDURVASH_NUMBERS];
+    word answer[EZDURVASH_NUMBERS], stands[EZDURVASH_CHART];
     if (!loaded(path, &chart) || !loaded(given, &parcel)) return TROUBLE;
     if (!leads_elsewhere(to, &chart, "dataset") || !leads_elsewhere(to, &parcel, "parcel")) return TROUBLE;
-    word length = ezdurvash_take(0, chart.length, chart.bytes, chart.length, second, EZDURVASH_LONGEST, parcel.bytes, parcel.length, work,
-                                 EZDURVASH_WORKSPACE, answer, EZDURVASH_NUMBERS);
-    if (answer[EZDURVASH_NUMBER] == 0 && !saved(to, second, length)) return TROUBLE;
+    word number = ezdurvash_take(0, chart.length, chart.bytes, chart.length, second, EZDURVASH_LONGEST, parcel.bytes, parcel.length, work,
+                                 EZDURVASH_WORKSPACE, answer, EZDURVASH_NUMBERS, stands, EZDURVASH_CHART);
+    const byte *pools[2] = {chart.bytes, second};
+    if (number == 0 && !saved(to, pools[stands[EZDURVASH_PLACE]], stands[EZDURVASH_CHART_LENGTH])) return TROUBLE;
     return said(answer, 1);
 }
