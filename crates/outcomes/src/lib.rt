@@ -1,0 +1,1 @@
+// What contracts determine: laws only.
