@@ -1,8 +1,9 @@
 #!/usr/bin/env python3
 """Tests that the contract of every public function gives its whole outcome, or is known not to: its result, and every slice that it is lent for
-writing. A contract gives them by equations with the outcome on the left, or by a relation of the table of relations in docs/PROMISES.md, which has
-a law that the outcome is the only one. Every other function is in the table of functions there, with what is left open and why. Exit 1, with
-their names, for functions in neither, for names on the page that are no relation, law or function, and for functions there that leave nothing open.
+writing. A contract gives them by equations with the outcome on the left, or by a relation of the table of relations in docs/PROMISES.md, which has a
+law that the outcome is the only one; a function of that table may stand around the outcome on the left, and has a law that no two have the same
+value. Every other function is in the table of functions there, with what is left open and why. Exit 1, with their names, for functions in neither,
+for names on the page that are no relation, law or function, and for functions there that leave nothing open.
 
     tools/contracts.py            the test
     tools/contracts.py --open     the functions whose contract leaves something open, and what
@@ -133,21 +134,25 @@ def mentioned(text, outcomes):
     return {one for one in outcomes if re.search(rf"(?<![\w·.]){re.escape(one)}(?![\w·])", text)}
 
 
-def given_by_equation(conjunct, open_ones):
-    """The left side of an equation whose right side speaks of no open outcome; of a case of an enum on the left, what it carries."""
-    sides = parts(conjunct, "≡")
-    if len(sides) != 2 or mentioned(sides[1], open_ones):
-        return set()
-    return {bare(re.sub(r"^[A-Z]\w* (?=\w+$)", "", bare(sides[0])))}
-
-
-def given_by_relation(conjunct, relations, known, open_ones):
-    """The arguments of a relation of the table that it determines, where all others speak of no open outcome."""
-    head, *given = arguments(conjunct)
+def given_by_relation(fact, relations, known, open_ones):
+    """The arguments that a relation of the table determines, where all others speak of no open outcome."""
+    head, *given = arguments(fact)
     pattern = relations.get(known.get(head), [])
     if len(pattern) != len(given) or any(mark == "_" and mentioned(one, open_ones) for mark, one in zip(pattern, given)):
         return set()
     return {one for mark, one in zip(pattern, given) if mark != "_"}
+
+
+def given_by(conjunct, relations, known, open_ones):
+    """What a conjunct gives. An equation whose right side speaks of no open outcome gives its left side; of a case of an enum there, and of a
+    function that is in the table, what it is applied to."""
+    sides = parts(conjunct, "≡")
+    if len(sides) == 1:
+        return given_by_relation(conjunct, relations, known, open_ones)
+    if len(sides) > 2 or mentioned(sides[1], open_ones):
+        return set()
+    left = bare(sides[0])
+    return {re.sub(r"^[A-Z]\w* (?=\w+$)", "", left)} | given_by_relation(left, relations, known, open_ones)
 
 
 def left_open(one, relations, fields):
@@ -157,7 +162,7 @@ def left_open(one, relations, fields):
     while True:
         for conjunct in one.conjuncts:
             if len(parts(conjunct, "→")) == 1:
-                given |= given_by_equation(conjunct, still) | given_by_relation(conjunct, relations, one.known, still)
+                given |= given_by(conjunct, relations, one.known, still)
         if of_struct and of_struct <= given:
             given.add(RESULT)
         if not still & given:
@@ -190,23 +195,32 @@ def functions_listed():
 
 # ---- the test
 
-def declared(paths, form):
-    """The names that some antt files declare."""
-    return {name for path in paths if path.exists() for name in re.findall(form, path.read_text(), re.M)}
+def laws():
+    """What each law says, of those that have one name together."""
+    found = {}
+    for path in ROOT.glob("crates/*/proofs/**/*.antt"):
+        for _, name, says in re.findall(r"^( *)pub (\S+) :(.*\n(?:\1 +.*\n)*)", path.read_text(), re.M):
+            found[name] = found.get(name, "") + says
+    return found
+
+
+def is_relation(name):
+    crate, module, short = re.fullmatch(r"(\w+)/([\w.]+)\.(\w+)", name).groups()
+    specs = ROOT / "crates" / crate / "specs" / f"{module.replace('.', '/')}.antt"
+    return specs.exists() and re.search(rf"^ *(?:unfoldable |abbrev )?pub (?:data |record )?{short}\b", specs.read_text(), re.M)
 
 
 def faults_of_relations():
-    laws = declared(ROOT.glob("crates/*/proofs/**/*.antt"), r"^ *pub (\S+) :")
+    """What is wrong in the table of relations; a law that two outcomes are equal speaks of the relation twice."""
+    known = laws()
     for name, _, cited in relations_listed():
-        crate, module, short = re.fullmatch(r"(\w+)/([\w.]+)\.(\w+)", name).groups()
-        specs = ROOT / "crates" / crate / "specs" / f"{module.replace('.', '/')}.antt"
-        if short not in declared([specs], r"^ *(?:unfoldable |abbrev )?pub (?:data |record )?(\S+)"):
+        if not is_relation(name):
             yield f"{PAGE.name}: {name} is no relation"
         if not cited:
             yield f"{PAGE.name}: {name} has no law"
         for law in cited:
-            if law not in laws:
-                yield f"{PAGE.name}: {law} is no law"
+            if len(re.findall(rf"\b{name.rsplit('.', 1)[1]}\b", known.get(law, ""))) < 2:
+                yield f"{PAGE.name}: {law} is no law of two outcomes of {name}"
 
 
 def faults_of_functions(opened):
