@@ -1,7 +1,7 @@
 -- Room decides 13 and 15 and nothing else. Assumes nothing.
 use Prim.Native.Nat.{ℕ, _-_, _≤_, _<_}
 use mathlib.Core.Path.{_≡_, refl, sym, ap, _∙_}
-use mathlib.Core.Bool.{true, false}
+use mathlib.Core.Bool.{false}
 use mathlib.Core.List.{List}
 use borrow.Author.Tests.{lt-ltb, le-ltb}
 use lib.ListN.{length, replicate}
@@ -16,10 +16,12 @@ use Rattle.rules.specs.Update.{updated}
 use Rattle.rules.specs.Answers.{refusal, success, Written, notTooLong, roomFor, outputOf, enoughWork, updateOutcome, update}
 use Rattle.rules.proofs.OutcomeLaws.{andThen-assoc}
 use Rattle.rules.proofs.ReadOnce.{clash}
-use Rattle.numbers.specs.Fair.{fair, FairOutcome, fair-done, fair-refused}
-use Rattle.numbers.proofs.Checks.{fair-then}
-use Rattle.numbers.proofs.Answers.{not-zero}
-use Rattle.numbers.proofs.Files.{fair-read, fair-sent, fair-writable, fair-length, fair-updated}
+use Rattle.numbers.specs.Refusals.{isIn, byFile, ofRules}
+use Rattle.numbers.specs.Limited.{LimitedOutcome, limited-done, limited-refused}
+use Rattle.numbers.specs.Fair.{fair}
+use Rattle.numbers.proofs.Lists.{eachPasses, allIn, rules-fair, not-zero}
+use Rattle.numbers.proofs.Checks.{limited-then}
+use Rattle.numbers.proofs.Files.{limited-read, limited-sent, limited-writable, limited-length, limited-updated}
 use Rattle.sequence.proofs.Tests.{by-bool}
 use Rattle.updates.proofs.Streams.{alike}
 use Rattle.displays.specs.Display.{Handed, taken, after, ruled, inRoom, roomed}
@@ -43,16 +45,16 @@ room-decides room work c f =
     ∙ sym (andThen-assoc (notTooLong 1 c) _ _))
 
 -- the rules alone never refuse with 0, 13 or 15
-pub ruled-fair : (c f : List ℕ) → FairOutcome (ruled c f)
-unfolding ruled
-ruled-fair c f =
-    fair-then _ _ (fair-length 1 c) (λ _.
-    fair-then _ _ (fair-length 2 f) (λ _.
-    fair-then _ _ (fair-read c) (λ d.
-    fair-then _ _ (fair-writable d) (λ w.
-    fair-then _ _ (fair-sent f) (λ u.
-    fair-then _ _ (fair-updated w u) (λ r.
-    fair-then _ _ (fair-length 3 (writtenBytes r)) (λ _. fair-done)))))))
+pub ruled-limited : (c f : List ℕ) → LimitedOutcome ofRules (ruled c f)
+unfolding ruled ofRules byFile isIn allIn eachPasses
+ruled-limited c f =
+    limited-then _ _ (limited-length 1 refl c) (λ _.
+    limited-then _ _ (limited-length 2 refl f) (λ _.
+    limited-then _ _ (limited-read refl c) (λ d.
+    limited-then _ _ (limited-writable refl d) (λ w.
+    limited-then _ _ (limited-sent refl f) (λ u.
+    limited-then _ _ (limited-updated refl refl w u) (λ r.
+    limited-then _ _ (limited-length 3 refl (writtenBytes r)) (λ _. limited-done)))))))
 
 -- ---- the answers
 
@@ -75,14 +77,14 @@ module _ (room work : ℕ) (c f : List ℕ) where
 
   -- a number that is not fair, 0, 13 or 15, from a workspace that is long enough: the rules alone accept
   pub no-other : 400000 ≤ work → fair (((update c f room work) .answer) .number) ≡ false → (r : Dataset) × (ruled c f ≡ done r)
-  no-other g e = go (ruled c f) refl (ruled-fair c f)
+  no-other g e = go (ruled c f) refl (ruled-limited c f)
     where
       number-of : (file n : ℕ) (y : Fault) → ruled c f ≡ refused file n y → y .number ≡ ((update c f room work) .answer) .number
       number-of file n y x = unfold outputOf refusal in rw (answer-refused file n y x g)
 
-      go : (m : Outcome Dataset) → ruled c f ≡ m → FairOutcome m → (r : Dataset) × (ruled c f ≡ done r)
+      go : (m : Outcome Dataset) → ruled c f ≡ m → LimitedOutcome ofRules m → (r : Dataset) × (ruled c f ≡ done r)
       go (done r) x p = (r, x)
-      go (refused file n y) x (fair-refused q) = absurd (clash _ q (ap fair (number-of file n y x) ∙ e))
+      go (refused file n y) x (limited-refused q) = absurd (clash _ (rules-fair file (y .number) q) (ap fair (number-of file n y x) ∙ e))
 
 -- ---- what a display makes of them
 
@@ -102,21 +104,21 @@ pub data Turn (c : List ℕ) (h : Handed) : Type 0 where
   moves : (r : Dataset) → ruled c (h .file) ≡ done r → after c h ≡ writtenBytes r → Turn c h
 
 -- by what the rules say
-turn-by : (c : List ℕ) (h : Handed) (m : Outcome Dataset) → ruled c (h .file) ≡ m → FairOutcome m → Turn c h
+turn-by : (c : List ℕ) (h : Handed) (m : Outcome Dataset) → ruled c (h .file) ≡ m → LimitedOutcome ofRules m → Turn c h
 unfolding after update roomed inRoom enoughWork andThen
 turn-by c h m e p =
     by-bool (ltb (h .work) 400000)
     (λ l. stays (ap (λ (o : Outcome Written). taken c (outputOf (h .room) o)) (room-decides (h .room) (h .work) c (h .file) ∙ rw l) ∙ keeps c (h .room) 0 0 (fault 15 0 0) refl))
     (λ l. go m e p (λ o y. ap (λ (o : Outcome Written). taken c (outputOf (h .room) o)) (room-decides (h .room) (h .work) c (h .file) ∙ rw (l, y))))
   where
-    go : (m : Outcome Dataset) → ruled c (h .file) ≡ m → FairOutcome m
+    go : (m : Outcome Dataset) → ruled c (h .file) ≡ m → LimitedOutcome ofRules m
         → ((o : Outcome Dataset) → ruled c (h .file) ≡ o → after c h ≡ taken c (outputOf (h .room) (andThen o (λ r. inRoom (h .room) r)))) → Turn c h
-    go (refused file n x) e (fair-refused q) k = stays (k (refused file n x) e ∙ keeps c (h .room) file n x (not-zero (x .number) q))
-    go (done r) e fair-done k =
+    go (refused file n x) e (limited-refused q) k = stays (k (refused file n x) e ∙ keeps c (h .room) file n x (not-zero (x .number) (rules-fair file (x .number) q)))
+    go (done r) e limited-done k =
         by-bool (ltb (h .room) (length (writtenBytes r)))
         (λ l. stays (k (done r) e ∙ rw l (keeps c (h .room) 3 0 (fault 13 0 0) refl)))
         (λ l. moves r e (k (done r) e ∙ rw l (takes c (h .room) _)))
 
 -- any file
 pub turn : (c : List ℕ) (h : Handed) → Turn c h
-turn c h = turn-by c h (ruled c (h .file)) refl (ruled-fair c (h .file))
+turn c h = turn-by c h (ruled c (h .file)) refl (ruled-limited c (h .file))

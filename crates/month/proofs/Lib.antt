@@ -1,4 +1,5 @@
 pub mod FileLaws
+pub mod RefusalLaws
 pub mod OwnLaws
 pub mod TurnLaws
 pub mod JoinLaws

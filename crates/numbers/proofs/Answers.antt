@@ -1,100 +1,117 @@
--- Number 0 is for done alone. Assumes nothing.
+-- Every answer is done or refused with a number of its entry point, and number 0 is for done alone. Assumes nothing.
 use Prim.Native.Nat.{ℕ}
 use mathlib.Core.Path.{_≡_, refl, sym, ap, _∙_}
-use mathlib.Core.Bool.{Bool, true, false}
+use mathlib.Core.Bool.{true, false}
 use mathlib.Core.Logic.{_↔_}
 use mathlib.Core.List.{List}
-use native.Mathlib.Omega.{arith}
 use borrow.Author.Tests.{eqb-false}
 use lib.ListN.{length}
-use lib.Dec.{eqb, ltb}
-use Rattle.base.specs.Choice.{pick}
+use lib.Dec.{ltb}
 use Rattle.base.specs.declared.Fault.{Fault}
 use Rattle.rules.specs.Written.{Dataset, writtenBytes}
-use Rattle.rules.specs.Outcome.{Outcome, done, refused, andThen}
-use Rattle.rules.specs.Answers.{refusal, success, readOutcome, readAnswer, read, roomFor, outputOf, writeOutcome, write, enoughWork, updateOutcome, update}
-use Rattle.numbers.specs.Fair.{fair, FairOutcome, fair-done, fair-refused}
+use Rattle.rules.specs.Outcome.{Outcome, done, refused}
+use Rattle.rules.specs.Answers.{refusal, success, readOutcome, readAnswer, read, Written, roomFor, outputOf, writeOutcome, write, enoughWork, updateOutcome, update}
+use Rattle.rules.specs.declared.Answer.{Answer}
+use Rattle.numbers.specs.Refusals.{isIn, byFile, ofReader, ofWriter, ofUpdater, Answered, is-done, is-refused}
+use Rattle.numbers.specs.Limited.{LimitedOutcome, limited-done, limited-refused}
 use Rattle.numbers.specs.Zero.{Done, ZeroIsDone}
-use Rattle.numbers.proofs.Files.{fair-read, fair-sent, fair-writable, fair-length, fair-updated}
+use Rattle.numbers.proofs.Lists.{eachPasses, allIn, in-wider, in-nonzero, of-each-file}
+use Rattle.numbers.proofs.Checks.{limited-then, limited-choice}
+use Rattle.numbers.proofs.Files.{limited-read, limited-sent, limited-writable, limited-length, limited-updated}
 
--- an outcome that is done, or refused with another number than 0
-data Told {A : Type 0} : Outcome A → Type 0 where
-  told-done : {a : A} → Told (done a)
-  told-refused : {file n : ℕ} {x : Fault} → eqb (x .number) 0 ≡ false → Told (refused file n x)
-
--- a fair number is not 0
-pub not-zero : (n : ℕ) → fair n ≡ true → eqb n 0 ≡ false
-unfolding fair
-not-zero n e = go (eqb n 0) refl
-  where
-    go : (b : Bool) → eqb n 0 ≡ b → b ≡ false
-    go false h = refl
-    go true h = unfold fair in absurd (let y = rw h at e in let z : _≡_ {A = ℕ} 0 1 = cc in omega arith)
-
--- a fair outcome
-told-fair : {A : Type 0} (m : Outcome A) → FairOutcome m → Told m
-told-fair (done a) fair-done = told-done
-told-fair (refused file n x) (fair-refused e) = told-refused (not-zero (x .number) e)
-
--- one after the other
-told-then : {A B : Type 0} (m : Outcome A) (k : A → Outcome B) → Told m → ((a : A) → Told (k a)) → Told (andThen m k)
-unfolding andThen
-told-then (done a) k p q = q a
-told-then (refused file n x) k (told-refused e) q = told-refused e
-
--- a choice
-told-pick : {A : Type 0} (b : Bool) (x y : Outcome A) → Told x → Told y → Told (pick b x y)
-told-pick true x y p q = p
-told-pick false x y p q = q
+-- ---- what is found
 
 -- a result in an output slice
-told-room : (room : ℕ) (d : Dataset) → Told (roomFor room d)
+limited-room : {may : ℕ → List ℕ} → isIn 14 (may 3) ≡ true → isIn 13 (may 3) ≡ true → (room : ℕ) (d : Dataset) → LimitedOutcome may (roomFor room d)
 unfolding roomFor
-told-room room d = told-then _ _ (told-fair _ (fair-length 3 (writtenBytes d))) (λ _. told-pick (ltb room (length (writtenBytes d))) _ _ (told-refused refl) told-done)
+limited-room h g room d =
+    limited-then _ _ (limited-length 3 h (writtenBytes d)) (λ _. limited-choice (ltb room (length (writtenBytes d))) _ _ (limited-refused g) limited-done)
 
--- what the reader finds
-told-read : (f : List ℕ) → Told (readOutcome f)
-unfolding readOutcome
-told-read f = told-then _ _ (told-fair _ (fair-length 1 f)) (λ _. told-fair _ (fair-read f))
+-- by the reader
+limited-reader : (f : List ℕ) → LimitedOutcome ofReader (readOutcome f)
+unfolding readOutcome ofReader byFile isIn allIn eachPasses
+limited-reader f = limited-then _ _ (limited-length 1 refl f) (λ _. limited-read refl f)
 
--- what the writer finds
-told-write : (room : ℕ) (f : List ℕ) → Told (writeOutcome room f)
-unfolding writeOutcome
-told-write room f = told-then _ _ (told-read f) (λ d. told-then _ _ (told-fair _ (fair-writable d)) (λ w. told-room room w))
+-- by the writer
+limited-writer : (room : ℕ) (f : List ℕ) → LimitedOutcome ofWriter (writeOutcome room f)
+unfolding writeOutcome readOutcome ofWriter byFile isIn allIn eachPasses
+limited-writer room f =
+    limited-then _ _ (limited-then _ _ (limited-length 1 refl f) (λ _. limited-read refl f)) (λ d.
+    limited-then _ _ (limited-writable refl d) (λ w. limited-room refl refl room w))
 
--- a workspace
-told-work : (work : ℕ) → Told (enoughWork work)
-unfolding enoughWork
-told-work work = told-pick (ltb work 400000) _ _ (told-refused refl) told-done
+-- by the updater
+limited-updater : (room work : ℕ) (f u : List ℕ) → LimitedOutcome ofUpdater (updateOutcome room work f u)
+unfolding updateOutcome enoughWork ofUpdater byFile isIn allIn eachPasses
+limited-updater room work f u =
+    limited-then _ _ (limited-choice (ltb work 400000) _ _ (limited-refused refl) limited-done) (λ _.
+    limited-then _ _ (limited-length 1 refl f) (λ _.
+    limited-then _ _ (limited-length 2 refl u) (λ _.
+    limited-then _ _ (limited-read refl f) (λ d.
+    limited-then _ _ (limited-writable refl d) (λ w.
+    limited-then _ _ (limited-sent refl u) (λ s.
+    limited-then _ _ (limited-updated refl refl w s) (λ r. limited-room refl refl room r)))))))
 
--- what the updater finds
-told-update : (room work : ℕ) (f u : List ℕ) → Told (updateOutcome room work f u)
-unfolding updateOutcome
-told-update room work f u =
-    told-then _ _ (told-work work) (λ _.
-    told-then _ _ (told-fair _ (fair-length 1 f)) (λ _.
-    told-then _ _ (told-fair _ (fair-length 2 u)) (λ _.
-    told-then _ _ (told-fair _ (fair-read f)) (λ d.
-    told-then _ _ (told-fair _ (fair-writable d)) (λ w.
-    told-then _ _ (told-fair _ (fair-sent u)) (λ s.
-    told-then _ _ (told-fair _ (fair-updated w s)) (λ r. told-room room r)))))))
+-- ---- what is answered
+
+-- without an output
+read-of : {may : ℕ → List ℕ} (m : Outcome Dataset) → LimitedOutcome may m → Answered may (readAnswer m)
+unfolding readAnswer
+read-of (done d) p = is-done _ _
+read-of (refused file n x) (limited-refused e) = is-refused file n x e
+
+-- with one
+pub output-of : {may : ℕ → List ℕ} (room : ℕ) (m : Outcome Written) → LimitedOutcome may m → Answered may ((outputOf room m) .answer)
+unfolding outputOf
+output-of room (done w) p = is-done _ _
+output-of room (refused file n x) (limited-refused e) = is-refused file n x e
+
+pub read-answered : (f : List ℕ) → Answered ofReader (read f)
+unfolding read
+read-answered f = read-of (readOutcome f) (limited-reader f)
+
+pub write-answered : (f : List ℕ) (room : ℕ) → Answered ofWriter ((write f room) .answer)
+unfolding write
+write-answered f room = output-of room (writeOutcome room f) (limited-writer room f)
+
+pub update-answered : (f u : List ℕ) (room work : ℕ) → Answered ofUpdater ((update f u room work) .answer)
+unfolding update
+update-answered f u room work = output-of room (updateOutcome room work f u) (limited-updater room work f u)
+
+-- an answer that these lists allow is allowed by wider ones
+pub answered-wider : (none dataset sent result : List ℕ) (may : ℕ → List ℕ) → allIn none (may 0) ≡ true → allIn dataset (may 1) ≡ true → allIn sent (may 2) ≡ true
+    → allIn result (may 3) ≡ true → (x : Answer) → Answered (byFile none dataset sent result) x → Answered may x
+unfolding allIn eachPasses
+answered-wider none dataset sent result may a b c d _ (is-done length count) = is-done length count
+answered-wider none dataset sent result may a b c d _ (is-refused file n x e) =
+    is-refused file n x (in-wider (x .number) _ (may file) (of-each-file (λ f ns. allIn ns (may f) ≡ true) none dataset sent result a b c d (λ f. refl) file) e)
+
+-- ---- number 0
 
 -- the number that is answered of an outcome, where done is 0 and a refusal its own
 module _ {A : Type 0} (number : Outcome A → ℕ) (zero : (a : A) → number (done a) ≡ 0) (own : (file n : ℕ) (x : Fault) → number (refused file n x) ≡ x .number) where
   -- 0 where it is done, and nowhere else
-  zero-done : (m : Outcome A) → Told m → (number m ≡ 0) ↔ Done m
-  zero-done (done a) p = (λ e. (a, refl), λ d. zero a)
-  zero-done (refused file n x) (told-refused q) = (
-    λ e. absurd (eqb-false (x .number) 0 q (sym (own file n x) ∙ e)),
+  zero-done : (may : ℕ → List ℕ) → ((file : ℕ) → isIn 0 (may file) ≡ false) → (m : Outcome A) → LimitedOutcome may m → (number m ≡ 0) ↔ Done m
+  zero-done may h (done a) p = (λ e. (a, refl), λ d. zero a)
+  zero-done may h (refused file n x) (limited-refused q) = (
+    λ e. absurd (eqb-false (x .number) 0 (in-nonzero (x .number) (may file) (h file) q) (sym (own file n x) ∙ e)),
     λ d. ap number (d .1) ∙ zero (d .0),
   )
 
+-- no list has it
+pub no-zero : (none dataset sent result : List ℕ) → isIn 0 none ≡ false → isIn 0 dataset ≡ false → isIn 0 sent ≡ false → isIn 0 result ≡ false
+    → (file : ℕ) → isIn 0 (byFile none dataset sent result file) ≡ false
+unfolding isIn
+no-zero none dataset sent result a b c d file = of-each-file (λ f ns. isIn 0 ns ≡ false) none dataset sent result a b c d (λ f. refl) file
+
 -- so of each entry point
 pub zero-is-done : ZeroIsDone
-unfolding read readAnswer write update outputOf success refusal
+unfolding read readAnswer write update outputOf success refusal ofReader ofWriter ofUpdater isIn
 zero-is-done =
     record {
-      reads = λ f. zero-done (λ m. (readAnswer m) .number) (λ d. refl) (λ file n x. refl) (readOutcome f) (told-read f);
-      writes = λ f room. zero-done (λ m. ((outputOf room m) .answer) .number) (λ w. refl) (λ file n x. refl) (writeOutcome room f) (told-write room f);
-      updates = λ f u room work. zero-done (λ m. ((outputOf room m) .answer) .number) (λ w. refl) (λ file n x. refl) (updateOutcome room work f u) (told-update room work f u);
+      reads = λ f. zero-done (λ m. (readAnswer m) .number) (λ d. refl) (λ file n x. refl) ofReader (no-zero _ _ _ _ refl refl refl refl) (readOutcome f) (limited-reader f);
+      writes = λ f room.
+          zero-done (λ m. ((outputOf room m) .answer) .number) (λ w. refl) (λ file n x. refl) ofWriter (no-zero _ _ _ _ refl refl refl refl) (writeOutcome room f) (limited-writer room f);
+      updates = λ f u room work.
+          zero-done (λ m. ((outputOf room m) .answer) .number) (λ w. refl) (λ file n x. refl) ofUpdater (no-zero _ _ _ _ refl refl refl refl) (updateOutcome room work f u)
+          (limited-updater room work f u);
     }

@@ -1,6 +1,6 @@
--- How fair tests are put together. Assumes nothing.
+-- How tests and outcomes that refuse with certain numbers only are put together. Assumes nothing.
 use Prim.Native.Nat.{ℕ, _+_}
-use mathlib.Core.Path.{refl}
+use mathlib.Core.Path.{_≡_, refl}
 use mathlib.Core.Bool.{Bool, true, false}
 use mathlib.Core.List.{List, [], _∷_}
 use Rattle.base.specs.Choice.{pick}
@@ -8,66 +8,76 @@ use Rattle.base.specs.Check.{Check, ok, no, bind, inField, Passed, pass, passed
 use Rattle.base.specs.Keys.{same, among, join, leave}
 use Rattle.base.specs.Lists.{each}
 use Rattle.rules.specs.Outcome.{Outcome, done, refused, andThen, at, everyRecord}
-use Rattle.numbers.specs.Fair.{fair, FairCheck, fair-ok, fair-no, FairOutcome, fair-done, fair-refused}
+use Rattle.numbers.specs.Refusals.{isIn}
+use Rattle.numbers.specs.Limited.{LimitedCheck, limited-ok, limited-no, LimitedOutcome, limited-done, limited-refused}
+use Rattle.numbers.proofs.Lists.{allIn, in-wider}
 
 -- ---- checks
 
--- a choice
-pub fair-pick {ℓ} : {A : Type ℓ} (b : Bool) (x y : Check A) → FairCheck x → FairCheck y → FairCheck (pick b x y)
-fair-pick true x y p q = p
-fair-pick false x y p q = q
+-- more numbers
+pub limited-wider {ℓ} : {A : Type ℓ} (ns may : List ℕ) (m : Check A) → allIn ns may ≡ true → LimitedCheck ns m → LimitedCheck may m
+limited-wider ns may (ok a) h p = limited-ok
+limited-wider ns may (no x) h (limited-no e) = limited-no (in-wider (x .number) ns may h e)
 
--- one test after the other
-pub fair-bind {ℓ κ} : {A : Type ℓ} {B : Type κ} (m : Check A) (k : A → Check B) → FairCheck m → ((a : A) → FairCheck (k a)) → FairCheck (bind m k)
-unfolding bind
-fair-bind (ok a) k p q = q a
-fair-bind (no x) k (fair-no e) q = fair-no e
+module _ {may : List ℕ} where
+  -- a choice
+  pub limited-pick {ℓ} : {A : Type ℓ} (b : Bool) (x y : Check A) → LimitedCheck may x → LimitedCheck may y → LimitedCheck may (pick b x y)
+  limited-pick true x y p q = p
+  limited-pick false x y p q = q
 
--- a test in a field
-pub fair-field : {A : Type 0} (i : ℕ) (m : Check A) → FairCheck m → FairCheck (inField i m)
-unfolding inField
-fair-field i (ok a) p = fair-ok
-fair-field i (no x) (fair-no e) = fair-no e
+  -- one test after the other
+  pub limited-bind {ℓ κ} : {A : Type ℓ} {B : Type κ} (m : Check A) (k : A → Check B) → LimitedCheck may m → ((a : A) → LimitedCheck may (k a)) → LimitedCheck may (bind m k)
+  unfolding bind
+  limited-bind (ok a) k p q = q a
+  limited-bind (no x) k (limited-no e) q = limited-no e
 
--- a test of which only the refusal matters
-pub fair-passed : {A : Type 0} (m : Check A) → FairCheck m → FairCheck (passed m)
-unfolding passed
-fair-passed m p = fair-bind m (λ _. pass) p (λ _. fair-ok)
+  -- a test in a field
+  pub limited-field : {A : Type 0} (i : ℕ) (m : Check A) → LimitedCheck may m → LimitedCheck may (inField i m)
+  unfolding inField
+  limited-field i (ok a) p = limited-ok
+  limited-field i (no x) (limited-no e) = limited-no e
+
+  -- a test of which only the refusal matters
+  pub limited-passed : {A : Type 0} (m : Check A) → LimitedCheck may m → LimitedCheck may (passed m)
+  unfolding passed
+  limited-passed m p = limited-bind m (λ _. pass) p (λ _. limited-ok)
 
 -- ---- keys
 
 -- a thing joins
-pub fair-join : {A : Type 0} (key : A → List ℕ) (j : ℕ) (x : A) (xs : List A) → FairCheck (join key j x xs)
-unfolding join fair
-fair-join key j x xs = fair-pick (among (key x) (each key xs)) _ _ (fair-no refl) fair-ok
+pub limited-join : {A : Type 0} (key : A → List ℕ) (j : ℕ) (x : A) (xs : List A) → LimitedCheck (7 ∷ []) (join key j x xs)
+unfolding join isIn
+limited-join key j x xs = limited-pick (among (key x) (each key xs)) _ _ (limited-no refl) limited-ok
 
 -- a thing leaves
-pub fair-leave : {A : Type 0} (key : A → List ℕ) (j : ℕ) (k : List ℕ) (xs : List A) → FairCheck (leave key j k xs)
-unfolding leave fair
-fair-leave key j k [] = fair-no refl
-fair-leave key j k (x ∷ xs) = fair-pick (same (key x) k) _ _ fair-ok (fair-bind (leave key j k xs) _ (fair-leave key j k xs) (λ ys. fair-ok))
+pub limited-leave : {A : Type 0} (key : A → List ℕ) (j : ℕ) (k : List ℕ) (xs : List A) → LimitedCheck (9 ∷ []) (leave key j k xs)
+unfolding leave isIn
+limited-leave key j k [] = limited-no refl
+limited-leave key j k (x ∷ xs) = limited-pick (same (key x) k) _ _ limited-ok (limited-bind (leave key j k xs) _ (limited-leave key j k xs) (λ ys. limited-ok))
 
 -- ---- outcomes
 
--- one after the other
-pub fair-then : {A B : Type 0} (m : Outcome A) (k : A → Outcome B) → FairOutcome m → ((a : A) → FairOutcome (k a)) → FairOutcome (andThen m k)
-unfolding andThen
-fair-then (done a) k p q = q a
-fair-then (refused file n x) k (fair-refused e) q = fair-refused e
+module _ {may : ℕ → List ℕ} where
+  -- one after the other
+  pub limited-then : {A B : Type 0} (m : Outcome A) (k : A → Outcome B) → LimitedOutcome may m → ((a : A) → LimitedOutcome may (k a)) → LimitedOutcome may (andThen m k)
+  unfolding andThen
+  limited-then (done a) k p q = q a
+  limited-then (refused file n x) k (limited-refused e) q = limited-refused e
 
--- a choice
-pub fair-choice : {A : Type 0} (b : Bool) (x y : Outcome A) → FairOutcome x → FairOutcome y → FairOutcome (pick b x y)
-fair-choice true x y p q = p
-fair-choice false x y p q = q
+  -- a choice
+  pub limited-choice : {A : Type 0} (b : Bool) (x y : Outcome A) → LimitedOutcome may x → LimitedOutcome may y → LimitedOutcome may (pick b x y)
+  limited-choice true x y p q = p
+  limited-choice false x y p q = q
 
--- a test of a record
-pub fair-at : {A : Type 0} (file n : ℕ) (m : Check A) → FairCheck m → FairOutcome (at file n m)
-unfolding at
-fair-at file n (ok a) p = fair-done
-fair-at file n (no x) (fair-no e) = fair-refused e
+  module _ (ns : List ℕ) (file : ℕ) (listed : allIn ns (may file) ≡ true) where
+    -- a test of a record
+    pub limited-at : {A : Type 0} (n : ℕ) (m : Check A) → LimitedCheck ns m → LimitedOutcome may (at file n m)
+    unfolding at
+    limited-at n (ok a) p = limited-done
+    limited-at n (no x) (limited-no e) = limited-refused (in-wider (x .number) ns (may file) listed e)
 
--- the same test of record after record
-pub fair-every : {R : Type 0} (test : R → Passed) (file n : ℕ) (rs : List R) → ((r : R) → FairCheck (test r)) → FairOutcome (everyRecord test file n rs)
-unfolding everyRecord
-fair-every test file n [] p = fair-done
-fair-every test file n (r ∷ rs) p = fair-then (at file n (test r)) _ (fair-at file n (test r) (p r)) (λ _. fair-every test file (n + 1) rs p)
+    -- the same test of record after record
+    pub limited-every : {R : Type 0} (test : R → Passed) (n : ℕ) (rs : List R) → ((r : R) → LimitedCheck ns (test r)) → LimitedOutcome may (everyRecord test file n rs)
+    unfolding everyRecord
+    limited-every test n [] p = limited-done
+    limited-every test n (r ∷ rs) p = limited-then (at file n (test r)) _ (limited-at n (test r) (p r)) (λ _. limited-every test (n + 1) rs p)

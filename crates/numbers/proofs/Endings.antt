@@ -1,30 +1,40 @@
--- The skeleton's walk over a file ends well or fairly. Assumes nothing.
-use Prim.Native.Nat.{ℕ, zero, suc, _+_, _-_}
-use mathlib.Core.Path.{_≡_, refl}
+-- The skeleton's walk over a file ends well or with 1, 2 or 3. Assumes nothing.
+use Prim.Native.Nat.{ℕ, _+_, _-_, _<_}
+use mathlib.Core.Path.{_≡_, refl, sym, ap, _∙_}
 use mathlib.Core.Bool.{Bool, true, false, not}
-use mathlib.Core.List.{List, []}
+use mathlib.Core.List.{List, [], _∷_}
 use lib.ListN.{length, take, drop}
 use lib.Dec.{eqb, ltb}
 use Rattle.base.specs.Choice.{pick, either}
-use Rattle.base.specs.Walk.{Step, more, over, Got, follow, steps, walk}
+use Rattle.base.specs.Walk.{Step, more, over, Got, follow, walk, Lower}
+use Rattle.base.proofs.ChoiceLaws.{by-test}
+use Rattle.base.proofs.WalkLaws.{walk-step, by-measure}
 use Rattle.skeleton.specs.Digits.{numberAt}
 use Rattle.skeleton.specs.Leader.{shaped, template, within, statedOf, leaderOf}
 use Rattle.skeleton.specs.Directory.{Body, lies, ended, entryAt, stepBy, dirStep, fieldsFrom, fieldsOf}
-use Rattle.skeleton.specs.File.{stepDir, stepHead, fileStep, recordsFrom, recordsOf}
+use Rattle.skeleton.specs.File.{Field, stepDir, stepHead, fileStep, recordsFrom, recordsOf}
+use Rattle.skeleton.specs.Record.{withDirectory, recordAt}
 use Rattle.skeleton.specs.declared.leader.Head.{Head}
 use Rattle.skeleton.specs.declared.leader.Head.the-variants.{Good, Refused}
 use Rattle.skeleton.specs.declared.digits.Number.{Number}
 use Rattle.skeleton.specs.declared.digits.Number.the-variants.{Value, NotDigits}
 use Rattle.skeleton.specs.declared.directory.Entry.{Entry}
 use Rattle.skeleton.specs.declared.directory.Entry.the-variants.{Field as FieldAt, End, Bad}
-use Rattle.numbers.specs.Fair.{fair}
+use Rattle.skeleton.proofs.DirectoryLaws.{field-falls}
+use Rattle.skeleton.proofs.RecordLaws.{record-falls}
+use Rattle.numbers.specs.Refusals.{isIn}
 
--- a number that a walk may end with: 0, or a fair one
+-- a number that a walk may end with: 0, or one of the skeleton's
 unfoldable pub ends : ℕ → Bool
-ends e = either (eqb e 0) (fair e)
+ends e = either (eqb e 0) (isIn e (1 ∷ 2 ∷ 3 ∷ []))
+
+-- where it is not 0
+pub not-done : (e : ℕ) → eqb e 0 ≡ false → ends e ≡ true → isIn e (1 ∷ 2 ∷ 3 ∷ []) ≡ true
+unfolding ends
+not-done e n p = rw n at p
 
 -- a step that goes on, or ends so
-data Ends {S A : Type 0} : Step S A → Type 0 where
+pub data Ends {S A : Type 0} : Step S A → Type 0 where
   on : {a : A} {s : S} → Ends (more a s)
   off : {n : ℕ} → ends n ≡ true → Ends (over n)
 
@@ -34,32 +44,45 @@ ends-pick true m n p q = p
 ends-pick false m n p q = q
 
 -- a choice of steps
-step-pick : {S A : Type 0} (b : Bool) (x y : Step S A) → Ends x → Ends y → Ends (pick b x y)
+pub step-pick : {S A : Type 0} (b : Bool) (x y : Step S A) → Ends x → Ends y → Ends (pick b x y)
 step-pick true x y p q = p
 step-pick false x y p q = q
 
--- a step, and then a walk
-follow-ends : {S A : Type 0} (x : Step S A) (k : S → Got A) → Ends x → ((s : S) → ends ((k s) .ending) ≡ true) → ends ((follow x k) .ending) ≡ true
-follow-ends (more a s) k on q = q s
-follow-ends (over n) k (off e) q = e
+-- a step that leads further on, and then a walk
+follow-ends : {S A : Type 0} (μ : S → ℕ) (s : S) (x : Step S A) (k : S → Got A) → Lower μ s x → Ends x → ((t : S) → μ t < μ s → ends ((k t) .ending) ≡ true)
+    → ends ((follow x k) .ending) ≡ true
+follow-ends μ s (more a t) k low on q = q t low
+follow-ends μ s (over n) k low (off e) q = e
 
--- so many steps
-steps-end : {S A : Type 0} (f : S → Step S A) → ((s : S) → Ends (f s)) → (n : ℕ) (s : S) → ends ((steps f n s) .ending) ≡ true
-unfolding steps ends fair
-steps-end f p zero s = refl
-steps-end f p (suc n) s = follow-ends (f s) (steps f n) (p s) (steps-end f p n)
+-- a walk whose measure falls, so that its steps are enough
+pub walk-ends : {S A : Type 0} (f : S → Step S A) (μ : S → ℕ) → ((s : S) → Lower μ s (f s)) → ((s : S) → Ends (f s)) → (s : S) → ends ((walk f μ s) .ending) ≡ true
+walk-ends {S} {A} f μ falls p =
+    by-measure μ (λ s. ends ((walk f μ s) .ending) ≡ true) (λ s so.
+    ap (λ (g : Got A). ends (g .ending)) (walk-step f μ falls s) ∙ follow-ends μ s (f s) (walk f μ) (falls s) (p s) so)
 
--- a walk
-walk-ends : {S A : Type 0} (f : S → Step S A) (μ : S → ℕ) → ((s : S) → Ends (f s)) → (s : S) → ends ((walk f μ s) .ending) ≡ true
-unfolding walk
-walk-ends f μ p s = steps-end f p (suc (μ s)) s
+-- ---- a directory
 
 -- a step over a directory
 dir-ends : (r : List ℕ) (base p at : ℕ) (e : Entry) → Ends (stepBy r base p at e)
-unfolding ends fair
+unfolding ends isIn
 dir-ends r base p at (FieldAt tag pos len next) = step-pick (lies r base at pos len) _ _ on (off refl)
 dir-ends r base p at End = off (ends-pick (ended r base p at) 0 3 refl refl)
 dir-ends r base p at Bad = off refl
+
+-- which leads further on
+dir-falls : (r : List ℕ) (base a b p at : ℕ) (e : Entry) → e ≡ entryAt r a b p → Lower (λ (s : ℕ × ℕ). length r - s .0) (p, at) (stepBy r base p at e)
+dir-falls r base a b p at (FieldAt tag pos len next) e =
+    by-test (Lower (λ (s : ℕ × ℕ). length r - s .0) (p, at)) (lies r base at pos len) _ _ (λ _. field-falls r a b p _ e tag pos len next refl) (λ _. tt)
+dir-falls r base a b p at End e = tt
+dir-falls r base a b p at Bad e = tt
+
+-- the walk over it
+fields-end : (r : List ℕ) (base a b : ℕ) → ends ((fieldsOf r base a b) .ending) ≡ true
+unfolding fieldsFrom
+fields-end r base a b =
+    walk-ends (dirStep r base a b) (λ s. length r - s .0) (λ s. dir-falls r base a b (s .0) (s .1) _ refl) (λ s. dir-ends r base (s .0) (s .1) (entryAt r a b (s .0))) (24, 0)
+
+-- ---- a file
 
 -- a leader that is refused
 data Leads : Head → Type 0 where
@@ -73,14 +96,14 @@ lead-pick false x y p q = q
 
 -- the numbers of a leader
 within-leads : (s : List ℕ) (x y : Number) → Leads (within s x y)
-unfolding ends fair
+unfolding ends isIn
 within-leads s (Value len) (Value base) = lead-pick (ltb (length s) len) _ _ (bad refl) good
 within-leads s (Value len) NotDigits = bad refl
 within-leads s NotDigits y = bad refl
 
 -- a leader
 leader-leads : (s : List ℕ) (first : Bool) → Leads (leaderOf s first)
-unfolding leaderOf statedOf ends fair
+unfolding leaderOf statedOf ends isIn
 leader-leads s first =
     lead-pick (ltb (length s) 24) _ _ (bad refl)
     (lead-pick (not (shaped (template first) s)) _ _ (bad refl) (within-leads s (numberAt s 0 5) (numberAt s 12 5)))
@@ -88,11 +111,6 @@ leader-leads s first =
 -- a record whose directory was walked
 stepDir-ends : (next : ℕ) (r : List ℕ) (g : Got Body) → ends (g .ending) ≡ true → Ends (stepDir next r g)
 stepDir-ends next r g e = step-pick (eqb (g .ending) 0) _ _ on (off e)
-
--- the walk over a directory
-fields-end : (r : List ℕ) (base a b : ℕ) → ends ((fieldsOf r base a b) .ending) ≡ true
-unfolding fieldsFrom
-fields-end r base a b = walk-ends (dirStep r base a b) (λ s. length r - s .0) (λ s. dir-ends r base (s .0) (s .1) (entryAt r a b (s .0))) (24, 0)
 
 -- a record whose leader was read
 stepHead-ends : (at : ℕ) (rest : List ℕ) (h : Head) → Leads h → Ends (stepHead at rest h)
@@ -104,11 +122,26 @@ file-ends : (f : List ℕ) (at : ℕ) → Ends (fileStep f at)
 unfolding ends
 file-ends f at = step-pick (ltb at (length f)) _ _ (stepHead-ends at (drop at f) _ (leader-leads (drop at f) (eqb at 0))) (off refl)
 
+-- a leader whose directory is right is that of a right record
+right-head : (f : List ℕ) (at len base a b : ℕ) → Good len base a b ≡ leaderOf (drop at f) (eqb at 0) → eqb ((fieldsOf (take len (drop at f)) base a b) .ending) 0 ≡ true
+    → Good len base a b ≡ recordAt f at
+unfolding recordAt
+right-head f at len base a b e z =
+    let walked : withDirectory (drop at f) (Good len base a b) ≡ Good len base a b = rw z in
+    sym walked ∙ ap (withDirectory (drop at f)) e
+
+-- a step leads further on
+head-falls : (f : List ℕ) (at : ℕ) (h : Head) → h ≡ leaderOf (drop at f) (eqb at 0) → Lower (λ (q : ℕ). length f - q) at (stepHead at (drop at f) h)
+head-falls f at (Good len base a b) e =
+    by-test (Lower (λ (q : ℕ). length f - q) at) (eqb ((fieldsOf (take len (drop at f)) base a b) .ending) 0) _ _
+    (λ z. record-falls f at _ (right-head f at len base a b e z) len base a b refl) (λ _. tt)
+head-falls f at (Refused n) e = tt
+
+file-falls : (f : List ℕ) (at : ℕ) → Lower (λ (q : ℕ). length f - q) at (fileStep f at)
+file-falls f at = by-test (Lower (λ (q : ℕ). length f - q) at) (ltb at (length f)) _ _ (λ _. head-falls f at _ refl) (λ _. tt)
+
 -- the records of a file
 pub records-end : (f : List ℕ) → ends ((recordsOf f) .ending) ≡ true
-unfolding recordsOf recordsFrom ends fair
-records-end f = go (eqb (length f) 0)
-  where
-    go : (b : Bool) → ends ((pick b (record { items = []; ending = 1 }) (recordsFrom f 0)) .ending) ≡ true
-    go true = unfold ends fair in refl
-    go false = unfold recordsFrom in walk-ends (fileStep f) (λ q. length f - q) (file-ends f) 0
+unfolding recordsOf recordsFrom ends isIn
+records-end f =
+    by-test (λ (g : Got (List Field)). ends (g .ending) ≡ true) (eqb (length f) 0) _ _ (λ _. refl) (λ _. walk-ends (fileStep f) (λ q. length f - q) (file-falls f) (file-ends f) 0)

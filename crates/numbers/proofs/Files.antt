@@ -1,4 +1,4 @@
--- A dataset, an update and their result are refused fairly. Assumes nothing.
+-- A dataset, an update and their result are refused with the numbers that their tests have. Assumes nothing.
 use Prim.Native.Nat.{ℕ, _+_}
 use mathlib.Core.Path.{_≡_, refl}
 use mathlib.Core.Bool.{Bool, true, false}
@@ -22,103 +22,145 @@ use Rattle.rules.specs.File.{lastRank, datasetTest, updateTest, through, ending
 use Rattle.rules.specs.Update.{find, stepAs, step, steps, general, updated}
 use Rattle.rules.specs.Answers.{notTooLong}
 use Rattle.rules.specs.declared.Mode.the-variants.{InDataset, InUpdate}
-use Rattle.numbers.specs.Fair.{fair, FairCheck, fair-ok, fair-no, FairOutcome, fair-done, fair-refused}
-use Rattle.numbers.proofs.Checks.{fair-pick, fair-bind, fair-passed, fair-then, fair-choice, fair-at, fair-every}
-use Rattle.numbers.proofs.Endings.{ends, records-end}
-use Rattle.numbers.proofs.Records.{fair-kind, fair-dataset-record, fair-update-record, fair-general, fair8, fair11, fair12}
-use Rattle.numbers.proofs.Changes.{fair-change}
+use Rattle.numbers.specs.Refusals.{isIn}
+use Rattle.numbers.specs.Limited.{LimitedCheck, limited-ok, limited-no, LimitedOutcome, limited-done, limited-refused}
+use Rattle.numbers.proofs.Lists.{eachPasses, allIn, in-wider, all-wider}
+use Rattle.numbers.proofs.Checks.{limited-wider, limited-pick, limited-bind, limited-passed, limited-then, limited-choice, limited-at, limited-every}
+use Rattle.numbers.proofs.Endings.{ends, not-done, records-end}
+use Rattle.numbers.proofs.Records.{limited-kind, limited-dataset-record, limited-update-record, limited-general, limited8, limited11, limited12}
+use Rattle.numbers.proofs.Changes.{limited-change}
 
--- ---- reading
+-- ---- the numbers of the tests
 
--- a record of a dataset
-pub fair-dataset-test : (n : ℕ) (seen : List Rec) (fs : List Field) → FairCheck (datasetTest n seen fs)
-unfolding datasetTest fair
-fair-dataset-test n seen fs =
-    fair-pick (eqb n 1) _ _ fair-ok
-    (fair-pick (eqb n 2) _ _ (fair-bind _ _ (fair-general InDataset fs) (λ _. fair-ok))
-    (fair-pick (eqb n 3) _ _ (fair-bind _ _ (fair-pick (eqb (firstTag fs) CSID) _ _ fair-ok (fair-no refl)) (λ _. fair-ok))
-    (fair-bind _ _ (fair-dataset-record (lastRank seen) (each keyOf seen) fs) (λ r. fair-ok))))
+-- the end of a file
+abbrev pub atEnd : List ℕ
+atEnd = 1 ∷ 2 ∷ 3 ∷ 4 ∷ []
 
--- a record of an update
-pub fair-update-test : (n : ℕ) (seen : List Rec) (fs : List Field) → FairCheck (updateTest n seen fs)
-unfolding updateTest
-fair-update-test n seen fs =
-    fair-pick (eqb n 1) _ _ fair-ok
-    (fair-pick (eqb n 2) _ _ (fair-bind _ _ (fair-general InUpdate fs) (λ _. fair-ok))
-    (fair-bind _ _ (fair-passed _ (fair-update-record fs)) (λ _. fair-ok)))
+-- a record
+abbrev inRecord : List ℕ
+inRecord = 4 ∷ 5 ∷ 6 ∷ 7 ∷ []
 
--- a number that a walk may end with, where it is not 0
-not-zero : (e : ℕ) → eqb e 0 ≡ false → ends e ≡ true → fair e ≡ true
-unfolding ends
-not-zero e n p = rw n at p
+-- a dataset, and an update's first pass
+abbrev pub inDataset : List ℕ
+inDataset = 1 ∷ 2 ∷ 3 ∷ 4 ∷ 5 ∷ 6 ∷ 7 ∷ 11 ∷ []
 
-module _ (test : ℕ → List Rec → List Field → Check (List Rec)) (fairly : (n : ℕ) (seen : List Rec) (fs : List Field) → FairCheck (test n seen fs)) (file least : ℕ) where
-  -- record after record
-  fair-through : (n : ℕ) (seen : List Rec) (items : List (List Field)) → FairOutcome (through test file n seen items)
-  unfolding through
-  fair-through n seen [] = fair-done
-  fair-through n seen (fs ∷ rest) =
-      fair-then _ _ (fair-at file n _ (fairly n seen fs)) (λ new.
-      fair-then _ _ (fair-through (n + 1) (new ++ seen) rest) (λ later. fair-done))
+abbrev pub inUpdate : List ℕ
+inUpdate = 1 ∷ 2 ∷ 3 ∷ 4 ∷ 5 ∷ 6 ∷ 7 ∷ []
 
-  -- the end of a file
-  fair-ending : {A : Type 0} (n e : ℕ) (a : A) → ends e ≡ true → FairOutcome (ending file least n e a)
-  unfolding ending fair
-  fair-ending n e a p = go (eqb e 0) refl
+-- what an update's records do to a dataset
+abbrev pub inActs : List ℕ
+inActs = 4 ∷ 6 ∷ 7 ∷ 8 ∷ 9 ∷ 10 ∷ 12 ∷ []
+
+-- ---- one record by its number
+
+-- of a dataset
+limited-dataset-test : (n : ℕ) (seen : List Rec) (fs : List Field) → LimitedCheck inRecord (datasetTest n seen fs)
+unfolding datasetTest isIn allIn eachPasses
+limited-dataset-test n seen fs =
+    limited-pick (eqb n 1) _ _ limited-ok
+    (limited-pick (eqb n 2) _ _ (limited-bind _ _ (limited-wider _ _ _ refl (limited-general InDataset fs)) (λ _. limited-ok))
+    (limited-pick (eqb n 3) _ _ (limited-bind _ _ (limited-pick (eqb (firstTag fs) CSID) _ _ limited-ok (limited-no refl)) (λ _. limited-ok))
+    (limited-bind _ _ (limited-dataset-record (lastRank seen) (each keyOf seen) fs) (λ r. limited-ok))))
+
+-- of an update
+limited-update-test : (n : ℕ) (seen : List Rec) (fs : List Field) → LimitedCheck inRecord (updateTest n seen fs)
+unfolding updateTest isIn allIn eachPasses
+limited-update-test n seen fs =
+    limited-pick (eqb n 1) _ _ limited-ok
+    (limited-pick (eqb n 2) _ _ (limited-bind _ _ (limited-wider _ _ _ refl (limited-general InUpdate fs)) (λ _. limited-ok))
+    (limited-bind _ _ (limited-passed _ (limited-update-record fs)) (λ _. limited-ok)))
+
+-- ---- a file
+
+module _ {may : ℕ → List ℕ} (file : ℕ) where
+  -- its end: 1 to 3, or a record that is missing
+  limited-ending : {A : Type 0} (least n e : ℕ) (a : A) → allIn atEnd (may file) ≡ true → ends e ≡ true → LimitedOutcome may (ending file least n e a)
+  unfolding ending
+  limited-ending least n e a h p = go (eqb e 0) refl
     where
-      go : (b : Bool) → eqb e 0 ≡ b → FairOutcome (pick b (pick (leb n least) (refused file n (fault 4 0 0)) (done a)) (refused file n (fault e 0 0)))
-      go true h = fair-choice (leb n least) _ _ (fair-refused (unfold fair in refl)) fair-done
-      go false h = fair-refused (not-zero e h p)
+      listed : (m : ℕ) → isIn m atEnd ≡ true → isIn m (may file) ≡ true
+      listed m = in-wider m atEnd (may file) h
 
-  -- a file
-  pub fair-taken : (n : ℕ) (seen : List Rec) (g : Got (List Field)) → ends (g .ending) ≡ true → FairOutcome (taken test file least n seen g)
+      first-three : (m : ℕ) → isIn m (1 ∷ 2 ∷ 3 ∷ []) ≡ true → isIn m atEnd ≡ true
+      first-three m = in-wider m (1 ∷ 2 ∷ 3 ∷ []) atEnd (unfold isIn allIn eachPasses in refl)
+
+      go : (b : Bool) → eqb e 0 ≡ b → LimitedOutcome may (pick b (pick (leb n least) (refused file n (fault 4 0 0)) (done a)) (refused file n (fault e 0 0)))
+      go true q = limited-choice (leb n least) _ _ (limited-refused (listed 4 (unfold isIn in refl))) limited-done
+      go false q = limited-refused (listed e (first-three e (not-done e q p)))
+
+  -- its records, by what is found of them one after the other, and its end
+  pub limited-taken : (test : ℕ → List Rec → List Field → Check (List Rec)) (least n : ℕ) (seen : List Rec) (g : Got (List Field)) → allIn atEnd (may file) ≡ true
+      → LimitedOutcome may (through test file n seen (g .items)) → ends (g .ending) ≡ true → LimitedOutcome may (taken test file least n seen g)
   unfolding taken
-  fair-taken n seen g p = fair-then _ _ (fair-through n seen (g .items)) (λ recs. fair-ending (n + length (g .items)) (g .ending) recs p)
+  limited-taken test least n seen g h t e = limited-then _ _ t (λ recs. limited-ending least (n + length (g .items)) (g .ending) recs h e)
 
--- 11
-fair-references : (file : ℕ) (recs : List Rec) (fss : List (List Field)) → FairOutcome (references file recs fss)
-unfolding references
-fair-references file recs fss = fair-every _ file 4 fss (λ fs. fair11 (each keyOf recs) (marks 1 fs))
+  module _ (ns : List ℕ) (h : allIn ns (may file) ≡ true) (test : ℕ → List Rec → List Field → Check (List Rec))
+      (so : (n : ℕ) (seen : List Rec) (fs : List Field) → LimitedCheck ns (test n seen fs)) where
+    -- record after record
+    limited-through : (n : ℕ) (seen : List Rec) (items : List (List Field)) → LimitedOutcome may (through test file n seen items)
+    unfolding through
+    limited-through n seen [] = limited-done
+    limited-through n seen (fs ∷ rest) =
+        limited-then _ _ (limited-at ns file h n _ (so n seen fs)) (λ new.
+        limited-then _ _ (limited-through (n + 1) (new ++ seen) rest) (λ later. limited-done))
 
--- a dataset
-pub fair-read : (f : List ℕ) → FairOutcome (readDataset f)
-unfolding readDataset datasetOf
-fair-read f =
-    fair-then _ _ (fair-then _ _ (fair-taken datasetTest fair-dataset-test 1 3 1 [] (recordsOf f) (records-end f)) (λ recs. fair-done)) (λ s.
-    fair-then _ _ (fair-references 1 ((s .dataset) .records) (s .sent)) (λ _. fair-done))
+module _ {may : ℕ → List ℕ} where
+  -- 11
+  limited-references : (file : ℕ) → allIn (11 ∷ []) (may file) ≡ true → (recs : List Rec) (fss : List (List Field)) → LimitedOutcome may (references file recs fss)
+  unfolding references
+  limited-references file h recs fss = limited-every (11 ∷ []) file h _ 4 fss (λ fs. limited11 (each keyOf recs) (marks 1 fs))
 
--- an update
-pub fair-sent : (f : List ℕ) → FairOutcome (readUpdate f)
-unfolding readUpdate updateOf
-fair-sent f = fair-then _ _ (fair-taken updateTest fair-update-test 2 2 1 [] (recordsOf f) (records-end f)) (λ _. fair-done)
+  -- a dataset: 1 to 7, and 11
+  pub limited-read : allIn inDataset (may 1) ≡ true → (f : List ℕ) → LimitedOutcome may (readDataset f)
+  unfolding readDataset datasetOf isIn allIn eachPasses
+  limited-read h f =
+      let records = limited-through 1 inRecord (all-wider inRecord inDataset (may 1) refl h) datasetTest limited-dataset-test 1 [] ((recordsOf f) .items) in
+      let file = limited-taken 1 datasetTest 3 1 [] (recordsOf f) (all-wider atEnd inDataset (may 1) refl h) records (records-end f) in
+      limited-then _ _ (limited-then _ _ file (λ recs. limited-done)) (λ s.
+      limited-then _ _ (limited-references 1 (all-wider (11 ∷ []) inDataset (may 1) refl h) ((s .dataset) .records) (s .sent)) (λ _. limited-done))
 
--- 12 of a dataset
-pub fair-writable : (d : Dataset) → FairOutcome (writable d)
-unfolding writable
-fair-writable d = fair-then _ _ (fair-every number12 1 1 (written d) fair12) (λ _. fair-done)
+  -- an update: 1 to 7
+  pub limited-sent : allIn inUpdate (may 2) ≡ true → (f : List ℕ) → LimitedOutcome may (readUpdate f)
+  unfolding readUpdate updateOf isIn allIn eachPasses
+  limited-sent h f =
+      let records = limited-through 2 inRecord (all-wider inRecord inUpdate (may 2) refl h) updateTest limited-update-test 1 [] ((recordsOf f) .items) in
+      limited-then _ _ (limited-taken 2 updateTest 2 1 [] (recordsOf f) (all-wider atEnd inUpdate (may 2) refl h) records (records-end f)) (λ _. limited-done)
 
--- 14
-pub fair-length : (file : ℕ) (f : List ℕ) → FairOutcome (notTooLong file f)
-unfolding notTooLong fair
-fair-length file f = fair-choice (ltb 16777216 (length f)) _ _ (fair-refused refl) fair-done
+  -- 12 of a dataset
+  pub limited-writable : allIn (12 ∷ []) (may 1) ≡ true → (d : Dataset) → LimitedOutcome may (writable d)
+  unfolding writable
+  limited-writable h d = limited-then _ _ (limited-every (12 ∷ []) 1 h number12 1 (written d) limited12) (λ _. limited-done)
+
+  -- 14
+  pub limited-length : (file : ℕ) → isIn 14 (may file) ≡ true → (f : List ℕ) → LimitedOutcome may (notTooLong file f)
+  unfolding notTooLong
+  limited-length file h f = limited-choice (ltb 16777216 (length f)) _ _ (limited-refused h) limited-done
 
 -- ---- updating
 
 -- one update record
-fair-step : (fs : List Field) (rs : List Rec) → FairCheck (step fs rs)
-unfolding step stepAs
-fair-step fs rs = fair-kind (kindOf (firstTag fs)) _ (λ k. fair-bind _ _ (fair-change k fs (find (keyNamed k fs) rs)) (λ new. fair-ok))
+limited-step : (fs : List Field) (rs : List Rec) → LimitedCheck inActs (step fs rs)
+unfolding step stepAs isIn allIn eachPasses
+limited-step fs rs =
+    limited-kind _ refl (kindOf (firstTag fs)) _ (λ k. limited-bind _ _ (limited-wider _ _ _ refl (limited-change k fs (find (keyNamed k fs) rs))) (λ new. limited-ok))
 
--- all of them
-fair-steps : (n : ℕ) (us : List (List Field)) (rs : List Rec) → FairOutcome (steps n us rs)
-unfolding steps
-fair-steps n [] rs = fair-done
-fair-steps n (fs ∷ us) rs = fair-then _ _ (fair-at 2 n _ (fair-step fs rs)) (λ rs′. fair-steps (n + 1) us rs′)
+-- the general record
+limited-merged : (old new : List Field) → LimitedCheck inActs (general old new)
+unfolding general isIn allIn eachPasses
+limited-merged old new =
+    limited-bind _ _ (limited-wider _ _ _ refl (limited8 old new)) (λ _. limited-bind _ _ (limited-wider _ _ _ refl (limited12 (merged old new))) (λ _. limited-ok))
 
--- the result
-pub fair-updated : (d : Dataset) (u : Sent) → FairOutcome (updated d u)
-unfolding updated general
-fair-updated d u =
-    fair-then _ _ (fair-at 2 2 _ (fair-bind _ _ (fair8 (d .general) (u .general)) (λ _. fair-bind _ _ (fair12 (merged (d .general) (u .general))) (λ _. fair-ok)))) (λ g.
-    fair-then _ _ (fair-steps 3 (u .records) (d .records)) (λ rs.
-    fair-then _ _ (fair-references 3 rs (each writtenFields rs)) (λ _. fair-done)))
+module _ {may : ℕ → List ℕ} (h : allIn inActs (may 2) ≡ true) where
+  -- all of its records
+  limited-steps : (n : ℕ) (us : List (List Field)) (rs : List Rec) → LimitedOutcome may (steps n us rs)
+  unfolding steps
+  limited-steps n [] rs = limited-done
+  limited-steps n (fs ∷ us) rs = limited-then _ _ (limited-at _ 2 h n _ (limited-step fs rs)) (λ rs′. limited-steps (n + 1) us rs′)
+
+  -- the result
+  pub limited-updated : allIn (11 ∷ []) (may 3) ≡ true → (d : Dataset) (u : Sent) → LimitedOutcome may (updated d u)
+  unfolding updated
+  limited-updated g d u =
+      limited-then _ _ (limited-at _ 2 h 2 _ (limited-merged (d .general) (u .general))) (λ x.
+      limited-then _ _ (limited-steps 3 (u .records) (d .records)) (λ rs.
+      limited-then _ _ (limited-references 3 g rs (each writtenFields rs)) (λ _. limited-done)))

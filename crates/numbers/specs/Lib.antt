@@ -1,2 +1,4 @@
+pub mod Refusals
+pub mod Limited
 pub mod Fair
 pub mod Zero

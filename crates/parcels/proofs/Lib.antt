@@ -5,6 +5,7 @@ pub mod ShelfLaws
 pub mod MasterLaws
 pub mod TakingLaws
 pub mod ToldLaws
+pub mod RefusalLaws
 pub mod ZeroLaws
 pub mod OwnLaws
 pub mod CableLaws
