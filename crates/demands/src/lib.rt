@@ -1,0 +1,1 @@
+// Demands 1 and 2 of the entry points, over answers and bytes alone: laws only.
