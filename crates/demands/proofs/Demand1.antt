@@ -17,6 +17,7 @@ use Rattle.display.specs.declared.Chart.{Chart}
 use Rattle.month.specs.Month.{Left, monthOf}
 use Rattle.month.specs.declared.turns.Month.{Month}
 use Rattle.month.proofs.RefusalLaws.{month-answered}
+use Rattle.month.proofs.WordLaws.{none-applied}
 use Rattle.parcels.specs.Parcel.{carriesFile, bodyOf}
 use Rattle.parcels.specs.Holding.{tell}
 use Rattle.parcels.specs.Shelf.{replyAnswer}
@@ -85,6 +86,7 @@ ended list first n second work r first′ second′ space x =
       answered = subst (λ (m : Month). Answered ofUpdater (m .answer)) (sym (x .said)) (month-answered list first n second work);
       emptied = left-behind (r .second) first second ((monthOf list first n second work) .pool) first′ second′ (x .inFirst) (x .inSecond);
       cleared = x .zero;
+      inUse = λ z. (none-applied list first n second work r first′ second′ space x z) .0;
     }
 
 pub demand-one : Demand1

@@ -37,11 +37,13 @@ pub record Kept (may : ℕ → List ℕ) (c : Chart) (first second : List ℕ) (
   pub built : Cleared may a (length (other c first second)) work (other c first′ second′) space
   pub inUse : pool c first′ second′ ≡ pool c first second
 
--- the same, of a month: the output is the pool that the result does not stand in, zero whatever the answer
+-- the same, of a month: the output is the pool that the result does not stand in, zero whatever the answer; where no file is applied the dataset's
+-- pool keeps its bytes
 pub record Ended (first second work : List ℕ) (r : Month) (first′ second′ space : List ℕ) : Type 0 where
   pub answered : Answered ofUpdater (r .answer)
   pub emptied : pick (r .second) first′ second′ ≡ zeros (length (pick (r .second) first second))
   pub cleared : space ≡ zeros (length work)
+  pub inUse : r .applied ≡ 0 → first′ ≡ first
 
 pub record Demand1 : Type 0 where
   pub reads : (f : List ℕ) (a : Answer) → Reads f a → Answered ofReader a

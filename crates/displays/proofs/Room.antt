@@ -19,7 +19,8 @@ use Rattle.rules.proofs.ReadOnce.{clash}
 use Rattle.numbers.specs.Refusals.{isIn, byFile, ofRules}
 use Rattle.numbers.specs.Limited.{LimitedOutcome, limited-done, limited-refused}
 use Rattle.numbers.specs.Fair.{fair}
-use Rattle.numbers.proofs.Lists.{eachPasses, allIn, rules-fair, not-zero}
+use Rattle.numbers.proofs.Lists.{eachPasses, allIn}
+use Rattle.numbers.proofs.Fair.{rules-fair, not-zero}
 use Rattle.numbers.proofs.Checks.{limited-then}
 use Rattle.numbers.proofs.Files.{limited-read, limited-sent, limited-writable, limited-length, limited-updated}
 use Rattle.sequence.proofs.Tests.{by-bool}

@@ -20,16 +20,20 @@ use Rattle.month.proofs.FileLaws.{files-end}
 abbrev Right : Stand → Type 0
 Right s = Answered ofUpdater (s .says .answer)
 
+-- that of the updater is
+made-right : (work : ℕ) (s : Stand) (f : List ℕ) → Answered ofUpdater ((made work s f) .answer)
+unfolding made
+made-right work s f = update-answered (take (s .says .length) (s .pool)) f (s .room) work
+
 -- so it stays with each turn
 turns-right : (work : ℕ) (fs : List (List ℕ)) (e : ℕ) (s : Stand) → ends e ≡ true → Right s → Right (turns work fs e s)
-unfolding turns stop apply made ofUpdater byFile isIn allIn eachPasses
+unfolding turns stop apply ofUpdater byFile isIn allIn eachPasses
 turns-right work [] e s h p =
     by-test Right (eqb e 0) _ _ (λ _. p) (λ z. is-refused 2 0 (fault e 0 0) (in-wider e (1 ∷ 2 ∷ 3 ∷ []) (ofUpdater 2) refl (not-done e z h)))
 turns-right work (f ∷ fs) e s h p =
-    let said = update-answered (take (s .says .length) (s .pool)) f (s .room) work in
     by-test Right (ltb (length (s .pool)) (s .says .length)) _ _
     (λ _. is-refused 1 0 (fault 1 0 0) refl)
-    (λ _. by-test Right (eqb ((made work s f) .answer .number) 0) _ _ (λ _. turns-right work fs e (apply (made work s f) s) h said) (λ _. said))
+    (λ _. by-test Right (eqb ((made work s f) .answer .number) 0) _ _ (λ _. turns-right work fs e (apply (made work s f) s) h (made-right work s f)) (λ _. made-right work s f))
 
 pub month-answered : (list first : List ℕ) (n : ℕ) (second work : List ℕ) → Answered ofUpdater ((monthOf list first n second work) .says .answer)
 unfolding monthOf withWork enoughWork start stop ofUpdater byFile isIn

@@ -17,7 +17,7 @@ use Rattle.rules.specs.Associations.{marks}
 use Rattle.rules.specs.Record.{Rec, keyNamed, keyOf}
 use Rattle.rules.specs.General.{merged}
 use Rattle.rules.specs.Written.{Dataset, writtenFields, written, number12}
-use Rattle.rules.specs.Outcome.{done, refused, at}
+use Rattle.rules.specs.Outcome.{done, refused}
 use Rattle.rules.specs.File.{lastRank, datasetTest, updateTest, through, ending, taken, datasetOf, references, readDataset, writable, Sent, updateOf, readUpdate}
 use Rattle.rules.specs.Update.{find, stepAs, step, steps, general, updated}
 use Rattle.rules.specs.Answers.{notTooLong}

@@ -1,4 +1,5 @@
 pub mod Lists
+pub mod Fair
 pub mod Checks
 pub mod Trees
 pub mod Endings

@@ -1,15 +1,14 @@
--- Numbers in lists. Assumes nothing.
+-- Numbers in lists, and lists by the file that a refusal names. Assumes nothing.
 use Prim.Native.Nat.{ℕ}
 use mathlib.Core.Path.{_≡_, refl, sym, ap, subst, _∙_}
-use mathlib.Core.Bool.{Bool, true, false, not}
+use mathlib.Core.Bool.{Bool, true, false}
 use mathlib.Core.List.{List, [], _∷_}
 use borrow.Author.Tests.{eqb-true}
 use lib.Dec.{eqb}
 use Rattle.base.specs.Choice.{both, either}
 use Rattle.base.proofs.ChoiceLaws.{both-hold, both-too, by-test}
 use Rattle.rules.proofs.ReadOnce.{clash}
-use Rattle.numbers.specs.Refusals.{isIn, byFile, ofRules}
-use Rattle.numbers.specs.Fair.{fair}
+use Rattle.numbers.specs.Refusals.{isIn, byFile}
 
 -- each passes a test
 unfoldable pub eachPasses : (ℕ → Bool) → List ℕ → Bool
@@ -60,17 +59,3 @@ of-each-file P none dataset sent result a b c d e file =
   where
     is : (n : ℕ) {ns : List ℕ} → P n ns → eqb file n ≡ true → P file ns
     is n {ns} p h = subst (λ m. P m ns) (sym (eqb-true file n h)) p
-
--- what the rules alone refuse with is fair
-pub rules-fair : (file n : ℕ) → isIn n (ofRules file) ≡ true → fair n ≡ true
-unfolding ofRules eachPasses fair
-rules-fair file n = in-passes fair n (ofRules file) (of-each-file (λ f ns. eachPasses fair ns ≡ true) _ _ _ _ refl refl refl refl (λ f. refl) file)
-
--- a fair number is not 0
-pub not-zero : (n : ℕ) → fair n ≡ true → eqb n 0 ≡ false
-unfolding fair
-not-zero n e = go (eqb n 0) refl
-  where
-    go : (b : Bool) → eqb n 0 ≡ b → b ≡ false
-    go false h = refl
-    go true h = unfold fair in absurd (clash true refl (sym e ∙ ap (λ b. not (either b (either (eqb n 13) (eqb n 15)))) h))
