@@ -2,11 +2,13 @@
 use Prim.Native.Nat.{ℕ}
 use mathlib.Core.Path.{_≡_, refl, sym, ap, subst, _∙_}
 use mathlib.Core.Bool.{Bool, true, false}
-use mathlib.Core.List.{List}
+use mathlib.Core.List.{List, [], _∷_}
+use native.Mathlib.Omega.{arith}
 use lib.ListN.{length}
 use Rattle.base.specs.Choice.{pick}
 use Rattle.base.proofs.ChoiceLaws.{by-test}
-use Rattle.memory.specs.Hold.{zeros}
+use Rattle.memory.specs.Hold.{zeros, hold}
+use Rattle.memory.proofs.HoldLaws.{hold-nil}
 use Rattle.rules.specs.Outcome.{Outcome, done, refused}
 use Rattle.rules.specs.Answers.{Output, Written, success, outputOf, writeOutcome, write, updateOutcome, update, workAfter}
 use Rattle.rules.specs.declared.Answer.{Answer}
@@ -24,6 +26,7 @@ use Rattle.parcels.specs.Shelf.{replyAnswer}
 use Rattle.parcels.specs.Taking.{taking}
 use Rattle.parcels.specs.Refusals.{ofReply}
 use Rattle.parcels.proofs.RefusalLaws.{tell-answered, reply-answered, taking-answered}
+use Rattle.listing.specs.Listed.{listed}
 use Rattle.demands.specs.Demand1.{Clean, Cleared, Kept, Ended, Demand1}
 
 -- ---- a refusal leaves zeroes
@@ -89,6 +92,11 @@ ended list first n second work r first′ second′ space x =
       inUse = λ z. (none-applied list first n second work r first′ second′ space x z) .0;
     }
 
+-- nothing is listed where there is no room
+nothing : (l : List ℕ) → length l ≡ 0 → l ≡ []
+nothing [] e = refl
+nothing (x ∷ xs) e = absurd (omega arith)
+
 pub demand-one : Demand1
 demand-one =
     record {
@@ -108,4 +116,5 @@ demand-one =
           let room = length (other c first second) in
           let chart = chartIn c first second in
           kept c first second work _ (taking-answered chart parcel room work) (taking-empties chart parcel room work) first′ second′ (r .answer) space (x .said) (x .built) (x .inUse) (x .zero);
+      lists = λ input room n out x z. x .holds ∙ ap (hold room) (nothing (listed input room) (sym (x .long) ∙ z)) ∙ hold-nil room;
     }

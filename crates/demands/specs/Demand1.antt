@@ -19,6 +19,7 @@ use Rattle.month.specs.declared.turns.Month.{Month}
 use Rattle.parcels.specs.Shelf.{reply, replyAnswer}
 use Rattle.parcels.specs.Refusals.{ofTell, ofReply, ofTaking}
 use Rattle.parcels.specs.declared.Reply.{Reply}
+use Rattle.listing.specs.Lists.{Lists}
 use Rattle.cable.specs.Promise.{Tells}
 use Rattle.cable.specs.Taken.{Taken}
 
@@ -58,3 +59,5 @@ pub record Demand1 : Type 0 where
   pub tells : (chart : List ℕ) (room : ℕ) (a : Answer) (out : List ℕ) → Tells chart room a out → Clean ofTell a room out
   pub takes : (c : Chart) (first second parcel : List ℕ) (work : ℕ) (r : Shown) (first′ second′ space : List ℕ) → Taken c first second parcel work r first′ second′ space
       → Kept ofTaking c first second work (r .answer) first′ second′ space
+  -- a listing names refusals in its text; 0 is for no room
+  pub lists : (input : List ℕ) (room n : ℕ) (out : List ℕ) → Lists input room n out → n ≡ 0 → out ≡ zeros room

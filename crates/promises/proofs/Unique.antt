@@ -5,8 +5,8 @@ use mathlib.Core.List.{List}
 use Rattle.rules.specs.declared.Answer.{Answer}
 use Rattle.promises.specs.Promise.{Reads, Writes, Updates}
 
--- two things that are equal to a third
-both-are : {A : Type 0} {a b c : A} → a ≡ c → b ≡ c → a ≡ b
+-- two things that are equal to a third: so of every promise that is one equation
+pub both-are : {A : Type 0} {a b c : A} → a ≡ c → b ≡ c → a ≡ b
 both-are x y = x ∙ sym y
 
 -- the reader's

@@ -1,4 +1,4 @@
--- What each entry point promises of its answer and of every byte that it was lent, by its inputs alone, refusals too.
+-- What reader, writer and updater promise of their answer and of every byte that they are lent, by their inputs alone, refusals too. These records are their contracts.
 use Prim.Native.Nat.{ℕ}
 use mathlib.Core.Path.{_≡_}
 use mathlib.Core.List.{List}

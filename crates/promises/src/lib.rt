@@ -1,1 +1,1 @@
-// What the entry points promise: laws only.
+// What reader, writer and updater promise, and that it says one outcome alone: laws only.
