@@ -1,26 +1,21 @@
 -- Laws of the reader. Assumes nothing.
 use mathlib.Core.Path.{_≡_, refl, sym, _∙_, ap}
-use mathlib.Core.Bool.{Bool, true, false}
-use mathlib.Core.List.{List, [], _∷_}
+use mathlib.Core.List.{List, []}
 use Prim.Native.Nat.{ℕ, _+_, _^_, _≤_, _<_}
 use native.Mathlib.Omega.{arith}
 use borrow.Author.Tests.{lt-ltb, le-ltb}
-use lib.ListN.{length, take, drop}
-use Rattle.base.specs.Choice.{pick}
-use Rattle.base.specs.Check.{Check, ok, no, fault, Passed}
-use Rattle.base.specs.Lists.{each}
-use Rattle.base.specs.Keys.{among}
+use lib.ListN.{length, drop}
+use Rattle.base.specs.Check.{fault}
 use Rattle.base.specs.Walk.{Got, before}
 use Rattle.base.specs.declared.Fault.{Fault}
 use Rattle.skeleton.specs.File.{Field, recordsFrom, recordsOf}
 use Rattle.base.proofs.ListLaws.{each-length}
 use Rattle.skeleton.proofs.FileLaws.{records-all}
 use Rattle.skeleton.proofs.ReadLaws.{few-records}
-use Rattle.rules.specs.Associations.{Mark, marks, number11}
-use Rattle.rules.specs.Record.{Rec, keyOf}
+use Rattle.rules.specs.Record.{Rec}
 use Rattle.rules.specs.General.{generalRecord}
 use Rattle.rules.specs.Written.{Dataset, count}
-use Rattle.rules.specs.Outcome.{Outcome, done, refused, andThen, at, everyRecord}
+use Rattle.rules.specs.Outcome.{Outcome, done, refused, andThen}
 use Rattle.rules.specs.File.{Stored, storedAs, datasetOf, references, readDataset}
 use Rattle.rules.specs.Answers.{refusal, success, notTooLong, readOutcome, readAnswer, read}
 use Rattle.rules.specs.declared.Mode.the-variants.{InDataset}
@@ -37,7 +32,7 @@ use Rattle.dataset.specs.Walk.{wholeFrom, walkedBy}
 use Rattle.dataset.specs.declared.walk.Walked.{Walked}
 use Rattle.dataset.specs.declared.walk.Walked.the-variants.{Over, Stopped}
 use Rattle.dataset.proofs.FileLaws.{first-shut, later-stopped, later-over}
-use Rattle.references.specs.Linked.{linkedBy, Answers}
+use Rattle.references.specs.Linked.{saidBy, Answers}
 use Rattle.references.specs.declared.dataset.Linked.{Linked}
 use Rattle.references.specs.declared.dataset.Linked.the-variants.{All, Loose}
 
@@ -62,42 +57,6 @@ unfolding firstThree
 three-in f start z =
     let x = andThen-inv (firstTwo 1 InDataset f) (λ q. carried 1 3 beginsCsid f q) start z in
     behind-in 1 3 beginsCsid f (x .0) start (x .2)
-
--- ---- a loose reference is 11 at file 1
-
-unfoldable Eleven : Outcome (Unit {0}) → Type 0
-Eleven (done u) = Unit {0}
-Eleven (refused file n x) = (file ≡ 1) × (x .number ≡ 11)
-
-unfoldable ElevenCheck : Passed → Type 0
-ElevenCheck (ok u) = Unit {0}
-ElevenCheck (no x) = x .number ≡ 11
-
-eleven-marks : (keys : List (List ℕ)) (ms : List Mark) → ElevenCheck (number11 keys ms)
-unfolding number11 ElevenCheck
-eleven-marks keys [] = tt
-eleven-marks keys (m ∷ ms) = go (among (take2 m) keys) (eleven-marks keys ms)
-  where
-    take2 : Mark → List ℕ
-    take2 z = take 2 (z .key)
-
-    go : (t : Bool) → ElevenCheck (number11 keys ms) → ElevenCheck (pick t (number11 keys ms) (no (fault 11 (m .field) (m .tuple))))
-    go true e = e
-    go false e = refl
-
-eleven-every : (keys : List (List ℕ)) (n : ℕ) (fss : List (List Field)) → Eleven (everyRecord (λ fs. number11 keys (marks 1 fs)) 1 n fss)
-unfolding everyRecord Eleven andThen at ElevenCheck
-eleven-every keys n [] = tt
-eleven-every keys n (fs ∷ fss) = go (number11 keys (marks 1 fs)) (eleven-marks keys (marks 1 fs)) (eleven-every keys (n + 1) fss)
-  where
-    go : (c : Passed) → ElevenCheck c → Eleven (everyRecord (λ gs. number11 keys (marks 1 gs)) 1 (n + 1) fss)
-        → Eleven (andThen (at 1 n c) (λ _. everyRecord (λ gs. number11 keys (marks 1 gs)) 1 (n + 1) fss))
-    go (ok u) e ih = ih
-    go (no x) e ih = (refl, e)
-
-eleven-from : (recs : List Rec) (f : List ℕ) (start : ℕ) → Eleven (referencesFrom recs f start 0)
-unfolding referencesFrom
-eleven-from recs f start = eleven-every (each keyOf recs) (0 + 4) ((recordsFrom f start) .items)
 
 -- ---- the whole
 
@@ -125,20 +84,6 @@ unfolding keysFrom
 keys-few f start = let a = few-records f start in rw (each-length _ ((recordsFrom f start) .items)) (omega arith)
 
 -- ---- the answers
-
-all-is : (c : Outcome (Unit {0})) → All ≡ linkedBy c → c ≡ done tt
-unfolding linkedBy
-all-is (done tt) e = refl
-all-is (refused file n x) e = absurd (let y : _≡_ {A = ℕ} 0 1 = cc in omega arith)
-
-loose-is : (c : Outcome (Unit {0})) → Eleven c → (n i j : ℕ) → Loose n i j ≡ linkedBy c → c ≡ refused 1 n (fault 11 i j)
-unfolding linkedBy Eleven
-loose-is (done u) k n i j e = absurd (let y : _≡_ {A = ℕ} 0 1 = cc in omega arith)
-loose-is (refused file m x) k n i j e =
-    let a : n ≡ m = cc in
-    let b : i ≡ x .field = cc in
-    let c : j ≡ x .tuple = cc in
-    rw (k .0, k .1, a, b, c)
 
 module _ (f : List ℕ) where
   pub read-long : 16777216 < length f → record { number = 14; file = 1; rec = 0; length = 0; count = 0 } ≡ read f
@@ -186,20 +131,18 @@ module _ (f : List ℕ) where
           same : references 1 (recs .0) (drop 3 ((recordsOf f) .items)) ≡ referencesFrom (recs .0) f start 0
           same = references-start (recs .0) f start (drop 3 ((recordsOf f) .items)) (three-items f start three)
 
-          said : l ≡ linkedBy (references 1 (recs .0) (drop 3 ((recordsOf f) .items)))
+          said : references 1 (recs .0) (drop 3 ((recordsOf f) .items)) ≡ saidBy l
           unfolding Answers
-          said =
-              el (recs .0) ((taken-reads f start (recs .0) (recs .1)) .numbered)
-              ∙ ap linkedBy (sym same)
+          said = same ∙ sym (el (recs .0) ((taken-reads f start (recs .0) (recs .1)) .numbered))
 
           dataset-is : readDataset f ≡ linked f (recs .0)
           unfolding andThen
           dataset-is = whole f ∙ rw three (rw (recs .1))
 
           pub after-all : l ≡ All → record { number = 0; file = 0; rec = 0; length = 0; count = m + 3 } ≡ read f
-          unfolding readAnswer success count andThen
+          unfolding readAnswer success count andThen saidBy
           after-all y =
-              let c = all-is (references 1 (recs .0) (drop 3 ((recordsOf f) .items))) (sym y ∙ said) in
+              let c = said ∙ ap saidBy y in
               let d = taken-reads f start (recs .0) (recs .1) .counted in
               let o = over .0 in
               let e : m + 3 ≡ 3 + length (recs .0) = omega arith in
@@ -207,10 +150,9 @@ module _ (f : List ℕ) where
               rw e (sym (read-is ∙ ap readAnswer z))
 
           pub after-loose : (n i j : ℕ) → l ≡ Loose n i j → record { number = 11; file = 1; rec = n; length = 0; count = 0 } ≡ read f
-          unfolding andThen
+          unfolding andThen saidBy
           after-loose n i j y =
-              let k : Eleven (references 1 (recs .0) (drop 3 ((recordsOf f) .items))) = rw same (eleven-from (recs .0) f start) in
-              let c = loose-is (references 1 (recs .0) (drop 3 ((recordsOf f) .items))) k n i j (sym y ∙ said) in
+              let c = said ∙ ap saidBy y in
               read-refused n (fault 11 i j) (dataset-is ∙ rw c)
 
 pub ruleset read-ways = (read-long, read-shut, read-behind)

@@ -1,15 +1,16 @@
 -- Laws of number 11 of a dataset, record after record. Assumes nothing.
-use mathlib.Core.Path.{_≡_, refl, sym, ap, ap₂, _∙_}
-use mathlib.Core.List.{List, []}
-use mathlib.Core.Bool.{true}
+use mathlib.Core.Path.{_≡_, refl, sym, _∙_}
+use mathlib.Core.List.{List, [], _∷_}
+use mathlib.Core.Bool.{Bool, true, false}
 use Prim.Native.Nat.{ℕ, _+_, _-_, _^_, _≤_, _<_}
 use native.Mathlib.Omega.{arith}
-use lib.ListN.{length, drop, replicate}
-use Rattle.base.specs.Check.{ok, no, Passed}
+use lib.ListN.{length, take, replicate}
+use Rattle.base.specs.Check.{no, fault}
+use Rattle.base.specs.Choice.{pick}
+use Rattle.base.specs.Keys.{among}
 use Rattle.base.specs.Lists.{each}
 use Rattle.base.specs.Verdict.{verdictOf}
 use Rattle.base.specs.Walk.{Got}
-use Rattle.base.specs.declared.Fault.{Fault}
 use Rattle.base.specs.declared.Verdict.{Verdict}
 use Rattle.base.specs.declared.Verdict.the-variants.{Passed as Through, Refused}
 use Rattle.base.proofs.ChoiceLaws.{both-hold}
@@ -24,22 +25,21 @@ use Rattle.skeleton.proofs.RecordLaws.{Right, right}
 use Rattle.skeleton.proofs.RightLaws.{right-start}
 use Rattle.skeleton.proofs.FileLaws.{records-more}
 use Rattle.skeleton.proofs.AgainLaws.{again, again-not, records-some}
-use Rattle.rules.specs.Associations.{marks, number11}
+use Rattle.rules.specs.Associations.{Mark, marks, number11}
 use Rattle.rules.specs.Record.{Rec, keyOf}
 use Rattle.rules.specs.Outcome.{done}
-use Rattle.rules.specs.File.{references}
 use Rattle.contents.proofs.VerdictLaws.{says-pass}
 use Rattle.keys.specs.Listed.{keysFrom}
 use Rattle.keys.specs.Look.{Sound}
 use Rattle.keys.specs.Numbered.{Numbered}
 use Rattle.keys.specs.Standing.{outcomeFrom, referencesFrom}
 use Rattle.keys.specs.Table.{Tails}
-use Rattle.keys.proofs.ReferenceLaws.{Reads, references-over, references-loose, references-more, passed-sound}
+use Rattle.keys.proofs.ReferenceLaws.{references-over, references-loose, references-more, passed-sound}
 use Rattle.keys.proofs.TableLaws.{tails-same}
 use Rattle.references.specs.Readable.{recordReadable, everyReadable}
 use Rattle.references.specs.Named.{Says}
 use Rattle.references.specs.Vouched.{Aided}
-use Rattle.references.specs.Linked.{linkedBy, Answers}
+use Rattle.references.specs.Linked.{saidBy, Answers}
 use Rattle.references.specs.declared.dataset.Linked.{Linked}
 use Rattle.references.specs.declared.dataset.Linked.the-variants.{All, Loose}
 use Rattle.references.proofs.ReadableLaws.{passed-readable}
@@ -65,14 +65,21 @@ pub reached-in : (f : List ℕ) (start p m : ℕ) → Reached f start p m → p 
 reached-in f start p m s = s .inside
 
 pub reached-over : (f : List ℕ) (start p m : ℕ) → Reached f start p m → length f ≤ p → Answers f start All
-unfolding Answers linkedBy
-reached-over f start p m s h recs b = ap linkedBy (references-over recs f p m _ (s .same recs b) h)
+unfolding Answers saidBy
+reached-over f start p m s h recs b = references-over recs f p m _ (s .same recs b) h
 
--- a test that is refused, and where
-refused-at : (c : Passed) (k i j : ℕ) → Refused k i j ≡ verdictOf c → (x : Fault) × (c ≡ no x) × (i ≡ x .field) × (j ≡ x .tuple)
-unfolding verdictOf
-refused-at (ok u) k i j e = absurd (let z : _≡_ {A = ℕ} 0 1 = cc in omega arith)
-refused-at (no x) k i j e = (x, refl, cc, cc)
+-- a test of references that is refused: it is 11
+loose-at : (keys : List (List ℕ)) (ms : List Mark) (k i j : ℕ) → Refused k i j ≡ verdictOf (number11 keys ms) → number11 keys ms ≡ no (fault 11 i j)
+unfolding number11 verdictOf
+loose-at keys [] k i j e = absurd (let z : _≡_ {A = ℕ} 0 1 = cc in omega arith)
+loose-at keys (m ∷ ms) k i j e = go (loose-at keys ms k i j) (among (take 2 (m .key)) keys) e
+  where
+    go : (Refused k i j ≡ verdictOf (number11 keys ms) → number11 keys ms ≡ no (fault 11 i j)) → (t : Bool) → Refused k i j ≡ verdictOf (pick t (number11 keys ms) (no (fault 11 (m .field) (m .tuple)))) → pick t (number11 keys ms) (no (fault 11 (m .field) (m .tuple))) ≡ no (fault 11 i j)
+    go later true h = later h
+    go later false h =
+        let a : m .field ≡ i = cc in
+        let b : m .tuple ≡ j = cc in
+        rw (a, b)
 
 -- the record at hand, by what its leader says
 module _ (f : List ℕ) (start p m : ℕ) (s : Reached f start p m) (l : p < length f) (h : Head) (eh : h ≡ statedAt f p) where
@@ -142,10 +149,10 @@ module _ (f : List ℕ) (start p m : ℕ) (s : Reached f start p m) (l : p < len
           }
 
       pub record-loose : (k i j : ℕ) → v ≡ Refused k i j → Answers f start (Loose (m + 4) i j)
-      unfolding Says Answers linkedBy
+      unfolding Says Answers saidBy
       record-loose k i j y recs q =
-          let w = refused-at (number11 (each keyOf recs) (marks 1 fields)) k i j (sym y ∙ said recs q) in
-          ap₂ (Loose (m + 4)) (w .2) (w .3) ∙ ap linkedBy (references-loose recs f p m _ (s .same recs q) l h found len base a b x (w .0) (w .1))
+          references-loose recs f p m _ (s .same recs q) l h found len base a b x (fault 11 i j)
+          (loose-at (each keyOf recs) (marks 1 fields) k i j (sym y ∙ said recs q))
 
 pub ruleset records-turn =
     (reached-start, reached-in, reached-over, reached-unread, record-readable, record-bounded, record-right, record-in, record-runs, record-small, record-word, record-counts, record-number, record-falls, record-more, record-loose)
@@ -161,17 +168,3 @@ module _ (f : List ℕ) (start : ℕ) (passed : outcomeFrom f start 0 [] ≡ don
   loose-table n = tails-same f start n loose-sound
 
 pub ruleset loose-ways = (loose-sound, loose-table, passed-readable, arith)
-
--- ---- for callers
-
--- what a test of all references of a dataset gives, from its records as the rules have them
-pub references-from : (f : List ℕ) (start : ℕ) (recs : List Rec) (items : List (List Field)) → drop 3 items ≡ (recordsFrom f start) .items
-    → referencesFrom recs f start 0 ≡ references 1 recs (drop 3 items)
-unfolding referencesFrom references
-references-from f start recs items e = rw e
-
--- the answer is that of the rules
-pub answers-are : (f : List ℕ) (start : ℕ) (r : Linked) → Answers f start r → (recs : List Rec) → Reads f start recs → (items : List (List Field))
-    → drop 3 items ≡ (recordsFrom f start) .items → r ≡ linkedBy (references 1 recs (drop 3 items))
-unfolding Answers
-answers-are f start r a recs reads items e = a recs (reads .numbered) ∙ ap linkedBy (references-from f start recs items e)
