@@ -27,11 +27,11 @@ use Rattle.version.specs.declared.Present.the-variants.{Absent, Here}
 use Rattle.version.specs.declared.Changed.{Changed}
 use Rattle.version.specs.declared.Changed.the-variants.{Refused, Now}
 use Rattle.changing.specs.Given.{Says, reworked}
-use Rattle.changing.specs.Foids.{sameFrom}
+use Rattle.changing.specs.Foids.{foidTest, sameFrom}
 use Rattle.changing.specs.declared.identity.Said.{Said}
 use Rattle.changing.specs.declared.foid.Foids.{Foids}
 use Rattle.changing.specs.declared.foid.Foids.the-variants.{Same, Other}
-use Rattle.changing.proofs.SameLaws.{foidTest, same-rule}
+use Rattle.changing.proofs.SameLaws.{same-rule}
 
 -- a workspace that was lent keeps its length
 pub still-wide : (w o : List ℕ) → length o ≡ length w → 400000 ≤ length w → 400000 ≤ length o
@@ -152,12 +152,12 @@ module _ (k : Kind) (fs : List Field) (s : Said) (x : Says k fs s) (d u w : List
       refl,
     )
 
-    module _ (y : t ≡ true) (f : Foids) (ef : f ≡ sameFrom (gather foidOf (foidBodies d u v)) 1 fs) where
+    module _ (y : t ≡ true) (f : Foids) (ef : foidTest f ≡ sameFrom (gather foidOf (foidBodies d u v)) 1 fs) where
       foid-tested : (o : Option Rec) (z : Stands d u w p o v) → sameFoid 1 fs (z .old) ≡ foidTest f
-      foid-tested o z = same-rule 1 fs (z .old) ∙ ap foidTest (ap (λ (b : List ℕ). sameFrom b 1 fs) (z .held .foid) ∙ sym ef)
+      foid-tested o z = same-rule 1 fs (z .old) ∙ ap (λ (b : List ℕ). sameFrom b 1 fs) (z .held .foid) ∙ sym ef
 
       pub modify-other : (i : ℕ) → f ≡ Other i → ((o : Option Rec) → HeldAs d u w p o → ChangedTo d u w (modified k fs o) (Refused 10 i 0)) × FlagsKept w w
-      unfolding ChangedTo modified bind
+      unfolding ChangedTo modified bind foidTest
       modify-other i g = (
         λ o a. let z = here-stands d u w p o v e a in
             rw (z .is, follows-pass k fs s x d u w v (z .old) (z .held) t is y, foid-tested o z, g) refl,
@@ -166,7 +166,7 @@ module _ (k : Kind) (fs : List Field) (s : Said) (x : Says k fs s) (d u w : List
 
       pub modify-made : f ≡ Same → (w' : List ℕ) (c : Changed) → ((r : Rec) → Held d u w v r → ChangedTo d u w' (reworked (s .rver) fs r) c) × FlagsKept w w'
           → ((o : Option Rec) → HeldAs d u w p o → ChangedTo d u w' (modified k fs o) c) × FlagsKept w w'
-      unfolding modified reworked bind
+      unfolding modified reworked bind foidTest
       modify-made g w' c made = (
         λ o a. let z = here-stands d u w p o v e a in
             rw (z .is, follows-pass k fs s x d u w v (z .old) (z .held) t is y, foid-tested o z, g, ← x .rver) (made .0 (z .old) (z .held)),

@@ -28,23 +28,18 @@ use Rattle.rules.specs.Change.{sameFoid}
 use Rattle.rules.specs.Written.{fieldAs}
 use Rattle.version.specs.Held.{RightFoid, foidBodies}
 use Rattle.version.specs.declared.Version.{Version}
-use Rattle.changing.specs.Foids.{FoidFilled, agreeing, sameFrom}
-use Rattle.changing.specs.declared.foid.Foids.{Foids}
+use Rattle.changing.specs.Foids.{FoidFilled, agreeing, foidTest, sameFrom}
 use Rattle.changing.specs.declared.foid.Foids.the-variants.{Same, Other}
 
 -- ---- as in the rules
 
--- the rules' test
-abbrev pub foidTest : Foids → Passed
-foidTest Same = pass
-foidTest (Other i) = no (fault 10 i 0)
-
-pub same-rule : (i : ℕ) (fs : List Field) (old : Rec) → sameFoid i fs old ≡ foidTest (sameFrom (old .foid) i fs)
+-- the test is the one of the rules
+pub same-rule : (i : ℕ) (fs : List Field) (old : Rec) → sameFoid i fs old ≡ sameFrom (old .foid) i fs
 unfolding sameFoid sameFrom agreeing
 same-rule i [] old = refl
 same-rule i (f ∷ fs) old = go (eqb (f .tag) FOID) (same (foidOf (f .body)) (old .foid)) (sameFoid (i + 1) fs old) (sameFrom (old .foid) (i + 1) fs) (same-rule (i + 1) fs old)
   where
-    go : (a b : Bool) (l : Passed) (m : Foids) → l ≡ foidTest m → pick a (pick b l (no (fault 10 i 0))) l ≡ foidTest (pick (pick a b true) m (Other i))
+    go : (a b : Bool) (l m : Passed) → l ≡ m → pick a (pick b l (no (fault 10 i 0))) l ≡ pick (pick a b true) m (no (fault 10 i 0))
     go true true l m e = e
     go true false l m e = refl
     go false b l m e = e
@@ -99,8 +94,8 @@ module _ (d u : List ℕ) (at len : ℕ) (h : Shape) (v : Version) (q i : ℕ) (
   number-word = omega (arith, s .count, s .inside, s .small, long-is)
 
   module _ (e : Place) (en : e ≡ placeAt (between u at (at + len)) h q) where
-    pub same-done : e ≡ Done → Same ≡ sameFrom (gather foidOf (foidBodies d u v)) 1 (fieldsAt (between u at (at + len)) h 24)
-    unfolding sameFrom
+    pub same-done : e ≡ Done → foidTest Same ≡ sameFrom (gather foidOf (foidBodies d u v)) 1 (fieldsAt (between u at (at + len)) h 24)
+    unfolding sameFrom foidTest
     same-done y = sym (s .same ∙ ap (sameFrom (held d u v) i) (fields-done rs h q e en y))
 
     module _ (tag start end next : ℕ) (y : e ≡ At tag start end next) where
@@ -135,7 +130,7 @@ module _ (d u : List ℕ) (at len : ℕ) (h : Shape) (v : Version) (q i : ℕ) (
       pub field-filled : FoidFilled (fieldAs tag (between u (at + start) (at + end)))
       field-filled = foids-here .0
 
-      from-here : sameFrom (held d u v) 1 (fieldsAt rs h 24) ≡ pick (agreeing (held d u v) here) (sameFrom (held d u v) (i + 1) rest) (Other i)
+      from-here : sameFrom (held d u v) 1 (fieldsAt rs h 24) ≡ pick (agreeing (held d u v) here) (sameFrom (held d u v) (i + 1) rest) (no (fault 10 i 0))
       unfolding sameFrom
       from-here = s .same ∙ ap (sameFrom (held d u v) i) fields-are
 
@@ -150,5 +145,6 @@ module _ (d u : List ℕ) (at len : ℕ) (h : Shape) (v : Version) (q i : ℕ) (
               same = from-here ∙ rw (← et, x) refl;
             }
 
-        pub same-other : t ≡ false → Other i ≡ sameFrom (gather foidOf (foidBodies d u v)) 1 (fieldsAt (between u at (at + len)) h 24)
+        pub same-other : t ≡ false → foidTest (Other i) ≡ sameFrom (gather foidOf (foidBodies d u v)) 1 (fieldsAt (between u at (at + len)) h 24)
+        unfolding foidTest
         same-other x = sym (from-here ∙ rw (← et, x) refl)

@@ -5,6 +5,7 @@ use mathlib.Core.Bool.{Bool, true}
 use mathlib.Core.List.{List, [], _∷_}
 use lib.Dec.{eqb}
 use Rattle.base.specs.Choice.{pick}
+use Rattle.base.specs.Check.{no, fault, Passed, pass}
 use Rattle.base.specs.Keys.{same}
 use Rattle.skeleton.specs.File.{Field}
 use Rattle.fields.specs.Table.{headOf}
@@ -23,7 +24,12 @@ FoidFilled f = f .tag ≡ FOID → fill (headOf Foid) [] (f .body) ≡ true
 unfoldable pub agreeing : List ℕ → Field → Bool
 agreeing old f = pick (eqb (f .tag) FOID) (same (foidOf (f .body)) old) true
 
--- the fields from number i on are so, or the number of the first that is not
-unfoldable pub sameFrom : List ℕ → ℕ → List Field → Foids
-sameFrom old i [] = Same
-sameFrom old i (f ∷ fs) = let later = sameFrom old (i + 1) fs in pick (agreeing old f) later (Other i)
+-- what the code answers, as a test: it passed, or 10 at that field
+unfoldable pub foidTest : Foids → Passed
+foidTest Same = pass
+foidTest (Other i) = no (fault 10 i 0)
+
+-- the fields from number i on are so, else 10 at the first that is not
+unfoldable pub sameFrom : List ℕ → ℕ → List Field → Passed
+sameFrom old i [] = pass
+sameFrom old i (f ∷ fs) = let later = sameFrom old (i + 1) fs in pick (agreeing old f) later (no (fault 10 i 0))

@@ -21,9 +21,9 @@ ghost use Rattle.fields.specs.declared.Format.the-variants.{Foid};
 ghost use Rattle.rules.specs.Record.{foidOf};
 ghost use Rattle.rules.specs.Written.{fieldAs};
 ghost use Rattle.version.specs.Held.{RightFoid, foidBodies};
-ghost use Rattle.changing.specs.Foids.{FoidFilled, agreeing, sameFrom};
+ghost use Rattle.changing.specs.Foids.{FoidFilled, agreeing, foidTest, sameFrom};
 
-// Each FOID is the version's; or the number of the field that is another.
+// Each FOID is the version's; or the number of the field that is another (10).
 pub enum Foids {
     Same,
     Other(usize),
@@ -74,7 +74,7 @@ fn agrees(d: &[u8], u: &[u8], tag: u32, from: usize, to: usize, v: Version) -> b
 pub fn same_foid(d: &[u8], u: &[u8], at: usize, len: usize, h: Shape, v: Version) -> Foids
     requires { ⌜ (recordAt (now u) at ≡ Good len (h .base) (h .a) (h .b)) × (length (now d) ≤ 16777216) × (length (now u) ≤ 16777216)
         × Each FoidFilled (fieldsAt (between (now u) at (at + len)) h 24) × Each RightFoid (foidBodies (now d) (now u) v) ⌝ }
-    ensures { λ r. ⌜ r ≡ sameFrom (gather foidOf (foidBodies (now (d .entry)) (now (u .entry)) v)) 1 (fieldsAt (between (now (u .entry)) at (at + len)) h 24) ⌝ }
+    ensures { λ r. ⌜ foidTest r ≡ sameFrom (gather foidOf (foidBodies (now (d .entry)) (now (u .entry)) v)) 1 (fieldsAt (between (now (u .entry)) at (at + len)) h 24) ⌝ }
 {
     let stop = at + len;
     let mut q = 24;
