@@ -330,9 +330,9 @@ pub record Verdicts (d : List ℕ) (ds : ℕ) (u : List ℕ) (us q j : ℕ) (s :
   pub small : j ≤ q
 
 module _ (d : List ℕ) (ds : ℕ) (u : List ℕ) (us : ℕ) (y : Ready d ds u us) where
-  pub verdicts-start : (w : List ℕ) → Flags [] (flagArea w) → Verdicts d ds u us us 0 (record { at = length u; number = 0; field = 0; tuple = 0 }) w
+  pub verdicts-start : (w : List ℕ) → Verdicts d ds u us us 0 (record { at = length u; number = 0; field = 0; tuple = 0 }) w
   unfolding each
-  verdicts-start w f = record {
+  verdicts-start w = record {
     leads = here;
     judging = record {
       leads = leads-end u us (ready-sound d ds u us y);
@@ -340,7 +340,7 @@ module _ (d : List ℕ) (ds : ℕ) (u : List ℕ) (us : ℕ) (y : Ready d ds u u
       through = λ key h. absurd (true≢false (sym h ∙ ap (λ (xs : List (List Field)). listed key (each keyOf xs)) (upto-start u us) ∙ listed-none key));
       ends = λ h. absurd (omega arith);
     };
-    flags = subst (λ (xs : List (List Field)). Flags (each keyOf xs) (flagArea w)) (sym (upto-start u us)) f;
+    flags = subst (λ (xs : List (List Field)). Flags (each keyOf xs) (flagArea w)) (sym (upto-start u us)) (flags-none (flagArea w));
     counted = ap length (sym (upto-start u us));
     small = omega arith;
   }

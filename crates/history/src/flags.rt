@@ -4,12 +4,14 @@ use keys::bits::raise;
 use memory::clearing::zero_part;
 use version::areas::part;
 ghost use mathlib.Core.Path.{_≡_};
-ghost use mathlib.Core.List.{[], _++_};
+ghost use mathlib.Core.List.{_++_};
 ghost use Prim.Native.Nat.{_-_, _≤_};
 ghost use lib.ListN.{length, take, drop};
+ghost use Rattle.memory.specs.Put.{put};
+ghost use Rattle.memory.specs.Hold.{zeros};
 ghost use Rattle.keys.specs.Bits.{flagOf, raised};
 ghost use Rattle.version.specs.Areas.{flagArea};
-ghost use Rattle.history.specs.Flags.{keyFlag, Flags, Marked};
+ghost use Rattle.history.specs.Flags.{keyFlag, Marked};
 
 // Raises flag i of those in the bytes from `from` to `to`, which are not numbers here, as in `part`.
 fn raise_in(s: &mut [u8], from: usize, to: usize, i: usize)
@@ -27,10 +29,10 @@ pub fn flags_of(work: &[u8]) -> &[u8]
     part(work, 386000, 400000)
 }
 
-// Lowers all of them.
+// Lowers all of them; the rest of the workspace stays as it is.
 pub fn lower(work: &mut [u8])
     requires { ⌜ 400000 ≤ length (now work) ⌝ }
-    ensures { λ _. ⌜ Flags [] (flagArea (now (work .exit))) ⌝ }
+    ensures { λ _. ⌜ now (work .exit) ≡ put 386000 (zeros 14000) (now (work .entry)) ⌝ }
 {
     zero_part(work, 386000, 14000);
 }

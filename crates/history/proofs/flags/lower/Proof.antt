@@ -1,5 +1,4 @@
 -- `lower` meets its contract. Assumes nothing.
-use Rattle.history.proofs.FlagLaws.{flags-none}
 use borrow.Author.Needs.{needs}
 use Rattle.history.proofs.flags.lower.Statement.{statement}
 use Rattle.history.proofs.flags.lower.Tie as tie
@@ -11,7 +10,7 @@ same-length : tie.Need-same-length
 same-length c = search needs
 
 returns : tie.Need-returns
-returns c = flags-none _
+returns c = search needs
 
 pub lower-spec : {M : Type 1} → statement M
 lower-spec = tie.close (tie.spec zero-part-requires same-length returns)

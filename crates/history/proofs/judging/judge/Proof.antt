@@ -24,7 +24,7 @@ lower-requires : tie.Need-lower-requires Inv-loop μ-loop
 lower-requires c κs = search needs
 
 loop-holds : tie.Need-loop-holds Inv-loop μ-loop
-loop-holds c = (verdicts-start _ _ _ _ (c .before .before .before .before .before .before .before .before .before .before .pre .0) _ (c .before .before .lower .ensures), refl)
+loop-holds c = (verdicts-start _ _ _ _ (c .before .before .before .before .before .before .before .before .before .before .pre .0) _, refl)
 
 look-at-requires : tie.Need-look-at-requires Inv-loop μ-loop
 look-at-requires c κs = verdicts-look _ _ _ _ (c .before .before .before .before .before .before .before .before .before .before .before .before .pre .0) _ _ _ _ (c .before .loop .inv .0)
