@@ -18,11 +18,12 @@ use Rattle.skeleton.specs.declared.leader.Head.the-variants.{Good, Refused}
 use Rattle.skeleton.proofs.RecordLaws.{right, record-in, record-falls, record-word, record-bounded}
 use Rattle.skeleton.proofs.EmitFileLaws.{length-emits}
 use Rattle.rules.specs.Written.{fieldWidth, writtenLength, number12}
-use Rattle.rules.specs.Outcome.{done, refused, andThen, at, everyRecord}
+use Rattle.rules.specs.Outcome.{Outcome, done, refused, andThen, at, everyRecord}
+use Rattle.rules.proofs.OutcomeLaws.{refuses, andThen-inv, done-inj}
 use Rattle.sequence.proofs.Tests.{by-bool}
 use Rattle.writing.specs.House.{inHouseForm}
 use Rattle.writer.specs.Forms.{formsFrom, lengths}
-use Rattle.writer.specs.Measured.{measuredFrom}
+use Rattle.writer.specs.Measured.{saidBy, measuredFrom}
 use Rattle.writer.specs.declared.Measured.the-variants.{Total, TooLong}
 use Rattle.writer.proofs.FormsLaws.{forms-over, forms-refused, forms-more}
 
@@ -42,23 +43,35 @@ pub record MeasuresAt (f : List ℕ) (p n total : ℕ) : Type 0 where
 pub measure-start : (f : List ℕ) → MeasuresAt f 0 1 0
 measure-start f = record { same = refl; inside = omega arith; few = omega arith; small = omega arith }
 
+-- number 12 of a record in front
+measured-more : (n total : ℕ) (fs : List Field) (rest : List (List Field))
+    → measuredFrom n total (fs ∷ rest) ≡ pick (ltb 99999 (writtenLength fs)) (refused 1 n (fault 12 0 0)) (measuredFrom (n + 1) (total + writtenLength fs) rest)
+unfolding measuredFrom everyRecord lengths number12 at andThen
+measured-more n total fs rest =
+    by-bool (ltb 99999 (writtenLength fs))
+    (λ h. rw h)
+    (λ h. rw h (ap (λ (m : ℕ). andThen (everyRecord number12 1 (n + 1) rest) (λ _. done m)) (omega arith)))
+
 module _ (f : List ℕ) (p n total : ℕ) (inv : MeasuresAt f p n total) where
-  pub measure-over : length f ≤ p → Total total ≡ measuredFrom 1 0 (formsFrom f 0 1)
-  unfolding measuredFrom
-  measure-over h = rw (forms-over f p n h) at (inv .same)
+  -- no record is left
+  none-left : formsFrom f p n ≡ [] → saidBy (Total total) ≡ measuredFrom 1 0 (formsFrom f 0 1)
+  unfolding saidBy measuredFrom everyRecord lengths andThen
+  none-left e = let z : total ≡ total + 0 = omega arith in ap (λ (m : ℕ). done m) z ∙ rw e at (inv .same)
+
+  pub measure-over : length f ≤ p → saidBy (Total total) ≡ measuredFrom 1 0 (formsFrom f 0 1)
+  measure-over h = none-left (forms-over f p n h)
 
   module _ (l : p < length f) (h : Head) (eh : h ≡ recordAt f p) where
-    pub measure-refused : (k : ℕ) → h ≡ Refused k → Total total ≡ measuredFrom 1 0 (formsFrom f 0 1)
-    unfolding measuredFrom
-    measure-refused k x = rw (forms-refused f p n l h eh k x) at (inv .same)
+    pub measure-refused : (k : ℕ) → h ≡ Refused k → saidBy (Total total) ≡ measuredFrom 1 0 (formsFrom f 0 1)
+    measure-refused k x = none-left (forms-refused f p n l h eh k x)
 
     module _ (len base a b : ℕ) (x : h ≡ Good len base a b) (size : ℕ)
         (es : size ≡ writtenLength (inHouseForm (ltb 3 n) (fieldsAt (between f p (p + len)) (record { base = base; a = a; b = b }) 24))) where
-      turn : pick (ltb 99999 size) (TooLong n) (measuredFrom (n + 1) (total + size) (formsFrom f (p + len) (n + 1))) ≡ measuredFrom 1 0 (formsFrom f 0 1)
-      unfolding measuredFrom
-      turn = rw es (rw (forms-more f p n l h eh len base a b x) at (inv .same))
+      turn : pick (ltb 99999 size) (refused 1 n (fault 12 0 0)) (measuredFrom (n + 1) (total + size) (formsFrom f (p + len) (n + 1))) ≡ measuredFrom 1 0 (formsFrom f 0 1)
+      turn = rw es (sym (measured-more n total _ _) ∙ rw (forms-more f p n l h eh len base a b x) at (inv .same))
 
-      pub measure-long : 99999 < size → TooLong n ≡ measuredFrom 1 0 (formsFrom f 0 1)
+      pub measure-long : 99999 < size → saidBy (TooLong n) ≡ measuredFrom 1 0 (formsFrom f 0 1)
+      unfolding saidBy
       measure-long g = rw (lt-ltb 99999 size g) at turn
 
       module _ (g : size ≤ 99999) where
@@ -93,33 +106,27 @@ pub ruleset measure-turn = (
 
 -- ---- what the answer says
 
-not-long : {X : Type 0} {m k : ℕ} → TooLong m ≡ Total k → X
-not-long e = absurd (let z : _≡_ {A = ℕ} 0 1 = cc in omega arith)
-
-total-same : (m k : ℕ) → Total m ≡ Total k → m ≡ k
-total-same m k e = cc
-
-long-same : (m k : ℕ) → TooLong m ≡ TooLong k → m ≡ k
-long-same m k e = cc
-
 -- no record is above 99,999 bytes, and this is the length of all
-pub all-short : (n total size : ℕ) (fss : List (List Field)) → measuredFrom n total fss ≡ Total size
-    → (everyRecord number12 1 n fss ≡ done tt) × (size ≡ total + lengths fss)
-unfolding measuredFrom everyRecord lengths number12 at andThen
-all-short n total size [] e = let z = total-same total size e in (refl, omega arith)
-all-short n total size (fs ∷ rest) e =
-    by-bool (ltb 99999 (writtenLength fs))
-    (λ h. not-long (rw h at e))
-    (λ h. let (a, b) = all-short (n + 1) (total + writtenLength fs) size rest (rw h at e) in (rw (h, a), omega arith))
+pub all-short : (size : ℕ) (fss : List (List Field)) → saidBy (Total size) ≡ measuredFrom 1 0 fss → (everyRecord number12 1 1 fss ≡ done tt) × (size ≡ lengths fss)
+unfolding saidBy measuredFrom andThen
+all-short size fss e =
+    let (t, a, b) = andThen-inv (everyRecord number12 1 1 fss) (λ _. done (0 + lengths fss)) size (sym e) in
+    let z = done-inj (0 + lengths fss) size b in
+    (a, omega arith)
 
 -- the first that is
-pub first-long : (n total m : ℕ) (fss : List (List Field)) → measuredFrom n total fss ≡ TooLong m → everyRecord number12 1 n fss ≡ refused 1 m (fault 12 0 0)
-unfolding measuredFrom everyRecord number12 at andThen
-first-long n total m [] e = not-long (sym e)
-first-long n total m (fs ∷ rest) e =
-    by-bool (ltb 99999 (writtenLength fs))
-    (λ h. rw (h, long-same n m (rw h at e)))
-    (λ h. rw h (first-long (n + 1) (total + writtenLength fs) m rest (rw h at e)))
+pub first-long : (m : ℕ) (fss : List (List Field)) → saidBy (TooLong m) ≡ measuredFrom 1 0 fss → everyRecord number12 1 1 fss ≡ refused 1 m (fault 12 0 0)
+unfolding saidBy measuredFrom andThen
+first-long m fss e = go (everyRecord number12 1 1 fss) refl
+  where
+    go : (c : Outcome (Unit {0})) → everyRecord number12 1 1 fss ≡ c → c ≡ refused 1 m (fault 12 0 0)
+    go (done tt) h = refuses (rw h at e)
+    go (refused file n x) h =
+        let z : _≡_ {A = Outcome ℕ} (refused 1 m (fault 12 0 0)) (refused file n x) = rw h at e in
+        let a : file ≡ 1 = cc in
+        let b : n ≡ m = cc in
+        let c : x ≡ fault 12 0 0 = cc in
+        rw (a, b, c)
 
 -- the length of all is that of the file
 pub lengths-emits : (first : Bool) (fss : List (List Field)) → length (emits fieldWidth fieldWidth first fss) ≡ lengths fss

@@ -22,7 +22,7 @@ use Rattle.promises.specs.Promise.{Writes}
 use Rattle.numbers.specs.Zero.{Done}
 use Rattle.numbers.proofs.Answers.{zero-is-done}
 use Rattle.writer.specs.Forms.{formsFrom, lengths}
-use Rattle.writer.specs.Measured.{measuredFrom}
+use Rattle.writer.specs.Measured.{saidBy, measuredFrom}
 use Rattle.writer.specs.Ready.{Ready}
 use Rattle.writer.specs.declared.Measured.{Measured}
 use Rattle.writer.specs.declared.Measured.the-variants.{Total, TooLong}
@@ -130,14 +130,14 @@ module _ (f : List ℕ) (a : Answer) (ea : a ≡ read f) where
     pub answer-small : length f ≤ 16777216
     answer-small = read-inv f (is-done .0) (is-done .1) .0
 
-    module _ (g : Bytes f) (m : Measured) (em : m ≡ measuredFrom 1 0 (formsFrom f 0 1)) where
+    module _ (g : Bytes f) (m : Measured) (em : saidBy m ≡ measuredFrom 1 0 (formsFrom f 0 1)) where
       forms-are : formsFrom f 0 1 ≡ written (is-done .0)
       forms-are = read-forms f (is-done .0) g (read-inv f (is-done .0) (is-done .1) .1)
 
       pub answer-ready : (size : ℕ) → m ≡ Total size → Ready f size (a .count)
       unfolding writable andThen read readAnswer success
       answer-ready size x =
-          let (s, l) = all-short 1 0 size (written (is-done .0)) (sym (ap (measuredFrom 1 0) forms-are) ∙ sym em ∙ x) in
+          let (s, l) = all-short size (written (is-done .0)) (ap saidBy (sym x) ∙ em ∙ ap (measuredFrom 1 0) forms-are) in
           record {
             dataset = is-done .0;
             isRead = is-done .1;
@@ -151,5 +151,5 @@ module _ (f : List ℕ) (a : Answer) (ea : a ≡ read f) where
           → o ≡ zeros room → Writes f room r o
       unfolding writeOutcome writable andThen
       answer-long n x room r o =
-          let s = first-long 1 0 n (written (is-done .0)) (sym (ap (measuredFrom 1 0) forms-are) ∙ sym em ∙ x) in
+          let s = first-long n (written (is-done .0)) (ap saidBy (sym x) ∙ em ∙ ap (measuredFrom 1 0) forms-are) in
           answers-refused f room 1 n (fault 12 0 0) r o (rw (is-done .1) (rw s))

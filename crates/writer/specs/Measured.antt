@@ -1,16 +1,19 @@
 -- The length of a written file, record by record.
 use Prim.Native.Nat.{ℕ, _+_}
-use mathlib.Core.List.{List, [], _∷_}
-use lib.Dec.{ltb}
-use Rattle.base.specs.Choice.{pick}
+use mathlib.Core.List.{List}
+use Rattle.base.specs.Check.{fault}
 use Rattle.skeleton.specs.File.{Field}
-use Rattle.rules.specs.Written.{writtenLength}
+use Rattle.rules.specs.Outcome.{Outcome, done, refused, andThen, everyRecord}
+use Rattle.rules.specs.Written.{number12}
+use Rattle.writer.specs.Forms.{lengths}
 use Rattle.writer.specs.declared.Measured.{Measured}
 use Rattle.writer.specs.declared.Measured.the-variants.{Total, TooLong}
 
--- the records from number n on, where those before them have `total` bytes: the length of all, or the number of the first that is too long
-unfoldable pub measuredFrom : ℕ → ℕ → List (List Field) → Measured
-measuredFrom n total [] = Total total
-measuredFrom n total (fs ∷ rest) =
-    let later = measuredFrom (n + 1) (total + writtenLength fs) rest in
-    pick (ltb 99999 (writtenLength fs)) (TooLong n) later
+-- what the code answers, as an outcome: the length, or 12 of record n of the dataset
+unfoldable pub saidBy : Measured → Outcome ℕ
+saidBy (Total size) = done size
+saidBy (TooLong n) = refused 1 n (fault 12 0 0)
+
+-- number 12 of the records from number n on, where those before them have `total` bytes, and then the length of all
+unfoldable pub measuredFrom : ℕ → ℕ → List (List Field) → Outcome ℕ
+measuredFrom n total fss = andThen (everyRecord number12 1 n fss) (λ _. done (total + lengths fss))

@@ -18,10 +18,10 @@ ghost use Rattle.skeleton.specs.Emit.{emits};
 ghost use Rattle.rules.specs.Written.{fieldWidth};
 ghost use Rattle.promises.specs.Promise.{Writes};
 ghost use Rattle.writer.specs.Forms.{formsFrom, lengths};
-ghost use Rattle.writer.specs.Measured.{measuredFrom};
+ghost use Rattle.writer.specs.Measured.{saidBy, measuredFrom};
 ghost use Rattle.writer.specs.Ready.{Ready};
 
-// How long a file is when it is written; or the number of the first record that is too long then.
+// How long a file is when it is written; or the number of the first record that is too long then (12).
 pub enum Measured {
     Total(usize),
     TooLong(usize),
@@ -30,7 +30,7 @@ pub enum Measured {
 // The length of a file's written form, record by record: number 12. The lists of the first three records are not joined.
 pub fn measure(f: &[u8]) -> Measured
     requires { ⌜ length (now f) ≤ 16777216 ⌝ }
-    ensures { λ r. ⌜ r ≡ measuredFrom 1 0 (formsFrom (now (f .entry)) 0 1) ⌝ }
+    ensures { λ r. ⌜ saidBy r ≡ measuredFrom 1 0 (formsFrom (now (f .entry)) 0 1) ⌝ }
 {
     let mut p = 0;
     let mut n = 1;
