@@ -28,12 +28,21 @@ pub record Surely (sure : Bool) (Told : Type 0) (b : Bool) : Type 0 where
   pub told : sure ≡ false → Told
   pub known : sure ≡ true → b ≡ true
 
+-- the number of the refusal that the code answers, 0 where it is none; the record, the field and the tuple are not told
+abbrev pub numberOf : Made → ℕ
+numberOf Loose = 11
+numberOf (Next n) = 0
+
 -- sure: it is known before that what the result's records name stands
 module _ (d : List ℕ) (ds : ℕ) (u : List ℕ) (us : ℕ) (flags : List ℕ) (sure : Bool) where
+  -- the record r is refused with this number for what it names
+  abbrev pub Untied : ℕ → Rec → Type 0
+  Untied number r = (recs : List Rec) → Settled recs d ds u us flags
+      → (x : Fault) × (x .number ≡ number) × (refersTo (standing chart recs ((recordsFrom u us) .items)) (marks 1 (writtenFields r)) ≡ no x)
+
   -- number 11 refuses the record r; or it passes, if that is not sure, and r is written from `to` on where there is room
   unfoldable pub MadeOf : Rec → ℕ → List ℕ → List ℕ → Made → Type 0
-  MadeOf r to before out Loose = (recs : List Rec) → Settled recs d ds u us flags
-      → (x : Fault) × (x .number ≡ 11) × (refersTo (standing chart recs ((recordsFrom u us) .items)) (marks 1 (writtenFields r)) ≡ no x)
+  MadeOf r to before out Loose = Untied (numberOf Loose) r
   MadeOf r to before out (Next n) = (sure ≡ false → (recs : List Rec) → Settled recs d ds u us flags → refersTo (standing chart recs ((recordsFrom u us) .items)) (marks 1 (writtenFields r)) ≡ pass)
       × Emitted (writtenFields r) to before n out
 

@@ -17,7 +17,7 @@ ghost use Rattle.writing.specs.House.{inHouseForm};
 ghost use Rattle.composing.specs.Tied.{Noted, StaysAll};
 ghost use Rattle.composing.specs.Made.{Surely, CarriesTied};
 
-// It names a record that does not stand; or where the next one begins.
+// It names a record that does not stand (11); or where the next one begins.
 pub enum Made {
     Loose,
     Next(usize),

@@ -47,7 +47,7 @@ module _ (d : List ℕ) (ds : ℕ) (u : List ℕ) (us : ℕ) (flags : List ℕ) 
   -- what was made of it is a step
   pub made-step : (r : Rec) → number12 (writtenFields r) ≡ pass → (m : Made) → MadeOf d ds u us flags sure r to before out m → Stepped d ds u us flags sure (r ∷ []) to before out (stepBy m)
   unfolding Stepped stepBy
-  made-step r f MadeLoose o = (r, refl, o)
+  made-step r f MadeLoose o = (r, refl, unfold MadeOf in o)
   made-step r f (Next n) o = (r, refl, o, unfold MadeOf in (let e = o .1 .next in let s = short-record (writtenFields r) f in omega arith))
 
   -- of other records, which are the same

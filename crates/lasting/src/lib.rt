@@ -5,7 +5,7 @@ pub mod new;
 pub mod old;
 pub mod stepping;
 
-// Nothing stays of it; or it names a record that does not stand; or it is written, and the next one begins there.
+// Nothing stays of it; or it names a record that does not stand (11); or it is written, and the next one begins there.
 pub enum Step {
     Nothing,
     Loose,
