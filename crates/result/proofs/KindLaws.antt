@@ -15,7 +15,7 @@ use Rattle.updates.specs.Streamed.{resultRecords, resultReferences}
 use Rattle.stock.specs.Stock.{stockFrom}
 use Rattle.composing.specs.Composing.{Complete}
 use Rattle.composing.proofs.ComposingLaws.{left-all, left-kind, left-end, composing-start, composing-same, composing-over}
-use Rattle.result.specs.Composed.{ComposedBy, Again}
+use Rattle.result.specs.Composed.{saidBy, composedOf, ComposedBy, Again}
 use Rattle.result.specs.declared.Composed.{Composed}
 use Rattle.sorting.specs.Indices.{Indices, Spared}
 use Rattle.sorting.specs.declared.limits.Limits.{Limits}
@@ -29,6 +29,7 @@ use Rattle.result.specs.declared.pass.Pass.{Pass}
 use Rattle.result.specs.declared.pass.Pass.the-variants.{Loose, Went}
 use Rattle.result.specs.declared.Composed.the-variants.{Loose as LooseResult, Whole as WholeResult}
 use Rattle.result.proofs.RestLaws.{rest-bytes, rest-long}
+use Rattle.result.proofs.ComposedLaws.{said-loose, said-whole, loose-said, whole-linked, whole-long, whole-counted}
 use Rattle.result.proofs.PassLaws.{walked-from, passing-then, sparing-none, sparing-then, sparing-spared}
 use Rattle.result.proofs.WalkLaws.{old-start, old-later, old-from, new-start}
 
@@ -184,10 +185,7 @@ module _ (d : List ℕ) (ds : ℕ) (u : List ℕ) (us : ℕ) where
           (composing-same (linksOf d ds u us) (resultRecords (stockFrom d ds) ((recordsFrom u us) .items)) at before (g .made) (g .to) out _ _
           (left-end (stockFrom d ds) ((recordsFrom u us) .items) q (let p = k .place in omega arith)) (k .passing at before none-made)) in
           record {
-            loose = λ i e. absurd (let z : _≡_ {A = ℕ} 0 1 = cc in omega arith);
-            linked = λ len c e. all .passed;
-            long = λ len c e. let z : len ≡ g .to = cc in z ∙ all .long ∙ ap (λ (n : ℕ). at + n) (rest-long (stockFrom d ds) ((recordsFrom u us) .items));
-            counted = λ len c e. let z : c ≡ g .made = cc in z ∙ all .count;
+            said = said-whole _ _ at (g .to) (g .made) (all .passed) (all .long ∙ ap (λ (n : ℕ). at + n) (rest-long (stockFrom d ds) ((recordsFrom u us) .items))) (all .count);
             stands = λ len c e s.
                 let z : len ≡ g .to = cc in
                 all .wrote (omega arith) .is ∙ ap (λ (b : List ℕ). put at b before) (rest-bytes (stockFrom d ds) ((recordsFrom u us) .items));
@@ -214,10 +212,7 @@ module _ (d : List ℕ) (ds : ℕ) (u : List ℕ) (us : ℕ) where
               = subst (λ (a : Pass). Passing d ds u us (kindsLeft d ds u us 1) (kindsLeft d ds u us (suc q)) (record { to = at; made = 0; next = ds }) before out2 a) x on in
               let y = f at before none-made in
               record {
-                loose = λ j e. let z : i ≡ j = cc in (y .0, y .1, y .2 ∙ ap (λ (m : ℕ). refused 3 m (y .0)) z);
-                linked = λ len c e. absurd (let z : _≡_ {A = ℕ} 0 1 = cc in omega arith);
-                long = λ len c e. absurd (let z : _≡_ {A = ℕ} 0 1 = cc in omega arith);
-                counted = λ len c e. absurd (let z : _≡_ {A = ℕ} 0 1 = cc in omega arith);
+                said = said-loose _ _ at i (y .0) (y .1) (y .2);
                 stands = λ len c e. absurd (let z : _≡_ {A = ℕ} 0 1 = cc in omega arith);
                 kept = λ len c e. absurd (let z : _≡_ {A = ℕ} 0 1 = cc in omega arith);
               }
@@ -260,17 +255,17 @@ module _ (d : List ℕ) (ds : ℕ) (u : List ℕ) (us at : ℕ) (o o₂ : List �
     (c : ComposedBy (stockFrom d ds) ((recordsFrom u us) .items) (at + 33554432) o r o₂) where
   pub dry-loose : (k : ℕ) → r ≡ LooseResult k → ComposedBy (stockFrom d ds) ((recordsFrom u us) .items) at o (LooseResult k) o₂
   dry-loose k x = record {
-    loose = λ j e. c .loose j (x ∙ e);
-    linked = λ len n e. absurd (let z : _≡_ {A = ℕ} 0 1 = cc in omega arith);
-    long = λ len n e. absurd (let z : _≡_ {A = ℕ} 0 1 = cc in omega arith);
-    counted = λ len n e. absurd (let z : _≡_ {A = ℕ} 0 1 = cc in omega arith);
+    said = let (y, z, e) = loose-said _ _ (at + 33554432) k (ap saidBy (sym x) ∙ c .said) in said-loose _ _ at k y z e;
     stands = λ len n e. absurd (let z : _≡_ {A = ℕ} 0 1 = cc in omega arith);
     kept = λ len n e. absurd (let z : _≡_ {A = ℕ} 0 1 = cc in omega arith);
   }
 
   module _ (len n : ℕ) (x : r ≡ WholeResult len n) where
+    whole : saidBy (WholeResult len n) ≡ composedOf (stockFrom d ds) ((recordsFrom u us) .items) (at + 33554432)
+    whole = ap saidBy (sym x) ∙ c .said
+
     pub dry-long : 33554432 ≤ len
-    dry-long = omega (arith, c .long len n x)
+    dry-long = omega (arith, whole-long _ _ (at + 33554432) len n whole)
 
     -- nothing was written
     pub dry-kept : o₂ ≡ o
@@ -281,18 +276,15 @@ module _ (d : List ℕ) (ds : ℕ) (u : List ℕ) (us at : ℕ) (o o₂ : List �
 
     pub dry-clear : (lim : Limits) → Clear d ds u us lim
     unfolding Clear
-    dry-clear lim h = c .linked len n x
+    dry-clear lim h = whole-linked _ _ (at + 33554432) len n whole
 
     -- it has no room
     pub dry-short : length o₂ < len - 33554432 → ComposedBy (stockFrom d ds) ((recordsFrom u us) .items) at o (WholeResult (len - 33554432) n) o₂
     dry-short h =
-        let l = c .long len n x in
+        let l = whole-long _ _ (at + 33554432) len n whole in
         let same = ap length dry-kept in
         record {
-          loose = λ k e. absurd (let z : _≡_ {A = ℕ} 0 1 = cc in omega arith);
-          linked = λ m k e. c .linked len n x;
-          long = λ m k e. let z : m ≡ len - 33554432 = cc in z ∙ omega arith;
-          counted = λ m k e. let z : k ≡ n = cc in z ∙ c .counted len n x;
+          said = said-whole _ _ at (len - 33554432) n (whole-linked _ _ (at + 33554432) len n whole) (omega arith) (whole-counted _ _ (at + 33554432) len n whole);
           stands = λ m k e g. absurd (let z : m ≡ len - 33554432 = cc in omega arith);
           kept = λ m k e g. dry-kept;
         }

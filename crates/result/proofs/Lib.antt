@@ -1,4 +1,5 @@
 pub mod RestLaws
+pub mod ComposedLaws
 pub mod PassLaws
 pub mod WalkLaws
 pub mod SideLaws

@@ -40,6 +40,11 @@ unfoldable pub passFrom : Pass → ℕ → Pass
 passFrom (Loose k) next = Loose k
 passFrom (Went g) next = Went (record { to = g .to; made = g .made; next = next })
 
+-- the number of the refusal that the pass stopped at, 0 where it went on; it is one of the result, the third file
+abbrev pub numberOf : Pass → ℕ
+numberOf (Loose k) = 11
+numberOf (Went g) = 0
+
 -- from g, where out was `before`, it wrote no further than where it went on to, and from behind the end of out on nothing
 unfoldable pub Sparing : Progress → List ℕ → List ℕ → Pass → Type 0
 Sparing g before out (Loose k) = Unit {0}
@@ -74,7 +79,7 @@ module _ (d : List ℕ) (ds : ℕ) (u : List ℕ) (us : ℕ) where
   -- `left` was left at g, and out was `before` then. The pass stopped at a loose reference; or now `later` is left
   unfoldable pub Passing : List Rec → List Rec → Progress → List ℕ → List ℕ → Pass → Type 0
   Passing left later g before out (Loose k) = (at : ℕ) (first : List ℕ) → Made left at (g .made) (g .to) first before
-      → (x : Fault) × (x .number ≡ 11) × (resultReferences (stockFrom d ds) ((recordsFrom u us) .items) ≡ refused 3 k x)
+      → (x : Fault) × (x .number ≡ numberOf (Loose k)) × (resultReferences (stockFrom d ds) ((recordsFrom u us) .items) ≡ refused 3 k x)
   Passing left later g before out (Went h) = (at : ℕ) (first : List ℕ) → Made left at (g .made) (g .to) first before → Made later at (h .made) (h .to) first out
 
   -- it made so many at most

@@ -30,7 +30,7 @@ pub mod pass;
 pub mod turn;
 pub mod walk;
 
-// The number of the record with a loose reference; or the length of the result and the count of its records behind the third.
+// The number of the record with a loose reference (11); or the length of the result and the count of its records behind the third.
 pub enum Composed {
     Loose(usize),
     Whole { length: usize, count: usize },

@@ -10,7 +10,7 @@ pub struct Progress {
     pub next: usize,
 }
 
-// The number of the result's record with a loose reference; or how far the pass went.
+// The number of the result's record with a loose reference (11); or how far the pass went.
 pub enum Pass {
     Loose(usize),
     Went(Progress),
