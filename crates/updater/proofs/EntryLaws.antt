@@ -32,9 +32,10 @@ use Rattle.history.specs.Flags.{Flags}
 use Rattle.history.specs.declared.judging.Judged.{Judged}
 use Rattle.history.specs.declared.judging.Judged.the-variants.{Fine, Stopped}
 use Rattle.history.proofs.PlayingLaws.{rest-sound}
-use Rattle.result.specs.Composed.{ComposedBy}
+use Rattle.result.specs.Composed.{saidBy, composedOf, ComposedBy}
 use Rattle.result.specs.declared.Composed.{Composed}
 use Rattle.result.specs.declared.Composed.the-variants.{Loose, Whole}
+use Rattle.result.proofs.ComposedLaws.{loose-said, whole-linked, whole-long, whole-counted}
 use Rattle.updater.specs.Stages.{sentFrom, Fits, Begun, Acted, Built}
 use Rattle.updater.proofs.StageLaws.{refusing, built-as, little-work, long-dataset, long-update}
 use Rattle.updater.proofs.PlacedLaws.{begun-once, begun-writable}
@@ -121,24 +122,27 @@ module _ (f u : List ℕ) (ds us front : ℕ) (k : Begun f u ds us front) where
       (c : ComposedBy (stockFrom f ds) (sentFrom u us) front o r o′) where
     pub loose-acted : (n : ℕ) → r ≡ Loose n → (a : Answer) → a ≡ refusing 11 3 n → Acted f u ds us front (length o) size a o′
     loose-acted n x b s =
-        let (y, z, e) = c .loose n x in
+        let (y, z, e) = loose-said _ _ front n (ap saidBy (sym x) ∙ c .said) in
         let a = acted-loose f u ds us front k (length o) size big fine n y e o′ in
         acted-as f u ds us front (length o) size b (refusing 11 3 n) o′ s (rw z at a)
 
     module _ (len n : ℕ) (x : r ≡ Whole len n) where
+      whole : saidBy (Whole len n) ≡ composedOf (stockFrom f ds) (sentFrom u us) front
+      whole = ap saidBy (sym x) ∙ c .said
+
       pub long-acted : 16777216 < len → (a : Answer) → a ≡ refusing 14 3 0 → Acted f u ds us front (length o) size a o′
-      long-acted h b s = acted-as f u ds us front (length o) size b (refusing 14 3 0) o′ s (acted-long f u ds us front k (length o) size big fine (c .linked len n x) len (c .long len n x) h o′)
+      long-acted h b s = acted-as f u ds us front (length o) size b (refusing 14 3 0) o′ s (acted-long f u ds us front k (length o) size big fine (whole-linked _ _ front len n whole) len (whole-long _ _ front len n whole) h o′)
 
       pub short-acted : len ≤ 16777216 → length o < len → (a : Answer) → a ≡ refusing 13 3 0 → Acted f u ds us front (length o) size a o′
-      short-acted h g b s = acted-as f u ds us front (length o) size b (refusing 13 3 0) o′ s (acted-short f u ds us front k (length o) size big fine (c .linked len n x) len (c .long len n x) h g o′)
+      short-acted h g b s = acted-as f u ds us front (length o) size b (refusing 13 3 0) o′ s (acted-short f u ds us front k (length o) size big fine (whole-linked _ _ front len n whole) len (whole-long _ _ front len n whole) h g o′)
 
       pub count-word : len ≤ 16777216 → 3 + n < 2 ^ 64
-      count-word h = omega (arith, behind-count f u ds us front k, c .counted len n x, c .long len n x)
+      count-word h = omega (arith, behind-count f u ds us front k, whole-counted _ _ front len n whole, whole-long _ _ front len n whole)
 
       pub done-acted : len ≤ 16777216 → len ≤ length o
           → Acted f u ds us front (length o) size (record { number = 0; file = 0; rec = 0; length = len; count = 3 + n }) o′
       done-acted h g =
-          acted-done f u ds us front k (length o) size big fine (c .linked len n x) len (c .long len n x) h o o′ refl g n (c .counted len n x) (c .stands len n x g)
+          acted-done f u ds us front k (length o) size big fine (whole-linked _ _ front len n whole) len (whole-long _ _ front len n whole) h o o′ refl g n (whole-counted _ _ front len n whole) (c .stands len n x g)
 
 pub ruleset finish-ways = (begun-ready, begun-small, loose-acted, long-acted, short-acted, count-word, done-acted)
 

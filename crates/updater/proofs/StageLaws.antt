@@ -25,7 +25,7 @@ use Rattle.numbers.proofs.Answers.{zero-is-done}
 use Rattle.updates.specs.Streamed.{streamedTo, streamedOutcome}
 use Rattle.updates.proofs.Streams.{streams}
 use Rattle.writer.specs.Forms.{formsFrom}
-use Rattle.writer.specs.Measured.{measuredFrom}
+use Rattle.writer.specs.Measured.{saidBy, measuredFrom}
 use Rattle.writer.specs.declared.Measured.{Measured}
 use Rattle.writer.specs.declared.Measured.the-variants.{Total, TooLong}
 use Rattle.writer.proofs.FormsLaws.{read-forms}
@@ -107,21 +107,21 @@ module _ (f : List ℕ) (short : length f ≤ 16777216) (a : Answer) (ea : a ≡
       let r : Done (readOutcome f) = (zero-is-done .reads f) .0 (sym (ap (λ (y : Answer). y .number) ea) ∙ z) in
       record { short = short; dataset = r .0; isRead = rw (le-ltb 16777216 (length f) short) at (r .1) }
 
-module _ (f : List ℕ) (k : Legible f) (g : Bytes f) (m : Measured) (em : m ≡ measuredFrom 1 0 (formsFrom f 0 1)) where
-  forms-are : measuredFrom 1 0 (written (k .dataset)) ≡ m
-  forms-are = sym (ap (measuredFrom 1 0) (read-forms f (k .dataset) g (k .isRead))) ∙ sym em
+module _ (f : List ℕ) (k : Legible f) (g : Bytes f) (m : Measured) (em : saidBy m ≡ measuredFrom 1 0 (formsFrom f 0 1)) where
+  forms-are : saidBy m ≡ measuredFrom 1 0 (written (k .dataset))
+  forms-are = em ∙ ap (measuredFrom 1 0) (read-forms f (k .dataset) g (k .isRead))
 
   pub unwritable : (n : ℕ) → m ≡ TooLong n → (u : List ℕ) (room size : ℕ) → 400000 ≤ size → length u ≤ 16777216 → (o : List ℕ) → Built f u room size (refusing 12 1 n) o
   unfolding writable andThen
   unwritable n x u room size big new o =
       built-refused f u room size 1 n (fault 12 0 0)
-      (reached f u room size big (k .short) new ∙ rw (k .isRead) (rw (first-long 1 0 n (written (k .dataset)) (forms-are ∙ x)))) o
+      (reached f u room size big (k .short) new ∙ rw (k .isRead) (rw (first-long n (written (k .dataset)) (ap saidBy (sym x) ∙ forms-are)))) o
 
   -- what it measures has passed all its tests
   pub is-tested : (total : ℕ) → m ≡ Total total → Tested f
   unfolding writable andThen
   is-tested total x =
-      record { short = k .short; dataset = k .dataset; isRead = k .isRead; isWritable = rw (all-short 1 0 total (written (k .dataset)) (forms-are ∙ x) .0) }
+      record { short = k .short; dataset = k .dataset; isRead = k .isRead; isWritable = rw (all-short total (written (k .dataset)) (ap saidBy (sym x) ∙ forms-are) .0) }
 
 -- ---- the update's first pass
 
