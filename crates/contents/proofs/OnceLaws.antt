@@ -28,7 +28,7 @@ use Rattle.rules.specs.ByTag.{withTag, front, has}
 use Rattle.rules.specs.Associations.{fieldMarks, marks, keysOnce, fieldKeys}
 use Rattle.rules.proofs.MarkLaws.{field-marked}
 use Rattle.contents.specs.Fit.{allFit}
-use Rattle.contents.specs.Keys.{keysIn, seenBefore, topWith, told, spasFrom, inasOnce, fieldOnce, onceFrom}
+use Rattle.contents.specs.Keys.{keysIn, seenBefore, topWith, told, saidBy, spasFrom, inasOnce, fieldOnce, onceFrom}
 use Rattle.contents.specs.declared.associations.Keys.{Keys}
 use Rattle.contents.specs.declared.associations.Keys.the-variants.{Once, Twice}
 use Rattle.contents.proofs.StepLaws.{step-bounds}
@@ -63,10 +63,21 @@ pub ruleset field-once-ways = (once-inas, once-spas, once-other, inas-filled, sp
 
 -- ---- the loop over the fields: behind n fields, at place q, where the whole comes to A
 
-told-twice : (top : ℕ) (ks : List (List ℕ)) (c : Passed) (j : ℕ) → told top ks c ≡ Twice j → (x : Fault) × (c ≡ no x) × (x .tuple ≡ j)
-unfolding told
-told-twice top ks (ok u) j e = absurd (let z : _≡_ {A = ℕ} 0 1 = cc in omega arith)
-told-twice top ks (no x) j e = (x, refl, cc)
+-- the test that the code's answer of field i is comes to the same as the rules' own, which is asked of its keys: a refusal is 7 there
+told-said : (i top : ℕ) (f : Field) (seen : List (List ℕ))
+    → saidBy i (told top (fieldKeys f) (keysOnce seen (fieldMarks i f))) ≡ bind (keysOnce seen (fieldMarks i f)) (λ _. ok (topWith top (fieldKeys f)))
+unfolding saidBy told bind
+told-said i top f seen = go (keysOnce seen (fieldMarks i f)) refl
+  where
+    go : (c : Passed) → keysOnce seen (fieldMarks i f) ≡ c → saidBy i (told top (fieldKeys f) c) ≡ bind c (λ _. ok (topWith top (fieldKeys f)))
+    go (ok u) e = refl
+    go (no x) e = ap no (sym (field-fault i f seen x e))
+
+-- a test that goes on to a value alone
+refused-first : (c : Passed) (t : ℕ) (x : Fault) → no x ≡ bind c (λ _. ok t) → c ≡ no x
+unfolding bind
+refused-first (ok u) t x e = absurd (let z : _≡_ {A = ℕ} 0 1 = cc in omega arith)
+refused-first (no y) t x e = let z : y ≡ x = cc in ap no z
 
 told-once : (top : ℕ) (ks : List (List ℕ)) (c : Passed) (t : ℕ) → told top ks c ≡ Once t → (c ≡ pass) × (topWith top ks ≡ t)
 unfolding told
@@ -107,11 +118,11 @@ module _ (r : List ℕ) (h : Shape) (p n q : ℕ) (ed : drop n (fieldsAt r h p) 
           rw (← field-marked (n + 2) field, ← once-apart (fieldMarks (n + 2) field) (marks (n + 2 + 1) (fieldsAt r h next)) earlier) (rw one at inv)
 
       one-twice : (A : Verdict) → onceFrom r h p n ≡ A → (j : ℕ) → k ≡ Twice j → Refused 7 (n + 2) j ≡ A
-      unfolding fieldOnce bind verdictOf
+      unfolding fieldOnce bind verdictOf saidBy
       one-twice A inv j z =
-          let w = told-twice top (fieldKeys field) (keysOnce earlier (fieldMarks (n + 2) field)) j (sym ek ∙ z) in
-          let y : w .0 ≡ fault 7 (n + 2) j = field-fault (n + 2) field earlier (w .0) (w .1) ∙ ap (fault 7 (n + 2)) (w .2) in
-          rw (w .1 ∙ ap no y) at (turn-of A inv)
+          let w = refused-first (keysOnce earlier (fieldMarks (n + 2) field)) (topWith top (fieldKeys field)) (fault 7 (n + 2) j)
+          (ap (saidBy (n + 2)) (sym z ∙ ek) ∙ told-said (n + 2) top field earlier) in
+          rw w at (turn-of A inv)
 
       one-more : (A : Verdict) → onceFrom r h p n ≡ A → (t : ℕ) → k ≡ Once t → onceFrom r h p (n + 1) ≡ A
       unfolding fieldOnce onceFrom bind

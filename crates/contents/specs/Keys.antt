@@ -5,7 +5,7 @@ use mathlib.Core.List.{List, [], _∷_, _++_}
 use lib.ListN.{take, drop}
 use lib.Dec.{eqb}
 use Rattle.base.specs.Choice.{both, largerOf}
-use Rattle.base.specs.Check.{ok, no, Passed}
+use Rattle.base.specs.Check.{Check, ok, no, fault, Passed}
 use Rattle.base.specs.Keys.{among}
 use Rattle.base.specs.Lists.{gather}
 use Rattle.base.specs.Verdict.{verdictOf}
@@ -76,6 +76,11 @@ topWith top (k ∷ ks) = topWith (largerOf top (numberOf k)) ks
 unfoldable pub told : ℕ → List (List ℕ) → Passed → Keys
 told top ks (ok u) = Once (topWith top ks)
 told top ks (no x) = Twice (x .tuple)
+
+-- what the code answers of field i, as a test: each key is new, and the largest number then; or 7 at the tuple
+unfoldable pub saidBy : ℕ → Keys → Check ℕ
+saidBy i (Once top) = ok top
+saidBy i (Twice j) = no (fault 7 i j)
 
 -- the tuples of the SPAS b from number j + 1 on, behind n fields from place p on
 unfoldable pub spasFrom : List ℕ → Shape → ℕ → ℕ → List ℕ → ℕ → ℕ → Keys

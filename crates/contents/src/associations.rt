@@ -41,7 +41,7 @@ ghost use Rattle.rules.specs.Associations.{number7};
 ghost use Rattle.contents.specs.Fit.{fits, allFit};
 ghost use Rattle.contents.specs.Keys.{keysIn, seenBefore, topWith, spasFrom, inasOnce, fieldOnce, onceFrom};
 
-// A field's keys: each is new, and then the largest number of a spatial key so far; or the tuple, 0 in an INAS, whose key stands twice.
+// A field's keys: each is new, and then the largest number of a spatial key so far; or the tuple, 0 in an INAS, whose key stands twice (7).
 pub enum Keys {
     Once(usize),
     Twice(usize),

@@ -27,7 +27,12 @@ pub record Putting (fs : List Field) (l : List ℕ) (n i : ℕ) (xs : List Coord
   pub even : EvenLists fs
   pub room : 8 * n + sizes fs ≤ length l
 
+-- what the code answers, as a test: the first m tuples of l, or 9
+abbrev pub saidBy : List ℕ → Placed → Check (List Coord)
+saidBy l Refused = refuse 9 0
+saidBy l (Now m) = ok (tuplesOf l m)
+
 -- what COCC comes to, and what the code made of it
 unfoldable pub PlacedAs : Check (List Coord) → List ℕ → Placed → Type 0
-PlacedAs c l Refused = c ≡ refuse 9 0
-PlacedAs c l (Now m) = (c ≡ ok (tuplesOf l m)) × (8 * m ≤ length l)
+PlacedAs c l Refused = c ≡ saidBy l Refused
+PlacedAs c l (Now m) = (c ≡ saidBy l (Now m)) × (8 * m ≤ length l)

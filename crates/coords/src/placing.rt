@@ -16,7 +16,7 @@ ghost use Rattle.rules.specs.Coordinates.{sent};
 ghost use Rattle.coords.specs.Tuples.{tuplesOf};
 ghost use Rattle.coords.specs.Placing.{EvenLists, PlacedAs};
 
-// A place outside the list; or how many tuples there are now.
+// A place outside the list (9); or how many tuples there are now.
 pub enum Placed {
     Refused,
     Now(usize),

@@ -11,8 +11,10 @@ use Rattle.forest.specs.Reader.{faulty}
 use Rattle.tree.specs.declared.walk.Walk.{Walk}
 use Rattle.tree.specs.declared.walk.Walk.the-variants.{Bad, Upto}
 use Rattle.tree.specs.Source.{two, past, count, numbered, closed, spot, tuplesIn, runAt, entryAt}
+use Rattle.tree.specs.Due.{dueFor}
 use Rattle.tree.specs.Known.{Reach, there, Fresh, Known, Seen}
 use Rattle.tree.proofs.KnownLaws.{seen-none, seen-next}
+use Rattle.tree.proofs.TestLaws.{due-whole}
 use Rattle.tree.proofs.WalkLaws.{run-bad, run-go, entry-known, entry-count, entry-reach, entry-on, entry-bad, entry-run}
 
 -- ---- an entry: the code's test is the one of the source, where the index is the one that is due
@@ -50,8 +52,12 @@ pub going-start : (b : List ℕ) (whole : Bool) (at p k : ℕ) (shut : Bool) →
 going-start b whole at p k shut i f = record { same = refl; known = i; reached = there refl; seen = λ w. seen-none b p at f }
 
 -- at an entry of the run, with its code and the index that is due to it
-module _ {b : List ℕ} {whole : Bool} {at p k : ℕ} {shut : Bool} {a q top many : ℕ} (go : Going b whole at p k shut a q top many) (n code due : ℕ)
-    (inside : a < length b) (parent : n ≡ two b (a + 4)) (mine : n ≡ p) (coded : code ≡ two b a) (dued : whole ≡ true → due ≡ count b 0 a (two b a) p + 1) where
+module _ {b : List ℕ} {whole : Bool} {at p k : ℕ} {shut : Bool} {a q top many : ℕ} (go : Going b whole at p k shut a q top many) (n code due : ℕ) (sure : Bool)
+    (inside : a < length b) (parent : n ≡ two b (a + 4)) (mine : n ≡ p) (coded : code ≡ two b a) (is : due ≡ dueFor sure whole (count b 0 a (two b a) p + 1)) where
+  -- the index is the one that is due, where the whole rule is asked for
+  dued : whole ≡ true → due ≡ count b 0 a (two b a) p + 1
+  dued w = due-whole sure whole (count b 0 a (two b a) p + 1) due is w
+
   -- its parent is the run's
   own : two b (a + 4) ≡ p
   own = sym parent ∙ mine

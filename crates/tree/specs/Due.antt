@@ -1,9 +1,10 @@
 -- Tuples that have the index that is due to them, and what a book of codes with a tally for each tells of it.
 use mathlib.Core.Path.{_≡_}
 use mathlib.Core.List.{List}
-use mathlib.Core.Bool.{true}
+use mathlib.Core.Bool.{Bool, true}
 use Prim.Native.Nat.{ℕ, _+_, _*_, _≤_, _<_}
 use lib.ListN.{getD}
+use Rattle.base.specs.Choice.{pick, either}
 use Rattle.book.specs.Book.{pageOf, written}
 use Rattle.tree.specs.Source.{two, past, count}
 use Rattle.tree.specs.Known.{Whole, Reach}
@@ -16,6 +17,10 @@ Due f at = two f (at + 2) ≡ count f 0 at (two f at) (two f (at + 4)) + 1
 -- each tuple before an offset has
 unfoldable pub AllDue : List ℕ → ℕ → Type 0
 AllDue f e = (at : ℕ) → Reach f 0 at → at < e → Due f at
+
+-- an index that is due, where it is asked for or where it is sure that each tuple has its own; else none is, which is 0
+unfoldable pub dueFor : Bool → Bool → ℕ → ℕ
+dueFor sure whole n = pick (either sure whole) n 0
 
 -- code c and parent p in one number
 abbrev pub keyed : ℕ → ℕ → ℕ

@@ -5,7 +5,7 @@ use Prim.Native.Nat.{ℕ, zero, suc, _+_, _-_}
 use lib.ListN.{length, getD, drop}
 use lib.Dec.{ltb, eqb}
 use Rattle.base.specs.Choice.{pick, either}
-use Rattle.base.specs.Check.{Check, ok, no}
+use Rattle.base.specs.Check.{Check, ok, no, refuse}
 use Rattle.fields.specs.Bytes.{le, run}
 use Rattle.forest.specs.Reader.{Reader, Read, faulty, readRun}
 use Rattle.tree.specs.declared.walk.Walk.{Walk}
@@ -73,6 +73,11 @@ tuplesIn b whole = record {
 unfoldable pub walkOf : Check (Read Spot (Unit {0})) → Walk
 walkOf (ok r) = Upto (r .end .offset) (r .end .place)
 walkOf (no f) = Bad (f .tuple)
+
+-- what the code answers, as a test: where the walk ended, or 6 at the faulty tuple
+unfoldable pub saidBy : Walk → Check Spot
+saidBy (Bad k) = refuse 6 k
+saidBy (Upto at k) = ok (spot at k)
 
 -- the run of parent p from offset at on, the first of place k; shut: that parent takes no child
 unfoldable pub runAt : List ℕ → Bool → ℕ → ℕ → ℕ → Bool → Walk

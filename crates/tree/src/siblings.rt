@@ -1,14 +1,14 @@
 // The index that is due to an entry: one more than the earlier entries of its run with its code.
 use crate::tuple;
 ghost use mathlib.Core.Path.{_≡_};
-ghost use mathlib.Core.Bool.{true};
+ghost use mathlib.Core.Bool.{true, false};
 ghost use Prim.Native.Nat.{_+_, _≤_, _<_};
 ghost use lib.ListN.{length};
 ghost use lib.Dec.{ltb};
 ghost use Rattle.base.specs.Choice.{pick};
 ghost use Rattle.tree.specs.Source.{two, hit, count};
 ghost use Rattle.tree.specs.Known.{Whole, Reach, Fresh, Seen};
-ghost use Rattle.tree.specs.Due.{AllDue};
+ghost use Rattle.tree.specs.Due.{AllDue, dueFor};
 
 // 1 where the tuple has this code and parent, else 0.
 pub fn twin(b: &[u8], at: usize, code: usize, parent: usize) -> usize
@@ -39,7 +39,7 @@ pub fn twins(b: &[u8], start: usize, end: usize, code: usize, parent: usize) -> 
 }
 
 // The index due at `at` in the run of this parent from `start` on, where no earlier entry of the run has a code above `top`, and `many` have
-// that one: so only a code that comes after a larger one is searched for. No index is due where only parents are asked for.
+// that one: so only a code that comes after a larger one is searched for. No index is due where only parents are asked for: 0.
 fn counted_index(
     b: &[u8],
     start: usize,
@@ -51,7 +51,7 @@ fn counted_index(
     whole: bool,
 ) -> usize
     requires { ⌜ (Whole (now b) start) × (Reach (now b) 0 start) × (start ≤ at) × (at < length (now b)) × (Fresh (now b) start parent) × (whole ≡ true → Seen (now b) parent at top many) ⌝ }
-    ensures { λ r. ⌜ (whole ≡ true → r ≡ count (now (b .entry)) 0 at code parent + 1) ⌝ }
+    ensures { λ r. ⌜ r ≡ dueFor false whole (count (now (b .entry)) 0 at code parent + 1) ⌝ }
 {
     if !whole {
         return 0;
@@ -78,7 +78,7 @@ pub fn due_index(
 ) -> usize
     requires { ⌜ (Whole (now b) start) × (Reach (now b) 0 start) × (start ≤ at) × (at < length (now b)) × (Fresh (now b) start parent) × (whole ≡ true → Seen (now b) parent at top many) ⌝ }
     requires { ⌜ (Whole (now b) at) × (Reach (now b) 0 at) × (two (now b) (at + 4) ≡ parent) × (sure ≡ true → AllDue (now b) (length (now b))) ⌝ }
-    ensures { λ r. ⌜ (whole ≡ true → r ≡ count (now (b .entry)) 0 at (two (now (b .entry)) at) parent + 1) ⌝ }
+    ensures { λ r. ⌜ r ≡ dueFor sure whole (count (now (b .entry)) 0 at (two (now (b .entry)) at) parent + 1) ⌝ }
 {
     if sure {
         return tuple::number(b, at + 2);

@@ -10,7 +10,7 @@ ghost use Rattle.tree.specs.Source.{two, count, runAt, entryAt, remains}
 ghost use Rattle.tree.specs.Known.{Whole, Fresh, Known};
 ghost use Rattle.tree.specs.Due.{AllDue};
 
-// Where a walk over entries ends: the next tuple's offset and its place from 1, or the place of the tuple that breaks the rule.
+// Where a walk over entries ends: the next tuple's offset and its place from 1, or the place of the tuple that breaks the rule (6).
 pub enum Walk {
     Bad(usize),
     Upto(usize, usize),

@@ -1,3 +1,4 @@
+use Rattle.tree.proofs.TestLaws.{due-sure, due-unsure}
 use Rattle.tree.proofs.DueLaws.{code-within, tuple-within, own-due}
 use native.Mathlib.Omega.{arith}
 use borrow.Author.Needs.{needs}
@@ -11,7 +12,10 @@ number-requires : tie.Need-number-requires
 number-requires c κs = let s = c .before .before in omega (arith, tuple-within (s .args .b .now) (s .args .at) (s .pre .1 .0) (s .pre .0 .3))
 
 returns : tie.Need-returns
-returns c = λ w. let s = c .before .before .before in own-due _ _ _ _ (s .pre .1 .1) (s .pre .0 .3) (s .pre .1 .2) (s .pre .1 .3 (c .before .if1 .taken)) (c .number .ensures)
+returns c =
+    let s = c .before .before .before in
+    let sure = c .before .if1 .taken in
+    due-sure _ _ _ sure _ (own-due _ _ _ _ (s .pre .1 .1) (s .pre .0 .3) (s .pre .1 .2) (s .pre .1 .3 sure) (c .number .ensures))
 
 number-requires-2 : tie.Need-number-requires-2
 number-requires-2 c κs = let s = c .before .before in code-within (s .args .b .now) (s .args .at) (s .pre .1 .0) (s .pre .0 .3)
@@ -20,7 +24,7 @@ counted-index-requires : tie.Need-counted-index-requires
 counted-index-requires c κs = search needs
 
 returns-2 : tie.Need-returns-2
-returns-2 c = λ w. rw (c .before .number2 .ensures) at (c .counted-index .ensures w)
+returns-2 c = due-unsure _ _ _ (c .before .before .if1 .left) _ (rw (c .before .number2 .ensures) at (c .counted-index .ensures))
 
 pub due-index-spec : {M : Type 1} → statement M
 due-index-spec =

@@ -230,7 +230,7 @@ run-entry-requires : (t : ℕ) → run-lts.Need-entry-requires (
   top-with-reads.Asked,
   top-with-reads.Learnt,
 ) (run-at t) run.Post run-Inv-loop run-μ-loop
-run-entry-requires t c κs = let s = c .before .before .before .before .before .before .before in let l = c .before .before .before .before .before .loop in let a = turn-asks (l .inv) _ _ _ (c .before .before .before .before .loop-test .taken) (c .before .before .before .number .ensures) (c .before .before .if1 .left) (c .before .number2 .ensures) (c .due-index .ensures) in (omega (arith, reach-on (s .args .b .now) (s .args .at) (l .a) (l .inv .reached), c .before .before .before .before .loop-test .taken), (a .0, a .1, a .2, s .pre .1 .2))
+run-entry-requires t c κs = let s = c .before .before .before .before .before .before .before in let l = c .before .before .before .before .before .loop in let a = turn-asks (l .inv) _ _ _ _ (c .before .before .before .before .loop-test .taken) (c .before .before .before .number .ensures) (c .before .before .if1 .left) (c .before .number2 .ensures) (c .due-index .ensures) in (omega (arith, reach-on (s .args .b .now) (s .args .at) (l .a) (l .inv .reached), c .before .before .before .before .loop-test .taken), (a .0, a .1, a .2, s .pre .1 .2))
 
 run-enum-known-head : (t : ℕ) → run-lts.Need-enum-known-head (
   number-reads.Asked,
@@ -258,7 +258,7 @@ run-returns-2 : (t : ℕ) → run-lts.Need-returns-2 (
   top-with-reads.Asked,
   top-with-reads.Learnt,
 ) (run-at t) run.Post run-Inv-loop run-μ-loop
-run-returns-2 t c = turn-bad (c .before .before .before .before .before .before .before .before .before .loop .inv) _ _ _ (c .before .before .before .before .before .before .before .before .loop-test .taken) (c .before .before .before .before .before .before .before .number .ensures) (c .before .before .before .before .before .before .if1 .left) (c .before .before .before .before .before .number2 .ensures) (c .before .before .before .before .due-index .ensures) _ (c .before .before .before .entry .ensures) _ (c .before .head .given .1)
+run-returns-2 t c = turn-bad (c .before .before .before .before .before .before .before .before .before .loop .inv) _ _ _ _ (c .before .before .before .before .before .before .before .before .loop-test .taken) (c .before .before .before .before .before .before .before .number .ensures) (c .before .before .before .before .before .before .if1 .left) (c .before .before .before .before .before .number2 .ensures) (c .before .before .before .before .due-index .ensures) _ (c .before .before .before .entry .ensures) _ (c .before .head .given .1)
 
 run-enum-known-head-2 : (t : ℕ) → run-lts.Need-enum-known-head-2 (
   number-reads.Asked,
@@ -314,7 +314,7 @@ run-loop-less : (t : ℕ) → run-lts.Need-loop-less (
   top-with-reads.Asked,
   top-with-reads.Learnt,
 ) (run-at t) run.Post run-Inv-loop run-μ-loop
-run-loop-less t c = turn-less (c .before .before .before .before .before .before .before .before .before .before .before .loop .inv) _ _ _ (c .before .before .before .before .before .before .before .before .before .before .loop-test .taken) (c .before .before .before .before .before .before .before .before .before .number .ensures) (c .before .before .before .before .before .before .before .before .if1 .left) (c .before .before .before .before .before .before .before .number2 .ensures) (c .before .before .before .before .before .before .due-index .ensures) _ (c .before .before .before .before .before .entry .ensures) _ _ (c .before .before .before .head2 .given .1)
+run-loop-less t c = turn-less (c .before .before .before .before .before .before .before .before .before .before .before .loop .inv) _ _ _ _ (c .before .before .before .before .before .before .before .before .before .before .loop-test .taken) (c .before .before .before .before .before .before .before .before .before .number .ensures) (c .before .before .before .before .before .before .before .before .if1 .left) (c .before .before .before .before .before .before .before .number2 .ensures) (c .before .before .before .before .before .before .due-index .ensures) _ (c .before .before .before .before .before .entry .ensures) _ _ (c .before .before .before .head2 .given .1)
 
 run-loop-again : (t : ℕ) → run-lts.Need-loop-again (
   number-reads.Asked,
@@ -328,7 +328,7 @@ run-loop-again : (t : ℕ) → run-lts.Need-loop-again (
   top-with-reads.Asked,
   top-with-reads.Learnt,
 ) (run-at t) run.Post run-Inv-loop run-μ-loop
-run-loop-again t c = turn-again (c .before .before .before .before .before .before .before .before .before .before .before .loop .inv) _ _ _ (c .before .before .before .before .before .before .before .before .before .before .loop-test .taken) (c .before .before .before .before .before .before .before .before .before .number .ensures) (c .before .before .before .before .before .before .before .before .if1 .left) (c .before .before .before .before .before .before .before .number2 .ensures) (c .before .before .before .before .before .before .due-index .ensures) _ (c .before .before .before .before .before .entry .ensures) _ _ _ _ (c .before .before .before .head2 .given .1) (c .before .many-with .ensures) (c .top-with .ensures)
+run-loop-again t c = turn-again (c .before .before .before .before .before .before .before .before .before .before .before .loop .inv) _ _ _ _ (c .before .before .before .before .before .before .before .before .before .before .loop-test .taken) (c .before .before .before .before .before .before .before .before .before .number .ensures) (c .before .before .before .before .before .before .before .before .if1 .left) (c .before .before .before .before .before .before .before .number2 .ensures) (c .before .before .before .before .before .before .due-index .ensures) _ (c .before .before .before .before .before .entry .ensures) _ _ _ _ (c .before .before .before .head2 .given .1) (c .before .many-with .ensures) (c .top-with .ensures)
 
 run-returns-3 : (t : ℕ) → run-lts.Need-returns-3 (
   number-reads.Asked,
