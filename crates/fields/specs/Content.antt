@@ -34,6 +34,11 @@ many t l = (tuples t l) .items
 abbrev pub tallied : ℕ → Got (List Val) → Tally
 tallied k g = pick (eqb (g .ending) 0) (Whole (k + length (g .items))) (Short (k + length (g .items) + 1))
 
+-- the number that it refuses the field with: 5 where a tuple or the head does not stand
+abbrev pub numberOf : Tally → ℕ
+numberOf (Whole n) = 0
+numberOf (Short k) = 5
+
 -- the tuples counted, where k stand before the bytes
 unfoldable pub tally : List Sub → List ℕ → ℕ → Tally
 tally t l k = tallied k (tuples t l)

@@ -53,13 +53,13 @@ pub enum Sub {
     Fixed(usize),
 }
 
-// Where subfields end, or that they do not stand.
+// Where subfields end, or that they do not stand, which is no refusal by itself: that is the field's, by its Tally.
 pub enum Stop {
     At(usize),
     Bad,
 }
 
-// How many tuples fill a field, or the number of the first that does not stand, 0 for the head.
+// How many tuples fill a field, or the number of the first that does not stand, 0 for the head (5).
 pub enum Tally {
     Whole(usize),
     Short(usize),

@@ -9,7 +9,7 @@ use Rattle.base.specs.Check.{no, bind, fault, Passed, pass}
 use Rattle.base.specs.Lists.{empty}
 use Rattle.skeleton.specs.File.{Field}
 use Rattle.fields.specs.Table.{headOf, tupleOf}
-use Rattle.fields.specs.Content.{tallyField}
+use Rattle.fields.specs.Content.{numberOf, tallyField}
 use Rattle.fields.specs.declared.Format.{Format}
 use Rattle.fields.specs.declared.Format.the-variants.{Irid, IridNew, Prid, PridNew, Mrid, MridNew, Frid, FridNew, Foid, Attr, AttrNew, InasNew, InasGone, Spas, SpasNew, Cocc, C2it, C2il}
 use Rattle.fields.specs.declared.Tally.{Tally}
@@ -56,7 +56,7 @@ formatOf new t b =
 -- field i, its tuples counted, is filled, else 5, at the tuple that does not stand if the format has tuples
 abbrev pub filled : ℕ → Bool → Tally → Passed
 filled i tupled (Whole n) = pass
-filled i tupled (Short j) = no (fault 5 i (pick tupled j 0))
+filled i tupled (Short j) = no (fault (numberOf (Short j)) i (pick tupled j 0))
 
 -- field i has this format
 unfoldable pub stands : ℕ → Format → List ℕ → Passed

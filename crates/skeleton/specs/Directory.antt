@@ -22,6 +22,12 @@ pub record Body : Type 0 where
 unfoldable pub tagAt : List ℕ → ℕ → ℕ
 tagAt r p = ((getD r p 0 * 256 + getD r (p + 1) 0) * 256 + getD r (p + 2) 0) * 256 + getD r (p + 3) 0
 
+-- the number that what stands there refuses the record with: 3 where it is no entry; 0 where it is one or the end, and what that says is still to be tested
+abbrev pub numberOf : Entry → ℕ
+numberOf (Field tag pos len next) = 0
+numberOf End = 0
+numberOf Bad = 3
+
 -- an entry, where its length and its position are digits
 abbrev pub entryOf : ℕ → ℕ → Number → Number → Entry
 entryOf tag next (Value len) (Value pos) = Field tag pos len next
@@ -66,7 +72,7 @@ abbrev pub stepBy : List ℕ → ℕ → ℕ → ℕ → Entry → Step (ℕ × 
 stepBy r base p at (Field tag pos len next) =
     pick (lies r base at pos len) (more (record { tag = tag; start = base + pos; len = len }) (next, at + len)) (over 3)
 stepBy r base p at End = over (pick (ended r base p at) 0 3)
-stepBy r base p at Bad = over 3
+stepBy r base p at Bad = over (numberOf Bad)
 
 -- one step over a directory, from the place of an entry and from where its field has to begin
 abbrev pub dirStep : List ℕ → ℕ → ℕ → ℕ → ℕ × ℕ → Step (ℕ × ℕ) Body
