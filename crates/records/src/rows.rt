@@ -5,7 +5,8 @@ ghost use lib.ListN.{length};
 ghost use Rattle.base.specs.Choice.{pick};
 ghost use Rattle.records.specs.Rows.{standsOften, rowAfter};
 
-// The rows that a field leaves for those after it, as a place among them; or that it may not stand.
+// The rows that a field leaves for those after it, as a place among them; or that it may not stand, which is no refusal by itself: the caller says
+// 4 at the field.
 pub enum Rest {
     From(usize),
     NoRow,

@@ -74,7 +74,9 @@ unfolding number11 verdictOf
 loose-at keys [] k i j e = absurd (let z : _≡_ {A = ℕ} 0 1 = cc in omega arith)
 loose-at keys (m ∷ ms) k i j e = go (loose-at keys ms k i j) (among (take 2 (m .key)) keys) e
   where
-    go : (Refused k i j ≡ verdictOf (number11 keys ms) → number11 keys ms ≡ no (fault 11 i j)) → (t : Bool) → Refused k i j ≡ verdictOf (pick t (number11 keys ms) (no (fault 11 (m .field) (m .tuple)))) → pick t (number11 keys ms) (no (fault 11 (m .field) (m .tuple))) ≡ no (fault 11 i j)
+    go : (Refused k i j ≡ verdictOf (number11 keys ms) → number11 keys ms ≡ no (fault 11 i j)) → (t : Bool)
+        → Refused k i j ≡ verdictOf (pick t (number11 keys ms) (no (fault 11 (m .field) (m .tuple))))
+        → pick t (number11 keys ms) (no (fault 11 (m .field) (m .tuple))) ≡ no (fault 11 i j)
     go later true h = later h
     go later false h =
         let a : m .field ≡ i = cc in

@@ -67,7 +67,10 @@ walk-said b whole at p k shut = go (readRun (tuplesIn b whole) p shut (spot at k
   where
     go : (c : Check (Read Spot (Unit {0}))) → readRun (tuplesIn b whole) p shut (spot at k) ≡ c → saidBy (walkOf c) ≡ bind c (λ r. ok (r .end))
     go (ok r) e = refl
-    go (no f) e = ap no (sym (unfold readRun in (read-refused (tuplesIn b whole) (tuples-fall b whole) (even b whole) k (k + (length b - at)) _ p shut (spot at k) f (omega arith, omega arith) e .six)))
+    go (no f) e =
+        let r : Refusal k (k + (length b - at)) f = unfold readRun in
+        read-refused (tuplesIn b whole) (tuples-fall b whole) (even b whole) k (k + (length b - at)) _ p shut (spot at k) f (omega arith, omega arith) e in
+        ap no (sym (r .six))
 
 -- ---- the number is no larger than the field
 

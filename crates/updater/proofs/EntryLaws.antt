@@ -131,10 +131,16 @@ module _ (f u : List ℕ) (ds us front : ℕ) (k : Begun f u ds us front) where
       whole = ap saidBy (sym x) ∙ c .said
 
       pub long-acted : 16777216 < len → (a : Answer) → a ≡ refusing 14 3 0 → Acted f u ds us front (length o) size a o′
-      long-acted h b s = acted-as f u ds us front (length o) size b (refusing 14 3 0) o′ s (acted-long f u ds us front k (length o) size big fine (whole-linked _ _ front len n whole) len (whole-long _ _ front len n whole) h o′)
+      long-acted h b s =
+          let linked = whole-linked _ _ front len n whole in
+          let long = whole-long _ _ front len n whole in
+          acted-as f u ds us front (length o) size b (refusing 14 3 0) o′ s (acted-long f u ds us front k (length o) size big fine linked len long h o′)
 
       pub short-acted : len ≤ 16777216 → length o < len → (a : Answer) → a ≡ refusing 13 3 0 → Acted f u ds us front (length o) size a o′
-      short-acted h g b s = acted-as f u ds us front (length o) size b (refusing 13 3 0) o′ s (acted-short f u ds us front k (length o) size big fine (whole-linked _ _ front len n whole) len (whole-long _ _ front len n whole) h g o′)
+      short-acted h g b s =
+          let linked = whole-linked _ _ front len n whole in
+          let long = whole-long _ _ front len n whole in
+          acted-as f u ds us front (length o) size b (refusing 13 3 0) o′ s (acted-short f u ds us front k (length o) size big fine linked len long h g o′)
 
       pub count-word : len ≤ 16777216 → 3 + n < 2 ^ 64
       count-word h = omega (arith, behind-count f u ds us front k, whole-counted _ _ front len n whole, whole-long _ _ front len n whole)
@@ -142,7 +148,10 @@ module _ (f u : List ℕ) (ds us front : ℕ) (k : Begun f u ds us front) where
       pub done-acted : len ≤ 16777216 → len ≤ length o
           → Acted f u ds us front (length o) size (record { number = 0; file = 0; rec = 0; length = len; count = 3 + n }) o′
       done-acted h g =
-          acted-done f u ds us front k (length o) size big fine (whole-linked _ _ front len n whole) len (whole-long _ _ front len n whole) h o o′ refl g n (whole-counted _ _ front len n whole) (c .stands len n x g)
+          let linked = whole-linked _ _ front len n whole in
+          let long = whole-long _ _ front len n whole in
+          let counted = whole-counted _ _ front len n whole in
+          acted-done f u ds us front k (length o) size big fine linked len long h o o′ refl g n counted (c .stands len n x g)
 
 pub ruleset finish-ways = (begun-ready, begun-small, loose-acted, long-acted, short-acted, count-word, done-acted)
 
