@@ -1,6 +1,6 @@
 -- The skeleton's walk over a file ends well or with 1, 2 or 3. Assumes nothing.
 use Prim.Native.Nat.{ℕ, _+_, _-_, _<_}
-use mathlib.Core.Path.{_≡_, refl, sym, ap, _∙_}
+use mathlib.Core.Path.{_≡_, refl, ap, _∙_}
 use mathlib.Core.Bool.{Bool, true, false, not}
 use mathlib.Core.List.{List, [], _∷_}
 use lib.ListN.{length, take, drop}
@@ -13,15 +13,14 @@ use Rattle.skeleton.specs.Digits.{numberAt}
 use Rattle.skeleton.specs.Leader.{shaped, template, within, statedOf, leaderOf}
 use Rattle.skeleton.specs.Directory.{Body, lies, ended, entryAt, stepBy, dirStep, fieldsFrom, fieldsOf}
 use Rattle.skeleton.specs.File.{Field, stepDir, stepHead, fileStep, recordsFrom, recordsOf}
-use Rattle.skeleton.specs.Record.{withDirectory, recordAt}
 use Rattle.skeleton.specs.declared.leader.Head.{Head}
 use Rattle.skeleton.specs.declared.leader.Head.the-variants.{Good, Refused}
 use Rattle.skeleton.specs.declared.digits.Number.{Number}
 use Rattle.skeleton.specs.declared.digits.Number.the-variants.{Value, NotDigits}
 use Rattle.skeleton.specs.declared.directory.Entry.{Entry}
 use Rattle.skeleton.specs.declared.directory.Entry.the-variants.{Field as FieldAt, End, Bad}
-use Rattle.skeleton.proofs.DirectoryLaws.{field-falls}
-use Rattle.skeleton.proofs.RecordLaws.{record-falls}
+use Rattle.skeleton.proofs.DirectoryLaws.{directory-falls}
+use Rattle.skeleton.proofs.FileLaws.{file-falls}
 use Rattle.numbers.specs.Refusals.{isIn}
 
 -- a number that a walk may end with: 0, or one of the skeleton's
@@ -69,18 +68,11 @@ dir-ends r base p at (FieldAt tag pos len next) = step-pick (lies r base at pos 
 dir-ends r base p at End = off (ends-pick (ended r base p at) 0 3 refl refl)
 dir-ends r base p at Bad = off refl
 
--- which leads further on
-dir-falls : (r : List ℕ) (base a b p at : ℕ) (e : Entry) → e ≡ entryAt r a b p → Lower (λ (s : ℕ × ℕ). length r - s .0) (p, at) (stepBy r base p at e)
-dir-falls r base a b p at (FieldAt tag pos len next) e =
-    by-test (Lower (λ (s : ℕ × ℕ). length r - s .0) (p, at)) (lies r base at pos len) _ _ (λ _. field-falls r a b p _ e tag pos len next refl) (λ _. tt)
-dir-falls r base a b p at End e = tt
-dir-falls r base a b p at Bad e = tt
-
 -- the walk over it
 fields-end : (r : List ℕ) (base a b : ℕ) → ends ((fieldsOf r base a b) .ending) ≡ true
 unfolding fieldsFrom
 fields-end r base a b =
-    walk-ends (dirStep r base a b) (λ s. length r - s .0) (λ s. dir-falls r base a b (s .0) (s .1) _ refl) (λ s. dir-ends r base (s .0) (s .1) (entryAt r a b (s .0))) (24, 0)
+    walk-ends (dirStep r base a b) (λ s. length r - s .0) (directory-falls r base a b) (λ s. dir-ends r base (s .0) (s .1) (entryAt r a b (s .0))) (24, 0)
 
 -- ---- a file
 
@@ -121,24 +113,6 @@ stepHead-ends at rest (Refused n) (bad e) = off e
 file-ends : (f : List ℕ) (at : ℕ) → Ends (fileStep f at)
 unfolding ends
 file-ends f at = step-pick (ltb at (length f)) _ _ (stepHead-ends at (drop at f) _ (leader-leads (drop at f) (eqb at 0))) (off refl)
-
--- a leader whose directory is right is that of a right record
-right-head : (f : List ℕ) (at len base a b : ℕ) → Good len base a b ≡ leaderOf (drop at f) (eqb at 0) → eqb ((fieldsOf (take len (drop at f)) base a b) .ending) 0 ≡ true
-    → Good len base a b ≡ recordAt f at
-unfolding recordAt
-right-head f at len base a b e z =
-    let walked : withDirectory (drop at f) (Good len base a b) ≡ Good len base a b = rw z in
-    sym walked ∙ ap (withDirectory (drop at f)) e
-
--- a step leads further on
-head-falls : (f : List ℕ) (at : ℕ) (h : Head) → h ≡ leaderOf (drop at f) (eqb at 0) → Lower (λ (q : ℕ). length f - q) at (stepHead at (drop at f) h)
-head-falls f at (Good len base a b) e =
-    by-test (Lower (λ (q : ℕ). length f - q) at) (eqb ((fieldsOf (take len (drop at f)) base a b) .ending) 0) _ _
-    (λ z. record-falls f at _ (right-head f at len base a b e z) len base a b refl) (λ _. tt)
-head-falls f at (Refused n) e = tt
-
-file-falls : (f : List ℕ) (at : ℕ) → Lower (λ (q : ℕ). length f - q) at (fileStep f at)
-file-falls f at = by-test (Lower (λ (q : ℕ). length f - q) at) (ltb at (length f)) _ _ (λ _. head-falls f at _ refl) (λ _. tt)
 
 -- the records of a file
 pub records-end : (f : List ℕ) → ends ((recordsOf f) .ending) ≡ true

@@ -117,13 +117,15 @@ lower-of r base a b p at (Field tag pos len next) h =
 lower-of r base a b p at End h = tt
 lower-of r base a b p at Bad h = tt
 
+pub directory-falls : (r : List ℕ) (base a b : ℕ) (s : ℕ × ℕ) → Lower (λ (t : ℕ × ℕ). length r - t .0) s (dirStep r base a b s)
+directory-falls r base a b s = lower-of r base a b (s .0) (s .1) (entryAt r a b (s .0)) (entry-goes r a b (s .0))
+
 -- the fields are what the first entry says, and then the fields from the next one on
 pub fields-step : (r : List ℕ) (base a b p at : ℕ)
     → fieldsFrom r base a b p at ≡ follow (stepBy r base p at (entryAt r a b p)) (λ s. fieldsFrom r base a b (s .0) (s .1))
 unfolding fieldsFrom
 fields-step r base a b p at =
-    walk-step (dirStep r base a b) (λ s. length r - s .0)
-    (λ s. lower-of r base a b (s .0) (s .1) (entryAt r a b (s .0)) (entry-goes r a b (s .0))) (p, at)
+    walk-step (dirStep r base a b) (λ s. length r - s .0) (directory-falls r base a b) (p, at)
 
 -- a turn of `directory`, by the entry e that was read at p
 module _ (r : List ℕ) (base a b p at n : ℕ) (inv : (fieldsFrom r base a b p at) .ending ≡ n) (e : Entry) (en : e ≡ entryAt r a b p) where

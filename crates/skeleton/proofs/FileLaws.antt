@@ -47,9 +47,9 @@ lower-of : (f : List ℕ) (at : ℕ) (h : Head) → h ≡ recordAt f at → Lowe
 lower-of f at (Good len base a b) e = record-falls f at _ e len base a b refl
 lower-of f at (Refused n) e = tt
 
-falls : (f : List ℕ) (at : ℕ) → Lower (λ (q : ℕ). length f - q) at (fileStep f at)
+pub file-falls : (f : List ℕ) (at : ℕ) → Lower (λ (q : ℕ). length f - q) at (fileStep f at)
 unfolding recordAt
-falls f at =
+file-falls f at =
     by-test (Lower (λ (q : ℕ). length f - q) at) (ltb at (length f)) _ _
     (λ e. rw step-of (lower-of f at (recordAt f at) refl))
     (λ _. tt)
@@ -57,7 +57,7 @@ falls f at =
 -- a walk is its first step, and then the walk from there
 pub records-step : (f : List ℕ) (at : ℕ) → recordsFrom f at ≡ follow (fileStep f at) (recordsFrom f)
 unfolding recordsFrom
-records-step f at = walk-step (fileStep f) (λ q. length f - q) (falls f) at
+records-step f at = walk-step (fileStep f) (λ q. length f - q) (file-falls f) at
 
 -- at its end a file has no more records
 pub records-over : (f : List ℕ) (at : ℕ) → length f ≤ at → recordsFrom f at ≡ record { items = []; ending = 0 }
