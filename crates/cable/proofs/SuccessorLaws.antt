@@ -42,7 +42,7 @@ use Rattle.cable.specs.declared.glance.Glance.{Glance}
 use Rattle.cable.specs.declared.glance.Glance.the-variants.{At, Nothing}
 use Rattle.cable.specs.declared.front.Front.{Front}
 use Rattle.cable.specs.declared.front.Front.the-variants.{At as FrontAt, Stopped}
-use Rattle.cable.proofs.NamingLaws.{rest, rest-is}
+use Rattle.skeleton.proofs.RecordLaws.{rest, rest-is}
 use Rattle.cable.proofs.FrontLaws.{Seen, seen}
 use Rattle.cable.proofs.GlanceLaws.{seen-runs, seen-inside}
 

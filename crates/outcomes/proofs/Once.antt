@@ -1,12 +1,13 @@
 -- Relations that stand in contracts of the layers: two outcomes that satisfy one of them are equal. Assumes nothing.
 use Prim.Native.Nat.{ℕ, _+_, _≤_, _<_}
-use mathlib.Core.Path.{_≡_, sym, ap, _∙_}
+use mathlib.Core.Path.{_≡_, refl, sym, ap, _∙_}
 use mathlib.Core.Bool.{Bool, true, false}
 use mathlib.Core.List.{List}
 use native.Mathlib.Omega.{arith}
 use borrow.Author.Tests.{le-leb, leb-true, ltb-true, ltb-false}
 use lib.Dec.{ltb}
 use lib.ListN.{length}
+use Rattle.base.specs.Check.{ok, no, Passed}
 use Rattle.rules.specs.declared.Kind.{Kind}
 use Rattle.memory.specs.Hold.{zeros}
 use Rattle.memory.specs.Wrote.{Wrote}
@@ -25,6 +26,12 @@ use Rattle.composing.specs.Emitted.{Emitted}
 use Rattle.emission.specs.Fields.{ListEntry}
 use Rattle.changing.specs.Given.{Says}
 use Rattle.changing.specs.declared.identity.Said.{Said}
+use Rattle.changing.specs.Foids.{foidTest}
+use Rattle.changing.specs.declared.foid.Foids.{Foids}
+use Rattle.changing.specs.declared.foid.Foids.the-variants.{Same, Other}
+use Rattle.writer.specs.Measured.{saidBy}
+use Rattle.writer.specs.declared.Measured.{Measured as Lengths}
+use Rattle.writer.specs.declared.Measured.the-variants.{Total, TooLong}
 use Rattle.history.proofs.JudgingLaws.{first-found}
 use Rattle.updater.specs.Pieces.{Cut}
 use Rattle.updater.specs.declared.front.Piece.{Piece}
@@ -100,3 +107,23 @@ cut-once f p r q x y = λ i. record { start = (x .start ∙ sym (y .start)) i; e
 
     seconds : r .shape .b ≡ q .shape .b
     seconds = cc
+
+-- ---- what an answer says: no two say the same
+
+pub measured-said : (a b : Lengths) → saidBy a ≡ saidBy b → a ≡ b
+unfolding saidBy
+measured-said (Total x) (Total y) e = let z : x ≡ y = cc in ap Total z
+measured-said (Total x) (TooLong m) e = absurd (let z : _≡_ {A = ℕ} 0 1 = cc in omega arith)
+measured-said (TooLong n) (Total y) e = absurd (let z : _≡_ {A = ℕ} 0 1 = cc in omega arith)
+measured-said (TooLong n) (TooLong m) e = let z : n ≡ m = cc in ap TooLong z
+
+pub foids-said : (a b : Foids) → foidTest a ≡ foidTest b → a ≡ b
+unfolding foidTest
+foids-said Same Same e = refl
+foids-said Same (Other j) e = absurd (let z : _≡_ {A = ℕ} 0 1 = cc in omega arith)
+foids-said (Other i) Same e = absurd (let z : _≡_ {A = ℕ} 0 1 = cc in omega arith)
+foids-said (Other i) (Other j) e = let z : i ≡ j = ap (λ (c : Passed). fieldIn c) e in ap Other z
+  where
+    fieldIn : Passed → ℕ
+    fieldIn (ok u) = 0
+    fieldIn (no x) = x .field

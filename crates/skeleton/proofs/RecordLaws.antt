@@ -20,10 +20,10 @@ use Rattle.skeleton.proofs.LeaderLaws.{Fitting, leader-fitting, Stated,
 use Rattle.skeleton.proofs.DirectoryLaws.{dir-bad}
 
 -- what is left of a file from at on, as the part of a slice has it
-abbrev rest : List ℕ → ℕ → List ℕ
+abbrev pub rest : List ℕ → ℕ → List ℕ
 rest f at = take (length f - at) (drop at f)
 
-rest-is : (f : List ℕ) (at : ℕ) → rest f at ≡ drop at f
+pub rest-is : (f : List ℕ) (at : ℕ) → rest f at ≡ drop at f
 rest-is f at = take-all (length f - at) (drop at f) (omega (arith, length-drop at f))
 
 -- ---- `record_at` and `stated_at`
