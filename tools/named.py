@@ -1,7 +1,7 @@
 #!/usr/bin/env python3
-"""Tests two pages. docs/RULES.md: every name `crate/Module.definition` on it is a definition of crates/crate/specs/Module.antt, and every point
-of docs/DECISIONS.md that has a label is in its last table. docs/PROMISES.md: every edit that must fail is on it, and what a row says it is
-shown by is such an edit. Exit 1 where that is not so."""
+"""Tests two pages. docs/RULES.md and docs/PROMISES.md: every name `crate/Module.definition` on them is a definition of crates/crate/specs/Module.antt.
+docs/RULES.md: every point of docs/DECISIONS.md that has a label is in its last table. docs/PROMISES.md: every edit that must fail is on it, and what
+a row says it is shown by is such an edit. Exit 1 where that is not so."""
 import pathlib
 import re
 import sys
@@ -28,12 +28,16 @@ def promised():
                 yield f"docs/PROMISES.md: {name} is no edit that must fail"
 
 
+def named(page):
+    """The names on a page that are no definition."""
+    for crate, module, name in sorted(set(re.findall(r"`(?!docs/)([a-z]+)/([A-Z]\w*)\.(\w+)`", (ROOT / page).read_text()))):
+        if name not in defined(ROOT / "crates" / crate / "specs" / f"{module}.antt"):
+            yield f"{page}: {crate}/{module}.{name} is no definition"
+
+
 def main():
     text = (ROOT / "docs/RULES.md").read_text()
-    faults = list(promised())
-    for crate, module, name in sorted(set(re.findall(r"`(?!docs/)([a-z]+)/([A-Z]\w*)\.(\w+)`", text))):
-        if name not in defined(ROOT / "crates" / crate / "specs" / f"{module}.antt"):
-            faults.append(f"docs/RULES.md: {crate}/{module}.{name} is no definition")
+    faults = [*promised(), *named("docs/RULES.md"), *named("docs/PROMISES.md")]
     decisions = ROOT / "docs/DECISIONS.md"
     if decisions.exists():
         mapped = set(re.findall(r"^\| ([A-Z]\d+) \|", text, re.M))
