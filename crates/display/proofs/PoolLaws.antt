@@ -95,10 +95,12 @@ module _ (n : ℕ) (first second file : List ℕ) (work : ℕ) (a : Answer) (w�
   in-second f′ h = record { said = h .answers; stands = refl; holds = next-second f′ ∙ answered (take n second) _ a f′ (h .answers) (h .fills); inUse = refl; built = h .fills; zero = h .clears }
 
 module _ (c : Chart) (first second file : List ℕ) (work : ℕ) (a : Answer) (w′ : List ℕ) (to : Chart) (e : to ≡ nextChart c a) where
-  pub followed-first : c .second ≡ false → (s′ : List ℕ) → Updates (take (c .length) first) file (length second) work a s′ w′ → Followed c first second file work (record { answer = a; chart = to }) first s′ w′
+  pub followed-first : c .second ≡ false → (s′ : List ℕ) → Updates (take (c .length) first) file (length second) work a s′ w′
+      → Followed c first second file work (record { answer = a; chart = to }) first s′ w′
   followed-first h s′ g = rw e (let z = in-first (c .length) first second file work a w′ s′ g in rw (← h) at z)
 
-  pub followed-second : c .second ≡ true → (f′ : List ℕ) → Updates (take (c .length) second) file (length first) work a f′ w′ → Followed c first second file work (record { answer = a; chart = to }) f′ second w′
+  pub followed-second : c .second ≡ true → (f′ : List ℕ) → Updates (take (c .length) second) file (length first) work a f′ w′
+      → Followed c first second file work (record { answer = a; chart = to }) f′ second w′
   followed-second h f′ g = rw e (let z = in-second (c .length) first second file work a w′ f′ g in rw (← h) at z)
 
 -- ---- the beginning
