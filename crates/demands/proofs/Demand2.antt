@@ -15,7 +15,7 @@ use Rattle.rules.proofs.OutcomeLaws.{andThen-inv, done-inj}
 use Rattle.numbers.proofs.Answers.{zero-is-done}
 use Rattle.roundtrip.specs.Form.{Form}
 use Rattle.roundtrip.proofs.Answers.{outcome-inv, form-reads, form-writes, write-form, update-form}
-use Rattle.demands.specs.Demand2.{Says, resultOf, Demand2}
+use Rattle.demands.specs.Demand2.{Means, resultOf, Demand2}
 
 -- ---- a written form
 
@@ -34,9 +34,9 @@ module _ (w : Written) (d : Dataset) (f : Form w d) where
   unfolding read readAnswer
   form-answer = ap readAnswer (form-reads w d f) ∙ ap (λ (v : Written). success 0 (v .records)) (sym (f .isForm))
 
-  says-form : Says (w .bytes) (saidOf w) d
+  means-form : Means (w .bytes) (saidOf w) d
   unfolding success outputOf hold zeros
-  says-form =
+  means-form =
       record {
         long = refl;
         isRead = outcome-inv (w .bytes) d (form-reads w d f);
@@ -45,12 +45,12 @@ module _ (w : Written) (d : Dataset) (f : Form w d) where
       }
 
   -- so say the first bytes of an outcome that is such a form
-  says-outcome : (room : ℕ) (a : Answer) (out : List ℕ) → a ≡ (outputOf room (done w)) .answer → out ≡ (outputOf room (done w)) .out → Says (take (a .length) out) a d
+  means-outcome : (room : ℕ) (a : Answer) (out : List ℕ) → a ≡ (outputOf room (done w)) .answer → out ≡ (outputOf room (done w)) .out → Means (take (a .length) out) a d
   unfolding outputOf success
-  says-outcome room a out x y =
+  means-outcome room a out x y =
       let front : take (a .length) out ≡ w .bytes
       = ap (λ (b : Answer). take (b .length) out) x ∙ ap (take (length (w .bytes))) y ∙ take-append-seam (w .bytes) (replicate (room - length (w .bytes)) 0) in
-      subst (λ b. Says b a d) (sym front) (subst (λ (b : Answer). Says (w .bytes) b d) (sym x) says-form)
+      subst (λ b. Means b a d) (sym front) (subst (λ (b : Answer). Means (w .bytes) b d) (sym x) means-form)
 
 -- ---- the updater's result
 
@@ -80,12 +80,12 @@ demand-two =
       writes = λ f room a out b x z.
           let (w, e) = (zero-is-done .writes f room) .0 (ap (λ (c : Answer). c .number) (sym (x .answers)) ∙ z) in
           let (d, r, form) = write-form room f w b e in
-          (d, r, says-outcome w d form room a out (x .answers ∙ ap (λ o. (outputOf room o) .answer) e) (x .fills ∙ ap (λ o. (outputOf room o) .out) e));
+          (d, r, means-outcome w d form room a out (x .answers ∙ ap (λ o. (outputOf room o) .answer) e) (x .fills ∙ ap (λ o. (outputOf room o) .out) e));
       updates = λ f u room work a out space b c x z.
           let (w, e) = (zero-is-done .updates f u room work) .0 (ap (λ (c : Answer). c .number) (sym (x .answers)) ∙ z) in
           let (d, s, r, read, sent, up, form) = update-form room work f u w b c e in (
             r,
             in-sequence f u d r s read (updated-writable room work f u w d e read) sent up,
-            says-outcome w r form room a out (x .answers ∙ ap (λ o. (outputOf room o) .answer) e) (x .fills ∙ ap (λ o. (outputOf room o) .out) e),
+            means-outcome w r form room a out (x .answers ∙ ap (λ o. (outputOf room o) .answer) e) (x .fills ∙ ap (λ o. (outputOf room o) .out) e),
           );
     }

@@ -14,9 +14,9 @@ use Rattle.rules.specs.Answers.{success}
 use Rattle.rules.specs.declared.Answer.{Answer}
 use Rattle.promises.specs.Promise.{Reads, Writes, Updates}
 
--- the bytes b, which answer a came with, say d: they have the length that it says, are read as d, the reader answers its count of records, and wherever
+-- the bytes b, which answer a came with, mean d: they have the length that it says, are read as d, the reader answers its count of records, and wherever
 -- there is room the writer gives them again as they are, with the same answer
-pub record Says (b : List ℕ) (a : Answer) (d : Dataset) : Type 0 where
+pub record Means (b : List ℕ) (a : Answer) (d : Dataset) : Type 0 where
   pub long : length b ≡ a .length
   pub isRead : readDataset b ≡ done d
   pub readAgain : (c : Answer) → Reads b c → c ≡ success 0 (a .count)
@@ -28,6 +28,6 @@ resultOf f u = andThen (readDataset f) (λ d. andThen (writable d) (λ w. andThe
 
 pub record Demand2 : Type 0 where
   pub writes : (f : List ℕ) (room : ℕ) (a : Answer) (out : List ℕ) → Bytes f → Writes f room a out → a .number ≡ 0
-      → (d : Dataset) × (readDataset f ≡ done d) × Says (take (a .length) out) a d
+      → (d : Dataset) × (readDataset f ≡ done d) × Means (take (a .length) out) a d
   pub updates : (f u : List ℕ) (room work : ℕ) (a : Answer) (out space : List ℕ) → Bytes f → Bytes u → Updates f u room work a out space → a .number ≡ 0
-      → (r : Dataset) × (resultOf f u ≡ done r) × Says (take (a .length) out) a r
+      → (r : Dataset) × (resultOf f u ≡ done r) × Means (take (a .length) out) a r
