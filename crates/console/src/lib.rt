@@ -1,5 +1,5 @@
-// What other languages link: the entry points over numbers and byte slices. Each says its answer in two ways: the refusal's number, 0 for done, is the
-// result, and the five numbers stand in a lent slice.
+// What other languages link: the entry points over numbers and byte slices. Each that refuses says its answer in two ways: the refusal's number, 0 for
+// done, is the result, and the five numbers stand in a lent slice.
 use cable::shelf::answer_of;
 use cable::shelf::reply;
 use cable::taking::take;
