@@ -17,7 +17,7 @@ use Rattle.forest.specs.Rule.{allTaken}
 use Rattle.forest.proofs.Numbers.{lt-or-le}
 use Rattle.forest.proofs.ReaderLaws.{Alike, Agree, refused, came, read-alike, run-is}
 use Rattle.forest.proofs.TupleReader.{Passing, passing, onFirst, TupleRule, source, told, rule-reads, rule-bound}
-use Rattle.tree.specs.Source.{two, past, numbered, closed, Spot, spot, tuplesIn, walkOf, runAt, remains}
+use Rattle.tree.specs.Source.{two, past, numbered, closed, Spot, spot, tuplesIn, runAt, remains}
 use Rattle.tree.specs.Known.{Reach, there}
 use Rattle.tree.specs.Verdict.{faultyTuple}
 use Rattle.tree.proofs.CountLaws.{reach-next}
@@ -85,8 +85,8 @@ module _ {P T F B : Type 0} (d : TupleRule P T F B) (make : List Val → T) (lo 
 
   -- what the rule says where the run at the top ends
   top-end : {A : Type 0} (a : A) (s : Passing P T) (u : Spot) → Matches s u
-      → faultyTuple (allTaken a (d .place (s .past)) (s .left)) ≡ remains (length b) (walkOf (ok (record { found = tt; end = u })))
-  unfolding faultyTuple allTaken remains walkOf
+      → faultyTuple (allTaken a (d .place (s .past)) (s .left)) ≡ remains (length b) (ok u)
+  unfolding faultyTuple allTaken remains
   top-end a s u m =
       ⊎-elim
       (λ (h : u .offset < length b). rw (left-more s u m h, lt-ltb (u .offset) (length b) h) (m .placed))
@@ -95,8 +95,8 @@ module _ {P T F B : Type 0} (d : TupleRule P T F B) (make : List Val → T) (lo 
 
   -- what it says of two readings that came to the same
   top-agree : {A : Type 0} (found : B → A) (x : Check (Read (Passing P T) F)) (y : Check (Read Spot (Unit {0}))) → Agree Matches x y
-      → faultyTuple (bind (told d x) (λ r. allTaken (found r) (d .place (d .pastOf r)) (d .leftOf r))) ≡ remains (length b) (walkOf y)
-  unfolding bind faultyTuple remains walkOf
+      → faultyTuple (bind (told d x) (λ r. allTaken (found r) (d .place (d .pastOf r)) (d .leftOf r))) ≡ remains (length b) (bind y (λ r. ok (r .end)))
+  unfolding bind faultyTuple remains
   top-agree found x y refused = refl
   top-agree found x y (came {r = r} {q = q} m) = rw (d .past-as r, d .left-as r) (top-end (found (d .inWords r)) (r .end) (q .end) m)
 
@@ -110,4 +110,4 @@ module _ {P T F B : Type 0} (d : TupleRule P T F B) (make : List Val → T) (lo 
       ap (λ (c : Check B). faultyTuple (bind c (λ r. allTaken (found r) (d .place (d .pastOf r)) (d .leftOf r))))
       (rule-bound d (length ts) n h 0 false ts (omega arith) (omega arith) ∙ rule-reads d n h 0 false ts)
       ∙ top-agree found _ _ (read-alike (source d) (tuplesIn b whole) Matches present (λ s u m. m .placed) look n 0 false (passing h ts) (spot 0 1) start)
-      ∙ ap (λ (c : Check (Read Spot (Unit {0}))). remains (length b) (walkOf c)) (run-is (tuplesIn b whole) (tuples-fall b whole) n 0 false (spot 0 1) (omega arith))
+      ∙ ap (λ (c : Check (Read Spot (Unit {0}))). remains (length b) (bind c (λ r. ok (r .end)))) (run-is (tuplesIn b whole) (tuples-fall b whole) n 0 false (spot 0 1) (omega arith))

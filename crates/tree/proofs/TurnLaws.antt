@@ -7,10 +7,11 @@ use native.Mathlib.Omega.{arith}
 use lib.ListN.{length}
 use lib.Dec.{ltb, eqb}
 use Rattle.base.specs.Choice.{pick, either}
+use Rattle.base.specs.Check.{Check}
 use Rattle.forest.specs.Reader.{faulty}
 use Rattle.tree.specs.declared.walk.Walk.{Walk}
 use Rattle.tree.specs.declared.walk.Walk.the-variants.{Bad, Upto}
-use Rattle.tree.specs.Source.{two, past, count, numbered, closed, spot, tuplesIn, runAt, entryAt}
+use Rattle.tree.specs.Source.{two, past, count, numbered, closed, Spot, spot, tuplesIn, saidBy, runAt, entryAt}
 use Rattle.tree.specs.Due.{dueFor}
 use Rattle.tree.specs.Known.{Reach, there, Fresh, Known, Seen}
 use Rattle.tree.proofs.KnownLaws.{seen-none, seen-next}
@@ -31,11 +32,11 @@ module _ (b : List ℕ) (whole : Bool) (at k due : ℕ) (shut r : Bool) (told : 
       go false e f d = rw e (sym f)
 
   -- a tuple that breaks the rule
-  pub entry-breaks : r ≡ true → Bad k ≡ entryAt b whole at k shut
+  pub entry-breaks : r ≡ true → saidBy (Bad k) ≡ entryAt b whole at k shut
   entry-breaks e = sym (entry-bad b whole at k shut (test-faulty ∙ e))
 
   -- its children
-  pub entry-goes : (first : ℕ) (shuts : Bool) (w : Walk) → r ≡ false → first ≡ past b at → shuts ≡ closed b whole at → w ≡ runAt b whole first k (k + 1) shuts → w ≡ entryAt b whole at k shut
+  pub entry-goes : (first : ℕ) (shuts : Bool) (w : Check Spot) → r ≡ false → first ≡ past b at → shuts ≡ closed b whole at → w ≡ runAt b whole first k (k + 1) shuts → w ≡ entryAt b whole at k shut
   entry-goes first shuts w e f g h = rw (f, g) at h ∙ sym (entry-run b whole at k shut (test-faulty ∙ e))
 
 -- ---- the loop of a run
@@ -66,20 +67,20 @@ module _ {b : List ℕ} {whole : Bool} {at p k : ℕ} {shut : Bool} {a q top man
   pub turn-asks : Known b (two b (a + 4)) a q × (a < length b) × (whole ≡ true → due ≡ count b 0 a (two b a) (two b (a + 4)) + 1)
   turn-asks = (rw own (go .known), inside, λ x. rw own (dued x))
 
-  module _ (w : Walk) (went : w ≡ entryAt b whole a q shut) where
+  module _ (w : Walk) (went : saidBy w ≡ entryAt b whole a q shut) where
     -- a tuple that breaks the rule
-    pub turn-bad : (j : ℕ) → w ≡ Bad j → Bad j ≡ runAt b whole at p k shut
-    turn-bad j e = sym (run-bad b whole a p q shut inside own j (sym went ∙ e)) ∙ go .same
+    pub turn-bad : (j : ℕ) → w ≡ Bad j → saidBy (Bad j) ≡ runAt b whole at p k shut
+    turn-bad j e = sym (run-bad b whole a p q shut inside own j (sym went ∙ ap saidBy e)) ∙ go .same
 
     -- the run goes forward
     pub turn-less : (x y : ℕ) → w ≡ Upto x y → length b - x < length b - a
-    turn-less x y e = omega (arith, entry-on b whole a p q shut inside own x y (sym went ∙ e))
+    turn-less x y e = omega (arith, entry-on b whole a p q shut inside own x y (sym went ∙ ap saidBy e))
 
     -- the same is known behind the entry
     pub turn-again : (x y top′ many′ : ℕ) → w ≡ Upto x y → many′ ≡ pick (ltb code top) many due → top′ ≡ pick (ltb top code) code top
         → Going b whole at p k shut x y top′ many′
     turn-again x y top′ many′ e f g =
-        let step : entryAt b whole a q shut ≡ Upto x y = sym went ∙ e in
+        let step : entryAt b whole a q shut ≡ saidBy (Upto x y) = sym went ∙ ap saidBy e in
         record {
           same = run-go b whole a p q shut inside own x y step ∙ go .same;
           known = entry-known b whole a p q shut inside own x y step (go .known);

@@ -19,7 +19,7 @@ use Rattle.forest.proofs.ReaderLaws.{Refusal, between-end, read-refused}
 use Rattle.forest.proofs.FaultLaws.{tree-fault, acts-fault}
 use Rattle.rules.specs.Content.{inasFormat}
 use Rattle.rules.specs.Trees.{attrTree, attrActs, inasTree}
-use Rattle.tree.specs.Source.{past, Spot, spot, tuplesIn, walkOf, saidBy, runAt, remains}
+use Rattle.tree.specs.Source.{past, Spot, spot, tuplesIn, runAt, remains}
 use Rattle.tree.specs.Verdict.{faultyTuple, verdict}
 use Rattle.tree.proofs.CountLaws.{past-above}
 use Rattle.tree.proofs.KnownLaws.{tuples-fall}
@@ -52,37 +52,22 @@ pub inas-verdict : (b : List ℕ) → passed (inasTree b) ≡ verdict (faultyTup
 unfolding inasTree
 inas-verdict b = passed-verdict _ _ (tree-fault _)
 
--- ---- a walk says what the rules' reading says
+-- ---- the number is no larger than the field
 
 -- places grow more slowly than offsets
 even : (b : List ℕ) (whole : Bool) (s : Spot) → ltb (s .offset) (length b) ≡ true
     → (s .place < s .place + 1) × (s .place + 1 + (length b - past b (s .offset)) ≤ s .place + (length b - s .offset))
 even b whole s h = (omega arith, omega (arith, past-above b (s .offset), ltb-true (s .offset) (length b) h))
 
--- the test that its answer is comes to the same: a refusal is 6, at its place
-pub walk-said : (b : List ℕ) (whole : Bool) (at p k : ℕ) (shut : Bool)
-    → saidBy (runAt b whole at p k shut) ≡ bind (readRun (tuplesIn b whole) p shut (spot at k)) (λ r. ok (r .end))
-unfolding saidBy runAt walkOf bind
-walk-said b whole at p k shut = go (readRun (tuplesIn b whole) p shut (spot at k)) refl
-  where
-    go : (c : Check (Read Spot (Unit {0}))) → readRun (tuplesIn b whole) p shut (spot at k) ≡ c → saidBy (walkOf c) ≡ bind c (λ r. ok (r .end))
-    go (ok r) e = refl
-    go (no f) e =
-        let r : Refusal k (k + (length b - at)) f = unfold readRun in
-        read-refused (tuplesIn b whole) (tuples-fall b whole) (even b whole) k (k + (length b - at)) _ p shut (spot at k) f (omega arith, omega arith) e in
-        ap no (sym (r .six))
-
--- ---- the number is no larger than the field
-
 -- what the walk finds
 found-within : (b : List ℕ) (whole : Bool) → Found b whole ≤ length b
-unfolding runAt readRun walkOf remains
+unfolding runAt readRun bind remains
 found-within b whole = go (readUpTo (tuplesIn b whole) (length b - 0) 0 false (spot 0 1)) refl
   where
     first : (1 ≤ 1) × (1 + (length b - 0) ≤ 1 + length b)
     first = (omega arith, omega arith)
 
-    go : (c : Check (Read Spot (Unit {0}))) → readUpTo (tuplesIn b whole) (length b - 0) 0 false (spot 0 1) ≡ c → remains (length b) (walkOf c) ≤ length b
+    go : (c : Check (Read Spot (Unit {0}))) → readUpTo (tuplesIn b whole) (length b - 0) 0 false (spot 0 1) ≡ c → remains (length b) (bind c (λ r. ok (r .end))) ≤ length b
     go (no f) e = let r = read-refused (tuplesIn b whole) (tuples-fall b whole) (even b whole) 1 (1 + length b) _ 0 false (spot 0 1) f first e in omega (arith, r .below)
     go (ok r) e =
         let behind = between-end (tuplesIn b whole) (tuples-fall b whole) (even b whole) 1 (1 + length b) _ 0 false (spot 0 1) r e first in

@@ -5,9 +5,9 @@ use Prim.Native.Nat.{ℕ, zero, suc, _+_, _-_}
 use lib.ListN.{length, getD, drop}
 use lib.Dec.{ltb, eqb}
 use Rattle.base.specs.Choice.{pick, either}
-use Rattle.base.specs.Check.{Check, ok, no, refuse}
+use Rattle.base.specs.Check.{Check, ok, no, bind, refuse}
 use Rattle.fields.specs.Bytes.{le, run}
-use Rattle.forest.specs.Reader.{Reader, Read, faulty, readRun}
+use Rattle.forest.specs.Reader.{Reader, faulty, readRun}
 use Rattle.tree.specs.declared.walk.Walk.{Walk}
 use Rattle.tree.specs.declared.walk.Walk.the-variants.{Bad, Upto}
 
@@ -69,25 +69,20 @@ tuplesIn b whole = record {
   one = λ s f g. tt;
 }
 
--- what a reading came to: where it ended, or the place of the faulty tuple
-unfoldable pub walkOf : Check (Read Spot (Unit {0})) → Walk
-walkOf (ok r) = Upto (r .end .offset) (r .end .place)
-walkOf (no f) = Bad (f .tuple)
-
 -- what the code answers, as a test: where the walk ended, or 6 at the faulty tuple
 unfoldable pub saidBy : Walk → Check Spot
 saidBy (Bad k) = refuse 6 k
 saidBy (Upto at k) = ok (spot at k)
 
--- the run of parent p from offset at on, the first of place k; shut: that parent takes no child
-unfoldable pub runAt : List ℕ → Bool → ℕ → ℕ → ℕ → Bool → Walk
-runAt b whole at p k shut = walkOf (readRun (tuplesIn b whole) p shut (spot at k))
+-- the run of parent p from offset at on, the first of place k, as the rules read it: where it ends; shut: that parent takes no child
+unfoldable pub runAt : List ℕ → Bool → ℕ → ℕ → ℕ → Bool → Check Spot
+runAt b whole at p k shut = bind (readRun (tuplesIn b whole) p shut (spot at k)) (λ r. ok (r .end))
 
 -- the entry at an offset, of place k, and its run of children
-unfoldable pub entryAt : List ℕ → Bool → ℕ → ℕ → Bool → Walk
-entryAt b whole at k shut = pick (faulty (tuplesIn b whole) shut (spot at k)) (Bad k) (runAt b whole (past b at) k (k + 1) (closed b whole at))
+unfoldable pub entryAt : List ℕ → Bool → ℕ → ℕ → Bool → Check Spot
+entryAt b whole at k shut = pick (faulty (tuplesIn b whole) shut (spot at k)) (refuse 6 k) (runAt b whole (past b at) k (k + 1) (closed b whole at))
 
 -- where the run at the top ended: 0 at the end of the bytes, else the place of the first tuple left; or the place of the faulty tuple
-unfoldable pub remains : ℕ → Walk → ℕ
-remains n (Bad k) = k
-remains n (Upto at k) = pick (ltb at n) k 0
+unfoldable pub remains : ℕ → Check Spot → ℕ
+remains n (ok s) = pick (ltb (s .offset) n) (s .place) 0
+remains n (no f) = f .tuple

@@ -6,7 +6,7 @@ ghost use mathlib.Core.Path.{_≡_};
 ghost use mathlib.Core.Bool.{true, false};
 ghost use Prim.Native.Nat.{_+_, _<_};
 ghost use lib.ListN.{length};
-ghost use Rattle.tree.specs.Source.{two, count, runAt, entryAt, remains};
+ghost use Rattle.tree.specs.Source.{two, count, saidBy, runAt, entryAt, remains};
 ghost use Rattle.tree.specs.Known.{Whole, Fresh, Known};
 ghost use Rattle.tree.specs.Due.{AllDue};
 
@@ -27,7 +27,7 @@ pub fn entry(
     sure: bool,
 ) -> Walk
     requires { ⌜ (Known (now b) (two (now b) (at + 4)) at place) × (at < length (now b)) × (whole ≡ true → due ≡ count (now b) 0 at (two (now b) at) (two (now b) (at + 4)) + 1) × (sure ≡ true → AllDue (now b) (length (now b))) ⌝ }
-    ensures { λ r. ⌜ r ≡ entryAt (now (b .entry)) whole at place shut ⌝ }
+    ensures { λ r. ⌜ saidBy r ≡ entryAt (now (b .entry)) whole at place shut ⌝ }
 {
     let first = tuple::behind(b, at);
     if tuple::breaks(b, at, due, shut, whole) {
@@ -48,7 +48,7 @@ pub fn run(
     sure: bool,
 ) -> Walk
     requires { ⌜ (Known (now b) parent at place) × (Fresh (now b) at parent) × (sure ≡ true → AllDue (now b) (length (now b))) ⌝ }
-    ensures { λ r. ⌜ r ≡ runAt (now (b .entry)) whole at parent place shut ⌝ }
+    ensures { λ r. ⌜ saidBy r ≡ runAt (now (b .entry)) whole at parent place shut ⌝ }
 {
     let mut a = at;
     let mut q = place;
