@@ -4,22 +4,15 @@ use mathlib.Core.Bool.{Bool, true, false}
 use mathlib.Core.List.{List, [], _∷_, _++_}
 use Prim.Native.Nat.{ℕ, _+_, _*_, _≤_, _<_}
 use native.Mathlib.Omega.{arith}
-use lib.Dec.{eqb}
 use Rattle.base.specs.Choice.{pick, either, largerOf}
 use Rattle.base.specs.Check.{no, bind, fault, Passed}
 use Rattle.base.specs.Keys.{same, among}
 use Rattle.base.specs.Lists.{each}
 use Rattle.base.specs.declared.Fault.{Fault}
-use Rattle.base.proofs.CheckLaws.{ok-no}
 use Rattle.base.proofs.ChoiceLaws.{either-false, both-false, larger-left, larger-right}
 use Rattle.base.proofs.KeysLaws.{same-sound}
 use Rattle.fields.specs.Values.{Val}
-use Rattle.fields.specs.Table.{tupleOf}
-use Rattle.fields.specs.Content.{many}
-use Rattle.fields.specs.declared.Format.the-variants.{Spas}
-use Rattle.skeleton.specs.File.{Field}
-use Rattle.rules.specs.Tags.{INAS, SPAS}
-use Rattle.rules.specs.Associations.{Mark, inasKey, spasKey, spasMarks, fieldMarks, keysOnce}
+use Rattle.rules.specs.Associations.{Mark, spasKey, keysOnce}
 use Rattle.rules.proofs.MarkLaws.{markKey}
 use Rattle.contents.specs.Keys.{numberOf, topWith}
 
@@ -83,38 +76,13 @@ once-apart (m ∷ ms) ns seen =
     (once-same ns ((m .key ∷ seen) ++ each markKey ms) (seen ++ (m .key ∷ each markKey ms)) (λ k. among-move k (m .key) seen (each markKey ms))))
     ∙ first-then (among (m .key) seen) (fault 7 (m .field) (m .tuple)) (keysOnce (m .key ∷ seen) ms) _
 
--- ---- the marks of a field
+-- ---- the keys of a SPAS
 
 -- a key of four numbers is none of two
 pub four-new : (x y z w : ℕ) (vs : List (List Val)) → among (x ∷ y ∷ z ∷ w ∷ []) (each spasKey vs) ≡ false
 unfolding among each same spasKey
 four-new x y z w [] = refl
 four-new x y z w (v ∷ vs) = rw (both-false, both-false) (four-new x y z w vs)
-
--- a refusal of marks of field i is 7 in that field
-abbrev In : ℕ → Fault → Type 0
-In i x = x ≡ fault 7 i (x .tuple)
-
-one-fault : (b : Bool) (i j : ℕ) (c : Passed) (x : Fault) → pick b (no (fault 7 i j)) c ≡ no x → (c ≡ no x → In i x) → In i x
-one-fault true i j c x e later = let z : fault 7 i j ≡ x = cc in rw (← z)
-one-fault false i j c x e later = later e
-
-spas-fault : (i j : ℕ) (vs : List (List Val)) (seen : List (List ℕ)) (x : Fault) → keysOnce seen (spasMarks i j vs) ≡ no x → In i x
-unfolding keysOnce spasMarks
-spas-fault i j [] seen x e = ok-no e
-spas-fault i j (v ∷ vs) seen x e =
-    one-fault (among (spasKey v) seen) i j (keysOnce (spasKey v ∷ seen) (spasMarks i (j + 1) vs)) x e (spas-fault i (j + 1) vs (spasKey v ∷ seen) x)
-
-pub field-fault : (i : ℕ) (f : Field) (seen : List (List ℕ)) (x : Fault) → keysOnce seen (fieldMarks i f) ≡ no x → In i x
-unfolding keysOnce fieldMarks
-field-fault i f seen x e = go (eqb (f .tag) INAS) (eqb (f .tag) SPAS) e
-  where
-    go : (a b : Bool)
-        → keysOnce seen (pick a (record { key = inasKey (f .body); field = i; tuple = 0 } ∷ []) (pick b (spasMarks i 1 (many (tupleOf Spas) (f .body))) [])) ≡ no x
-        → In i x
-    go true b z = one-fault (among (inasKey (f .body)) seen) i 0 _ x z ok-no
-    go false true z = spas-fault i 1 (many (tupleOf Spas) (f .body)) seen x z
-    go false false z = ok-no z
 
 -- ---- the largest
 

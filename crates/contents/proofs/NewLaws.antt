@@ -8,6 +8,7 @@ use borrow.Author.Tests.{le-ltb, not-true}
 use lib.Dec.{eqb}
 use lib.ListN.{take}
 use Rattle.base.specs.Choice.{pick, either}
+use Rattle.base.specs.Check.{bind}
 use Rattle.base.specs.Keys.{among}
 use Rattle.base.specs.Lists.{empty, each, gather}
 use Rattle.base.proofs.ChoiceLaws.{either-false, either-true}
@@ -21,7 +22,7 @@ use Rattle.rules.specs.Tags.{INAS, SPAS}
 use Rattle.rules.specs.ByTag.{withTag, has}
 use Rattle.rules.specs.Content.{inasFormat}
 use Rattle.rules.specs.Associations.{inasKey, spasKey, keysOnce, spasKeys, fieldKeys}
-use Rattle.contents.specs.Keys.{listOf, inasKeyAt, keysIn, hasFrom, seenFrom, seenBefore, topWith, told, inasOnce}
+use Rattle.contents.specs.Keys.{listOf, inasKeyAt, keysIn, hasFrom, seenFrom, seenBefore, topWith, saidBy, inasOnce}
 use Rattle.contents.specs.declared.earlier.Key.{Key}
 use Rattle.contents.specs.declared.associations.Keys.the-variants.{Once, Twice}
 use Rattle.contents.proofs.KeyLaws.{among-append, above-new, four-new}
@@ -84,12 +85,12 @@ never-inas x y z w (f ∷ fs) e = go (eqb (f .tag) INAS) refl e (never-inas x y 
     go false ft et later = among-append (x ∷ y ∷ z ∷ w ∷ []) (fieldKeys f) (gather fieldKeys fs) ∙ (rw (never-other x y z w f ft) (later et))
 
 module _ (r : List ℕ) (h : Shape) (p n : ℕ) (b : List ℕ) (top : ℕ) where
-  inas-new : among (inasKey b) (keysIn (take n (fieldsAt r h p))) ≡ false → Once top ≡ inasOnce r h p n b top
-  unfolding inasOnce told keysOnce topWith inasKey
+  inas-new : among (inasKey b) (keysIn (take n (fieldsAt r h p))) ≡ false → saidBy (n + 2) (Once top) ≡ inasOnce r h p n b top
+  unfolding saidBy bind inasOnce keysOnce topWith inasKey
   inas-new z = rw z (simp (le-ltb top 0 (omega arith)))
 
   -- the first
-  pub inas-first-one : (t : Bool) → t ≡ has INAS (take n (fieldsAt r h p)) → not t ≡ true → Once top ≡ inasOnce r h p n b top
+  pub inas-first-one : (t : Bool) → t ≡ has INAS (take n (fieldsAt r h p)) → not t ≡ true → saidBy (n + 2) (Once top) ≡ inasOnce r h p n b top
   unfolding inasKey
   inas-first-one t et z = inas-new (never-inas _ _ _ _ (take n (fieldsAt r h p)) (sym et ∙ not-true t z))
 
@@ -99,11 +100,11 @@ module _ (r : List ℕ) (h : Shape) (p n : ℕ) (b : List ℕ) (top : ℕ) where
     unfolding seenFrom
     seen = sym (et ∙ ap (λ (k : Key). among (listOf k) (keysIn (take n (fieldsAt r h p)))) ek ∙ ap (λ (k : List ℕ). among k (keysIn (take n (fieldsAt r h p)))) (inas-listed b f))
 
-    pub inas-twice : t ≡ true → Twice 0 ≡ inasOnce r h p n b top
-    unfolding inasOnce told keysOnce
+    pub inas-twice : t ≡ true → saidBy (n + 2) (Twice 0) ≡ inasOnce r h p n b top
+    unfolding saidBy bind inasOnce keysOnce
     inas-twice z = rw (seen, z)
 
-    pub inas-fresh : t ≡ false → Once top ≡ inasOnce r h p n b top
+    pub inas-fresh : t ≡ false → saidBy (n + 2) (Once top) ≡ inasOnce r h p n b top
     inas-fresh z = inas-new (seen ∙ z)
 
 pub ruleset inas-once-ways = (inas-first-one, inas-twice, inas-fresh)

@@ -8,7 +8,7 @@ use borrow.Author.Tests.{eq-eqb, ne-eqb}
 use lib.Dec.{eqb}
 use lib.ListN.{length, getD, take, drop}
 use Rattle.base.specs.Choice.{either}
-use Rattle.base.specs.Check.{ok, no, bind, fault, Passed, pass}
+use Rattle.base.specs.Check.{Check, ok, no, bind, fault, Passed, pass}
 use Rattle.base.specs.Lists.{empty, gather}
 use Rattle.base.specs.Verdict.{verdictOf}
 use Rattle.base.specs.declared.Fault.{Fault}
@@ -28,12 +28,12 @@ use Rattle.rules.specs.ByTag.{withTag, front, has}
 use Rattle.rules.specs.Associations.{fieldMarks, marks, keysOnce, fieldKeys}
 use Rattle.rules.proofs.MarkLaws.{field-marked}
 use Rattle.contents.specs.Fit.{allFit}
-use Rattle.contents.specs.Keys.{keysIn, seenBefore, topWith, told, saidBy, spasFrom, inasOnce, fieldOnce, onceFrom}
+use Rattle.contents.specs.Keys.{keysIn, seenBefore, topWith, saidBy, spasFrom, inasOnce, fieldOnce, onceFrom}
 use Rattle.contents.specs.declared.associations.Keys.{Keys}
 use Rattle.contents.specs.declared.associations.Keys.the-variants.{Once, Twice}
 use Rattle.contents.proofs.StepLaws.{step-bounds}
 use Rattle.contents.proofs.FitLaws.{fit-here, fit-next}
-use Rattle.contents.proofs.KeyLaws.{once-apart, field-fault, top-append}
+use Rattle.contents.proofs.KeyLaws.{once-apart, top-append}
 use Rattle.contents.proofs.EarlierLaws.{inas-filled, spas-filled}
 use Rattle.contents.proofs.NewLaws.{has-last}
 use Rattle.contents.proofs.ListLaws.{one-taken, gather-last}
@@ -46,32 +46,22 @@ unfolding seenBefore
 before-none r h p n b = append-nil (keysIn (take n (fieldsAt r h p)))
 
 module _ (r : List ℕ) (h : Shape) (p n tag : ℕ) (b : List ℕ) (top : ℕ) where
-  pub once-inas : tag ≡ 0x494e4153 → (e : Keys) → e ≡ inasOnce r h p n b top → e ≡ fieldOnce r h p n tag b top
+  pub once-inas : tag ≡ 0x494e4153 → (e : Check ℕ) → e ≡ inasOnce r h p n b top → e ≡ fieldOnce r h p n tag b top
   unfolding inasOnce fieldOnce fieldKeys fieldMarks
   once-inas z e x = simp (eq-eqb tag 0x494e4153 z) x
 
   module _ (m : tag ≡ 0x494e4153 → ⊥) where
-    pub once-spas : tag ≡ 0x53504153 → (e : Keys) → e ≡ spasFrom r h p n b 0 top → e ≡ fieldOnce r h p n tag b top
+    pub once-spas : tag ≡ 0x53504153 → (e : Check ℕ) → e ≡ spasFrom r h p n b 0 top → e ≡ fieldOnce r h p n tag b top
     unfolding spasFrom fieldOnce fieldKeys fieldMarks
     once-spas z e x = simp (ne-eqb tag 0x494e4153 m, eq-eqb tag 0x53504153 z) (rw (before-none r h p n b) at x)
 
-    pub once-other : (tag ≡ 0x53504153 → ⊥) → Once top ≡ fieldOnce r h p n tag b top
-    unfolding fieldOnce fieldKeys fieldMarks keysOnce told topWith
+    pub once-other : (tag ≡ 0x53504153 → ⊥) → saidBy (n + 2) (Once top) ≡ fieldOnce r h p n tag b top
+    unfolding saidBy bind fieldOnce fieldKeys fieldMarks keysOnce topWith
     once-other z = simp (ne-eqb tag 0x494e4153 m, ne-eqb tag 0x53504153 z)
 
 pub ruleset field-once-ways = (once-inas, once-spas, once-other, inas-filled, spas-filled)
 
 -- ---- the loop over the fields: behind n fields, at place q, where the whole comes to A
-
--- the test that the code's answer of field i is comes to the same as the rules' own, which is asked of its keys: a refusal is 7 there
-told-said : (i top : ℕ) (f : Field) (seen : List (List ℕ))
-    → saidBy i (told top (fieldKeys f) (keysOnce seen (fieldMarks i f))) ≡ bind (keysOnce seen (fieldMarks i f)) (λ _. ok (topWith top (fieldKeys f)))
-unfolding saidBy told bind
-told-said i top f seen = go (keysOnce seen (fieldMarks i f)) refl
-  where
-    go : (c : Passed) → keysOnce seen (fieldMarks i f) ≡ c → saidBy i (told top (fieldKeys f) c) ≡ bind c (λ _. ok (topWith top (fieldKeys f)))
-    go (ok u) e = refl
-    go (no x) e = ap no (sym (field-fault i f seen x e))
 
 -- a test that goes on to a value alone
 refused-first : (c : Passed) (t : ℕ) (x : Fault) → no x ≡ bind c (λ _. ok t) → c ≡ no x
@@ -79,10 +69,10 @@ unfolding bind
 refused-first (ok u) t x e = absurd (let z : _≡_ {A = ℕ} 0 1 = cc in omega arith)
 refused-first (no y) t x e = let z : y ≡ x = cc in ap no z
 
-told-once : (top : ℕ) (ks : List (List ℕ)) (c : Passed) (t : ℕ) → told top ks c ≡ Once t → (c ≡ pass) × (topWith top ks ≡ t)
-unfolding told
-told-once top ks (ok tt) t e = (refl, cc)
-told-once top ks (no x) t e = absurd (let z : _≡_ {A = ℕ} 0 1 = cc in omega arith)
+passed-first : (c : Passed) (v t : ℕ) → ok t ≡ bind c (λ _. ok v) → (c ≡ pass) × (t ≡ v)
+unfolding bind
+passed-first (ok tt) v t e = (refl, cc)
+passed-first (no x) v t e = absurd (let z : _≡_ {A = ℕ} 0 1 = cc in omega arith)
 
 module _ (r : List ℕ) (h : Shape) (p n q : ℕ) (ed : drop n (fieldsAt r h p) ≡ fieldsAt r h q) (e : Place) (en : e ≡ placeAt r h q) where
   all-done : (A : Verdict) → onceFrom r h p n ≡ A → e ≡ Done → Passes ≡ A
@@ -109,7 +99,7 @@ module _ (r : List ℕ) (h : Shape) (p n q : ℕ) (ed : drop n (fieldsAt r h p) 
     one-informed : (c : Bool) → c ≡ has INAS (take n (fieldsAt r h p)) → (d : Bool) → d ≡ either c (eqb tag INAS) → d ≡ has INAS (take (n + 1) (fieldsAt r h p))
     one-informed c ec d ed = rw ((one-taken (fieldsAt r h p) _ _ n one) .0) (rw (has-last INAS (take n (fieldsAt r h p)) field, ← ec) ed)
 
-    module _ (top : ℕ) (k : Keys) (ek : k ≡ fieldOnce r h p n tag (between r start end) top) where
+    module _ (top : ℕ) (k : Keys) (ek : saidBy (n + 2) k ≡ fieldOnce r h p n tag (between r start end) top) where
       -- the field's test, and then those behind it
       turn-of : (A : Verdict) → onceFrom r h p n ≡ A
           → verdictOf (bind (keysOnce earlier (fieldMarks (n + 2) field)) (λ _. keysOnce (earlier ++ fieldKeys field) (marks (n + 2 + 1) (fieldsAt r h next)))) ≡ A
@@ -118,29 +108,29 @@ module _ (r : List ℕ) (h : Shape) (p n q : ℕ) (ed : drop n (fieldsAt r h p) 
           rw (← field-marked (n + 2) field, ← once-apart (fieldMarks (n + 2) field) (marks (n + 2 + 1) (fieldsAt r h next)) earlier) (rw one at inv)
 
       one-twice : (A : Verdict) → onceFrom r h p n ≡ A → (j : ℕ) → k ≡ Twice j → Refused 7 (n + 2) j ≡ A
-      unfolding fieldOnce bind verdictOf saidBy
+      unfolding saidBy fieldOnce bind verdictOf
       one-twice A inv j z =
           let w = refused-first (keysOnce earlier (fieldMarks (n + 2) field)) (topWith top (fieldKeys field)) (fault 7 (n + 2) j)
-          (ap (saidBy (n + 2)) (sym z ∙ ek) ∙ told-said (n + 2) top field earlier) in
+          (ap (saidBy (n + 2)) (sym z) ∙ ek) in
           rw w at (turn-of A inv)
 
       one-more : (A : Verdict) → onceFrom r h p n ≡ A → (t : ℕ) → k ≡ Once t → onceFrom r h p (n + 1) ≡ A
-      unfolding fieldOnce onceFrom bind
+      unfolding saidBy fieldOnce onceFrom bind
       one-more A inv t z =
-          let w = told-once top (fieldKeys field) (keysOnce earlier (fieldMarks (n + 2) field)) t (sym ek ∙ z) in
+          let w = passed-first (keysOnce earlier (fieldMarks (n + 2) field)) (topWith top (fieldKeys field)) t (ap (saidBy (n + 2)) (sym z) ∙ ek) in
           let m : n + 1 + 2 ≡ n + 2 + 1 = omega arith in
           rw (one-place, keys-next, m) (rw (w .0) at (turn-of A inv))
 
       one-top : top ≡ topWith 0 earlier → (t : ℕ) → k ≡ Once t → t ≡ topWith 0 (keysIn (take (n + 1) (fieldsAt r h p)))
-      unfolding fieldOnce
+      unfolding saidBy fieldOnce
       one-top et t z =
-          let w = told-once top (fieldKeys field) (keysOnce earlier (fieldMarks (n + 2) field)) t (sym ek ∙ z) in
-          rw (keys-next, top-append earlier (fieldKeys field) 0, ← et) (sym (w .1))
+          let w = passed-first (keysOnce earlier (fieldMarks (n + 2) field)) (topWith top (fieldKeys field)) t (ap (saidBy (n + 2)) (sym z) ∙ ek) in
+          rw (keys-next, top-append earlier (fieldKeys field) 0, ← et) (w .1)
 
 -- ---- by the entry at q, in a directory that is right from there on
 
 module _ (r : List ℕ) (h : Shape) (p n q tag top : ℕ) (et : tag ≡ tagAt r q) (e : Place) (en : e ≡ placeAt r h q) where
-  pub entry-there : (read start end next : ℕ) → e ≡ At read start end next → (k : Keys) → k ≡ fieldOnce r h p n read (between r start end) top
+  pub entry-there : (read start end next : ℕ) → e ≡ At read start end next → (k : Check ℕ) → k ≡ fieldOnce r h p n read (between r start end) top
       → k ≡ fieldOnce r h p n tag (front (fieldsAt r h q)) top
   unfolding front
   entry-there read start end next x k ek =
@@ -148,7 +138,7 @@ module _ (r : List ℕ) (h : Shape) (p n q tag top : ℕ) (et : tag ≡ tagAt r 
       let z : tag ≡ read = et ∙ sym (l .tag-is) in
       rw (fields-more r h q e en read start end next x, z) ek
 
-  pub entry-not : RightFrom r h q → (getD r q 0 ≡ 30 → ⊥) → e ≡ Done → (k : Keys) → k ≡ fieldOnce r h p n tag (front (fieldsAt r h q)) top
+  pub entry-not : RightFrom r h q → (getD r q 0 ≡ 30 → ⊥) → e ≡ Done → (k : Check ℕ) → k ≡ fieldOnce r h p n tag (front (fieldsAt r h q)) top
   entry-not w o x k = absurd (let z = right-next r h q w o .place in let y : _≡_ {A = ℕ} 0 1 = cc in omega arith)
 
 -- before any tuple of the next field
@@ -187,8 +177,8 @@ module _ (r : List ℕ) (h : Shape) (p n q : ℕ) (ed : drop n (fieldsAt r h p) 
       pub keys-informed : (c : Bool) → c ≡ has INAS (take n (fieldsAt r h p)) → (d : Bool) → d ≡ either c (eqb tag INAS) → d ≡ has INAS (take (n + 1) (fieldsAt r h p))
       keys-informed = one-informed r h p n q ed _ here tag (next .start) (next .end) _ refl
 
-      module _ (top : ℕ) (k : Keys) (ek : k ≡ fieldOnce r h p n tag (front (fieldsAt r h q)) top) where
-        found : k ≡ fieldOnce r h p n tag (between r (next .start) (next .end)) top
+      module _ (top : ℕ) (k : Keys) (ek : saidBy (n + 2) k ≡ fieldOnce r h p n tag (front (fieldsAt r h q)) top) where
+        found : saidBy (n + 2) k ≡ fieldOnce r h p n tag (between r (next .start) (next .end)) top
         unfolding front
         found = rw (fields-more r h q _ here tag (next .start) (next .end) _ refl) at ek
 

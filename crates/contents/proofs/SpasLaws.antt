@@ -1,12 +1,12 @@
 -- Number 7 in a SPAS: tuple by tuple. Assumes nothing.
-use mathlib.Core.Path.{_≡_, refl, sym, ap, _∙_}
+use mathlib.Core.Path.{_≡_, sym, ap, _∙_}
 use mathlib.Core.Bool.{Bool, true, false, not}
 use mathlib.Core.List.{List, [], _∷_, _++_, append-assoc}
 use Prim.Native.Nat.{ℕ, _+_, _-_, _*_, _^_, _≤_, _<_}
 use native.Mathlib.Omega.{arith}
 use lib.ListN.{length, take, drop}
 use Rattle.base.specs.Choice.{pick, largerOf}
-use Rattle.base.specs.Check.{ok, no, fault, Passed}
+use Rattle.base.specs.Check.{Check, ok, no, bind, fault}
 use Rattle.base.specs.Keys.{among}
 use Rattle.base.specs.Lists.{each}
 use Rattle.base.specs.Walk.{Got}
@@ -20,8 +20,7 @@ use Rattle.fields.proofs.TupleLaws.{Next, here-end}
 use Rattle.skeleton.specs.Place.{fieldsAt}
 use Rattle.skeleton.specs.declared.directory.Shape.{Shape}
 use Rattle.rules.specs.Associations.{spasKey, spasMarks, keysOnce, spasKeys}
-use Rattle.contents.specs.Keys.{keysIn, seenBefore, numberOf, topWith, told, spasFrom}
-use Rattle.contents.specs.declared.associations.Keys.{Keys}
+use Rattle.contents.specs.Keys.{keysIn, seenBefore, topWith, saidBy, spasFrom}
 use Rattle.contents.specs.declared.associations.Keys.the-variants.{Once, Twice}
 use Rattle.contents.proofs.KeyLaws.{among-last, once-same, top-append}
 use Rattle.contents.proofs.SpatialLaws.{spas-at, spas-next, spas-key}
@@ -29,12 +28,6 @@ use Rattle.contents.proofs.ListLaws.{one-taken}
 use Rattle.contents.proofs.NewLaws.{not-not}
 
 -- ---- the loop over the tuples of a SPAS: behind j tuples, at offset at, where the whole comes to A
-
--- a key that passes raises the largest number
-told-on : (top : ℕ) (k : List ℕ) (ks : List (List ℕ)) (c : Passed) → told top (k ∷ ks) c ≡ told (largerOf top (numberOf k)) ks c
-unfolding told topWith
-told-on top k ks (ok u) = refl
-told-on top k ks (no x) = refl
 
 -- the tuple behind j tuples, at offset at
 module _ (b : List ℕ) (f : fill (headOf Spas) (tupleOf Spas) b ≡ true) (j at : ℕ) (ea : at ≡ 15 * j) where
@@ -101,37 +94,37 @@ module _ (b : List ℕ) (f : fill (headOf Spas) (tupleOf Spas) b ≡ true) (j at
       spas-top r h p n top new et en =
           rw (seen-next r h p n, top-append (seenBefore r h p n b j) ((x ∷ y ∷ []) ∷ []) 0, ← et) en
 
-      module _ (r : List ℕ) (h : Shape) (p n top : ℕ) (A : Keys) (inv : spasFrom r h p n b j top ≡ A)
+      module _ (r : List ℕ) (h : Shape) (p n top : ℕ) (A : Check ℕ) (inv : spasFrom r h p n b j top ≡ A)
           (t : Bool) (et : t ≡ not (among (x ∷ y ∷ []) (seenBefore r h p n b j))) where
         -- the key's test, and then the tuples behind it
-        turn : told top ((x ∷ y ∷ []) ∷ drop (j + 1) (spasKeys b))
-            (pick (among (x ∷ y ∷ []) (seenBefore r h p n b j)) (no (fault 7 (n + 2) (j + 1)))
+        turn : bind (pick (among (x ∷ y ∷ []) (seenBefore r h p n b j)) (no (fault 7 (n + 2) (j + 1)))
             (keysOnce ((x ∷ y ∷ []) ∷ seenBefore r h p n b j) (spasMarks (n + 2) (j + 1 + 1) (drop (j + 1) (many (tupleOf Spas) b)))))
+            (λ _. ok (topWith top ((x ∷ y ∷ []) ∷ drop (j + 1) (spasKeys b))))
             ≡ A
         unfolding spasFrom keysOnce spasMarks
         turn = rw (key-is) at (rw (key-here, here) at inv)
 
-        pub spas-twice : not t ≡ true → Twice (j + 1) ≡ A
-        unfolding told
+        pub spas-twice : not t ≡ true → saidBy (n + 2) (Twice (j + 1)) ≡ A
+        unfolding saidBy bind
         spas-twice z = let m = not-not (among (x ∷ y ∷ []) (seenBefore r h p n b j)) true (ap not (sym et) ∙ z) in rw m at turn
 
         pub spas-more : not t ≡ false → (new : ℕ) → new ≡ largerOf top (x * 4294967296 + y) → spasFrom r h p n b (j + 1) new ≡ A
-        unfolding spasFrom
+        unfolding spasFrom topWith
         spas-more z new en =
             let k : List ℕ = x ∷ y ∷ [] in
             let before = seenBefore r h p n b j in
             let ms = spasMarks (n + 2) (j + 1 + 1) (drop (j + 1) (many (tupleOf Spas) b)) in
             let m : among k before ≡ false = not-not (among k before) false (ap not (sym et) ∙ z) in
-            let a : told top (k ∷ drop (j + 1) (spasKeys b)) (keysOnce (k ∷ before) ms) ≡ A = rw m at turn in
+            let a : bind (keysOnce (k ∷ before) ms) (λ _. ok (topWith top (k ∷ drop (j + 1) (spasKeys b)))) ≡ A = rw m at turn in
             let c : keysOnce (seenBefore r h p n b (j + 1)) ms ≡ keysOnce (k ∷ before) ms =
             ap (λ (ks : List (List ℕ)). keysOnce ks ms) (seen-next r h p n) ∙ sym (once-same ms (k ∷ before) (before ++ (k ∷ [])) (λ q. among-last q k before))
             in
-            rw (en, c) (sym (told-on top k (drop (j + 1) (spasKeys b)) (keysOnce (k ∷ before) ms)) ∙ a)
+            rw (en, c) a
 
 -- no tuple is left
 pub spas-over : (b : List ℕ) → fill (headOf Spas) (tupleOf Spas) b ≡ true → (j at : ℕ) → at ≡ 15 * j → at ≤ length b → length b ≤ at
-    → (r : List ℕ) (h : Shape) (p n top : ℕ) (A : Keys) → spasFrom r h p n b j top ≡ A → Once top ≡ A
-unfolding spasFrom spasKeys spasMarks keysOnce told topWith each
+    → (r : List ℕ) (h : Shape) (p n top : ℕ) (A : Check ℕ) → spasFrom r h p n b j top ≡ A → saidBy (n + 2) (Once top) ≡ A
+unfolding saidBy bind spasFrom spasKeys spasMarks keysOnce topWith each
 spas-over b f j at ea l m r h p n top A inv =
     rw (none-stands b f j at ea l m) at (rw (each-drop spasKey j (many (tupleOf Spas) b)) at inv)
 

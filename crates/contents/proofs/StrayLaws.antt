@@ -21,7 +21,7 @@ use Rattle.skeleton.proofs.PlaceLaws.{held, place-runs, place-in}
 use Rattle.rules.specs.Tags.{INAS}
 use Rattle.rules.specs.ByTag.{front, has}
 use Rattle.contents.specs.Fit.{allFit}
-use Rattle.contents.specs.Keys.{onceFrom}
+use Rattle.contents.specs.Keys.{saidBy, onceFrom}
 use Rattle.contents.proofs.NewLaws.{new-above, inas-first-one}
 use Rattle.contents.proofs.EarlierLaws.{spas-filled}
 use Rattle.contents.proofs.FitLaws.{fit-here}
@@ -29,6 +29,7 @@ use Rattle.contents.proofs.SpasLaws.{spas-in, spas-number, spas-name, s
 use Rattle.contents.proofs.OnceLaws.{once-inas, once-spas, once-other, entry-there, entry-not, keys-before, keys-start, informed-start, keys-end, keys-counts, keys-word, keys-fit, keys-place, keys-informed, keys-more, keys-top}
 use Rattle.skeleton.proofs.RightLaws.{right-in, right-tag, right-on, right-word, right-falls}
 use Rattle.contents.specs.Strays.{Risen, SpasRises, FieldRises, Level}
+use Rattle.contents.specs.declared.associations.Keys.the-variants.{Once}
 use Rattle.contents.specs.declared.strays.Strays.{Strays}
 
 -- ---- a SPAS, behind j tuples, at offset at
@@ -55,7 +56,7 @@ module _ (b : List ℕ) (f : fill (headOf Spas) (tupleOf Spas) b ≡ true) (j at
       )
 
   pub risen-over : at ≤ length b → length b ≤ at → (s : Strays) → s .top ≡ largest → s .count ≡ before → SpasRises b s (record { top = top; count = count })
-  unfolding Risen SpasRises
+  unfolding saidBy Risen SpasRises
   risen-over l m s et ec z =
       let i = k z in
       (ec ∙ i .0, λ r h p n e. rw et (spas-over b f j at ea l m r h p n top _ (i .1 r h p n (sym et ∙ e) .1)))
@@ -70,12 +71,12 @@ module _ (r : List ℕ) (h : Shape) (q tag : ℕ) (informed : Bool) (s : Strays)
   rises-not top more l z = absurd (omega arith)
 
   pub rises-first : tag ≡ 0x494e4153 → informed ≡ false → FieldRises r h q tag informed s s
-  unfolding FieldRises
+  unfolding saidBy FieldRises
   rises-first t i z = (z, λ p n ei et. once-inas r h p n tag (front (fieldsAt r h q)) (s .top) t _ (inas-first-one r h p n (front (fieldsAt r h q)) (s .top) informed ei (ap not i)))
 
   module _ (n : tag ≡ 0x494e4153 → ⊥) where
     pub rises-other : (tag ≡ 0x53504153 → ⊥) → FieldRises r h q tag informed s s
-    unfolding FieldRises
+    unfolding saidBy FieldRises
     rises-other o z = (z, λ p m ei et. once-other r h p m tag (front (fieldsAt r h q)) (s .top) n o)
 
     module _ (et : tag ≡ tagAt r q) (e : Place) (en : e ≡ placeAt r h q) where
@@ -110,12 +111,12 @@ level-none r h p z = (keys-start r h p, refl)
 module _ (r : List ℕ) (h : Shape) (p n q : ℕ) (ed : drop n (fieldsAt r h p) ≡ fieldsAt r h q) (w : RightFrom r h q) (s : Strays) (k : Level r h p n s) where
   pub level-more : (getD r q 0 ≡ 30 → ⊥) → (tag : ℕ) → tag ≡ tagAt r q → (informed : Bool) → informed ≡ has INAS (take n (fieldsAt r h p)) → (s' : Strays)
       → FieldRises r h q tag informed s s' → Level r h p (n + 1) s'
-  unfolding Level FieldRises
+  unfolding saidBy Level FieldRises
   level-more o tag et informed ei s' f z =
       let j = f z in
       let i = k (j .0) in
       let e = j .1 p n ei (i .0) in
-      (keys-top r h p n q ed w o tag et (s .top) _ e (i .0) (s' .top) refl, keys-more r h p n q ed w o tag et (s .top) _ e _ (i .1) (s' .top) refl)
+      (keys-top r h p n q ed w o tag et (s .top) (Once (s' .top)) e (i .0) (s' .top) refl, keys-more r h p n q ed w o tag et (s .top) (Once (s' .top)) e _ (i .1) (s' .top) refl)
 
   pub level-end : getD r q 0 ≡ 30 → s .count ≡ 0 → onceFrom r h p 0 ≡ Passes
   unfolding Level

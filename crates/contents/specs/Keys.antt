@@ -5,7 +5,7 @@ use mathlib.Core.List.{List, [], _∷_, _++_}
 use lib.ListN.{take, drop}
 use lib.Dec.{eqb}
 use Rattle.base.specs.Choice.{both, largerOf}
-use Rattle.base.specs.Check.{Check, ok, no, fault, Passed}
+use Rattle.base.specs.Check.{Check, ok, no, bind, fault}
 use Rattle.base.specs.Keys.{among}
 use Rattle.base.specs.Lists.{gather}
 use Rattle.base.specs.Verdict.{verdictOf}
@@ -72,31 +72,26 @@ topWith top (k ∷ ks) = topWith (largerOf top (numberOf k)) ks
 
 -- ---- answers
 
--- what is said of keys that a test found to stand once, or not
-unfoldable pub told : ℕ → List (List ℕ) → Passed → Keys
-told top ks (ok u) = Once (topWith top ks)
-told top ks (no x) = Twice (x .tuple)
-
 -- what the code answers of field i, as a test: each key is new, and the largest number then; or 7 at the tuple
 unfoldable pub saidBy : ℕ → Keys → Check ℕ
 saidBy i (Once top) = ok top
 saidBy i (Twice j) = no (fault 7 i j)
 
--- the tuples of the SPAS b from number j + 1 on, behind n fields from place p on
-unfoldable pub spasFrom : List ℕ → Shape → ℕ → ℕ → List ℕ → ℕ → ℕ → Keys
+-- the rules' test of the tuples of the SPAS b from number j + 1 on, behind n fields from place p on; and the largest number then
+unfoldable pub spasFrom : List ℕ → Shape → ℕ → ℕ → List ℕ → ℕ → ℕ → Check ℕ
 spasFrom r h p n b j top =
-    told top (drop j (spasKeys b)) (keysOnce (seenBefore r h p n b j) (spasMarks (n + 2) (j + 1) (drop j (many (tupleOf Spas) b))))
+    bind (keysOnce (seenBefore r h p n b j) (spasMarks (n + 2) (j + 1) (drop j (many (tupleOf Spas) b)))) (λ _. ok (topWith top (drop j (spasKeys b))))
 
--- the INAS b behind n fields from place p on
-unfoldable pub inasOnce : List ℕ → Shape → ℕ → ℕ → List ℕ → ℕ → Keys
+-- the same of the INAS b behind n fields from place p on
+unfoldable pub inasOnce : List ℕ → Shape → ℕ → ℕ → List ℕ → ℕ → Check ℕ
 inasOnce r h p n b top =
-    told top (inasKey b ∷ []) (keysOnce (keysIn (take n (fieldsAt r h p))) (record { key = inasKey b; field = n + 2; tuple = 0 } ∷ []))
+    bind (keysOnce (keysIn (take n (fieldsAt r h p))) (record { key = inasKey b; field = n + 2; tuple = 0 } ∷ [])) (λ _. ok (topWith top (inasKey b ∷ [])))
 
--- a field behind n fields from place p on
-unfoldable pub fieldOnce : List ℕ → Shape → ℕ → ℕ → ℕ → List ℕ → ℕ → Keys
+-- the same of a field behind n fields from place p on
+unfoldable pub fieldOnce : List ℕ → Shape → ℕ → ℕ → ℕ → List ℕ → ℕ → Check ℕ
 fieldOnce r h p n t b top =
     let f : Field = record { tag = t; body = b } in
-    told top (fieldKeys f) (keysOnce (keysIn (take n (fieldsAt r h p))) (fieldMarks (n + 2) f))
+    bind (keysOnce (keysIn (take n (fieldsAt r h p))) (fieldMarks (n + 2) f)) (λ _. ok (topWith top (fieldKeys f)))
 
 -- the fields behind n fields from place p on, the second of the record
 unfoldable pub onceFrom : List ℕ → Shape → ℕ → ℕ → Verdict

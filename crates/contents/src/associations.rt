@@ -39,7 +39,7 @@ ghost use Rattle.rules.specs.Kind.{tagOf};
 ghost use Rattle.rules.specs.Content.{inasFormat, number5};
 ghost use Rattle.rules.specs.Associations.{number7};
 ghost use Rattle.contents.specs.Fit.{fits, allFit};
-ghost use Rattle.contents.specs.Keys.{keysIn, seenBefore, topWith, spasFrom, inasOnce, fieldOnce, onceFrom};
+ghost use Rattle.contents.specs.Keys.{keysIn, seenBefore, topWith, saidBy, spasFrom, inasOnce, fieldOnce, onceFrom};
 
 // A field's keys: each is new, and then the largest number of a spatial key so far; or the tuple, 0 in an INAS, whose key stands twice (7).
 pub enum Keys {
@@ -74,7 +74,7 @@ fn is_new(
 // The keys of the SPAS b, behind the first n fields from the entry at p on.
 fn spas_once(r: &[u8], h: Shape, p: usize, n: usize, b: &[u8], largest: usize) -> Keys
     requires { ⌜ Bounded h × (allFit false (fieldsAt (now r) h p) ≡ true) × (fill (headOf Spas) (tupleOf Spas) (now b) ≡ true) × (largest ≡ topWith 0 (seenBefore (now r) h p n (now b) 0)) ⌝ }
-    ensures { λ e. ⌜ e ≡ spasFrom (now (r .entry)) h p n (now (b .entry)) 0 largest ⌝ }
+    ensures { λ e. ⌜ saidBy (n + 2) e ≡ spasFrom (now (r .entry)) h p n (now (b .entry)) 0 largest ⌝ }
 {
     let mut j = 0;
     let mut at = 0;
@@ -95,7 +95,7 @@ fn spas_once(r: &[u8], h: Shape, p: usize, n: usize, b: &[u8], largest: usize) -
 // The key of the INAS b, behind the first n fields from the entry at p on; informed: there is an INAS among those.
 fn inas_once(r: &[u8], h: Shape, p: usize, n: usize, b: &[u8], top: usize, informed: bool) -> Keys
     requires { ⌜ Bounded h × (allFit false (fieldsAt (now r) h p) ≡ true) × (fill (headOf (inasFormat false (now b))) (tupleOf (inasFormat false (now b))) (now b) ≡ true) × (informed ≡ has INAS (take n (fieldsAt (now r) h p))) ⌝ }
-    ensures { λ e. ⌜ e ≡ inasOnce (now (r .entry)) h p n (now (b .entry)) top ⌝ }
+    ensures { λ e. ⌜ saidBy (n + 2) e ≡ inasOnce (now (r .entry)) h p n (now (b .entry)) top ⌝ }
 {
     if !informed {
         return Keys::Once(top);
@@ -118,7 +118,7 @@ fn field_once(
     informed: bool,
 ) -> Keys
     requires { ⌜ Bounded h × (allFit false (fieldsAt (now r) h p) ≡ true) × (fits false (record { tag = tag; body = now b }) ≡ true) × (top ≡ topWith 0 (seenBefore (now r) h p n (now b) 0)) × (informed ≡ has INAS (take n (fieldsAt (now r) h p))) ⌝ }
-    ensures { λ e. ⌜ e ≡ fieldOnce (now (r .entry)) h p n tag (now (b .entry)) top ⌝ }
+    ensures { λ e. ⌜ saidBy (n + 2) e ≡ fieldOnce (now (r .entry)) h p n tag (now (b .entry)) top ⌝ }
 {
     if tag == 0x494e4153 {
         return inas_once(r, h, p, n, b, top, informed);
@@ -143,7 +143,7 @@ fn entry_once(
 ) -> Keys
     requires { ⌜ Bounded h × (allFit false (fieldsAt (now r) h p) ≡ true) × (allFit false (fieldsAt (now r) h q) ≡ true) × (top ≡ topWith 0 (keysIn (take n (fieldsAt (now r) h p)))) × (informed ≡ has INAS (take n (fieldsAt (now r) h p))) ⌝ }
     requires { ⌜ RightFrom (now r) h q × (getD (now r) q 0 ≡ 30 → ⊥) × (tag ≡ tagAt (now r) q) ⌝ }
-    ensures { λ e. ⌜ e ≡ fieldOnce (now (r .entry)) h p n tag (front (fieldsAt (now (r .entry)) h q)) top ⌝ }
+    ensures { λ e. ⌜ saidBy (n + 2) e ≡ fieldOnce (now (r .entry)) h p n tag (front (fieldsAt (now (r .entry)) h q)) top ⌝ }
 {
     if tag != 0x494e4153 {
         if tag != 0x53504153 {
