@@ -12,11 +12,12 @@ use Rattle.memory.proofs.HoldLaws.{hold-nil}
 use Rattle.rules.specs.Outcome.{Outcome, done, refused}
 use Rattle.rules.specs.Answers.{Output, Written, success, outputOf, writeOutcome, write, updateOutcome, update, workAfter}
 use Rattle.rules.specs.declared.Answer.{Answer}
-use Rattle.numbers.specs.Refusals.{ofReader, ofUpdater, Answered}
+use Rattle.numbers.specs.Refusals.{ofReader, Answered}
 use Rattle.numbers.proofs.Answers.{read-answered, write-answered, update-answered}
 use Rattle.display.specs.Pools.{pool, other, chartIn}
 use Rattle.display.specs.declared.Chart.{Chart}
 use Rattle.month.specs.Month.{Left, monthOf}
+use Rattle.month.specs.Refusals.{MonthAnswered}
 use Rattle.month.specs.declared.turns.Month.{Month}
 use Rattle.month.proofs.RefusalLaws.{month-answered}
 use Rattle.month.proofs.WordLaws.{none-applied}
@@ -86,7 +87,7 @@ ended : (list first : List ℕ) (n : ℕ) (second work : List ℕ) (r : Month) (
 unfolding workAfter zeros
 ended list first n second work r first′ second′ space x =
     record {
-      answered = subst (λ (m : Month). Answered ofUpdater (m .answer)) (sym (x .said)) (month-answered list first n second work);
+      answered = subst (λ (m : Month). MonthAnswered (m .answer)) (sym (x .said)) (month-answered list first n second work);
       emptied = left-behind (r .second) first second ((monthOf list first n second work) .pool) first′ second′ (x .inFirst) (x .inSecond);
       cleared = x .zero;
       inUse = λ z. (none-applied list first n second work r first′ second′ space x z) .0;

@@ -1,7 +1,7 @@
--- Demand 1 of each entry point: whatever bytes and lengths it is handed, it answers 0, or refuses with a number of its list, with file and record; a
--- refusal leaves all of the output zero; the workspace is zero. An outcome is any that satisfies the promise which is the entry point's contract. What
--- is handed over for reading is a shared slice in the code, which nothing can write; a display's chart stands in a pool that is lent to be written, so
--- of that one it is said that it keeps every byte.
+-- Demand 1 of each entry point: whatever bytes and lengths it is handed, it answers 0, or refuses with a number of its list, with that number's file
+-- and record; a refusal leaves all of the output zero; the workspace is zero. An outcome is any that satisfies the promise which is the entry point's
+-- contract. What is handed over for reading is a shared slice in the code, which nothing can write; a display's chart stands in a pool that is lent to
+-- be written, so of that one it is said that it keeps every byte.
 use Prim.Native.Nat.{ℕ}
 use mathlib.Core.Path.{_≡_}
 use mathlib.Core.List.{List}
@@ -15,6 +15,7 @@ use Rattle.display.specs.Pools.{pool, other, Begun, Followed}
 use Rattle.display.specs.declared.Chart.{Chart}
 use Rattle.display.specs.declared.Shown.{Shown}
 use Rattle.month.specs.Month.{Left}
+use Rattle.month.specs.Refusals.{MonthAnswered}
 use Rattle.month.specs.declared.turns.Month.{Month}
 use Rattle.parcels.specs.Shelf.{reply, replyAnswer}
 use Rattle.parcels.specs.Refusals.{ofTell, ofReply, ofTaking}
@@ -41,7 +42,7 @@ pub record Kept (may : ℕ → List ℕ) (c : Chart) (first second : List ℕ) (
 -- the same, of a month: the output is the pool that the result does not stand in, zero whatever the answer; where no file is applied the dataset's
 -- pool keeps its bytes
 pub record Ended (first second work : List ℕ) (r : Month) (first′ second′ space : List ℕ) : Type 0 where
-  pub answered : Answered ofUpdater (r .answer)
+  pub answered : MonthAnswered (r .answer)
   pub emptied : pick (r .second) first′ second′ ≡ zeros (length (pick (r .second) first second))
   pub cleared : space ≡ zeros (length work)
   pub inUse : r .applied ≡ 0 → first′ ≡ first

@@ -85,7 +85,7 @@ module _ (room work : ℕ) (c f : List ℕ) where
 
       go : (m : Outcome Dataset) → ruled c f ≡ m → LimitedOutcome ofRules m → (r : Dataset) × (ruled c f ≡ done r)
       go (done r) x p = (r, x)
-      go (refused file n y) x (limited-refused q) = absurd (clash _ (rules-fair file (y .number) q) (ap fair (number-of file n y x) ∙ e))
+      go (refused file n y) x (limited-refused q _) = absurd (clash _ (rules-fair file (y .number) q) (ap fair (number-of file n y x) ∙ e))
 
 -- ---- what a display makes of them
 
@@ -114,7 +114,7 @@ turn-by c h m e p =
   where
     go : (m : Outcome Dataset) → ruled c (h .file) ≡ m → LimitedOutcome ofRules m
         → ((o : Outcome Dataset) → ruled c (h .file) ≡ o → after c h ≡ taken c (outputOf (h .room) (andThen o (λ r. inRoom (h .room) r)))) → Turn c h
-    go (refused file n x) e (limited-refused q) k = stays (k (refused file n x) e ∙ keeps c (h .room) file n x (not-zero (x .number) (rules-fair file (x .number) q)))
+    go (refused file n x) e (limited-refused q _) k = stays (k (refused file n x) e ∙ keeps c (h .room) file n x (not-zero (x .number) (rules-fair file (x .number) q)))
     go (done r) e limited-done k =
         by-bool (ltb (h .room) (length (writtenBytes r)))
         (λ l. stays (k (done r) e ∙ rw l (keeps c (h .room) 3 0 (fault 13 0 0) refl)))

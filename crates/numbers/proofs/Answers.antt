@@ -1,4 +1,4 @@
--- Every answer is done or refused with a number of its entry point, and number 0 is for done alone. Assumes nothing.
+-- Every answer is done or refused with a number of its entry point, at that number's record, and number 0 is for done alone. Assumes nothing.
 use Prim.Native.Nat.{ℕ}
 use mathlib.Core.Path.{_≡_, refl, sym, ap, _∙_}
 use mathlib.Core.Bool.{true, false}
@@ -12,7 +12,7 @@ use Rattle.rules.specs.Written.{Dataset, writtenBytes}
 use Rattle.rules.specs.Outcome.{Outcome, done, refused}
 use Rattle.rules.specs.Answers.{refusal, success, readOutcome, readAnswer, read, Written, roomFor, outputOf, writeOutcome, write, enoughWork, updateOutcome, update}
 use Rattle.rules.specs.declared.Answer.{Answer}
-use Rattle.numbers.specs.Refusals.{isIn, byFile, ofReader, ofWriter, ofUpdater, Answered, is-done, is-refused}
+use Rattle.numbers.specs.Refusals.{isIn, recordless, rightRecord, byFile, ofReader, ofWriter, ofUpdater, Answered, is-done, is-refused}
 use Rattle.numbers.specs.Limited.{LimitedOutcome, limited-done, limited-refused}
 use Rattle.numbers.specs.Zero.{Done, ZeroIsDone}
 use Rattle.numbers.proofs.Lists.{eachPasses, allIn, in-wider, in-nonzero, of-each-file}
@@ -23,9 +23,9 @@ use Rattle.numbers.proofs.Files.{limited-read, limited-sent, limited-wr
 
 -- a result in an output slice
 limited-room : {may : ℕ → List ℕ} → isIn 14 (may 3) ≡ true → isIn 13 (may 3) ≡ true → (room : ℕ) (d : Dataset) → LimitedOutcome may (roomFor room d)
-unfolding roomFor
+unfolding roomFor rightRecord recordless isIn
 limited-room h g room d =
-    limited-then _ _ (limited-length 3 h (writtenBytes d)) (λ _. limited-choice (ltb room (length (writtenBytes d))) _ _ (limited-refused g) limited-done)
+    limited-then _ _ (limited-length 3 h (writtenBytes d)) (λ _. limited-choice (ltb room (length (writtenBytes d))) _ _ (limited-refused g refl) limited-done)
 
 -- by the reader
 limited-reader : (f : List ℕ) → LimitedOutcome ofReader (readOutcome f)
@@ -41,9 +41,9 @@ limited-writer room f =
 
 -- by the updater
 limited-updater : (room work : ℕ) (f u : List ℕ) → LimitedOutcome ofUpdater (updateOutcome room work f u)
-unfolding updateOutcome enoughWork ofUpdater byFile isIn allIn eachPasses
+unfolding updateOutcome enoughWork rightRecord recordless ofUpdater byFile isIn allIn eachPasses
 limited-updater room work f u =
-    limited-then _ _ (limited-choice (ltb work 400000) _ _ (limited-refused refl) limited-done) (λ _.
+    limited-then _ _ (limited-choice (ltb work 400000) _ _ (limited-refused refl refl) limited-done) (λ _.
     limited-then _ _ (limited-length 1 refl f) (λ _.
     limited-then _ _ (limited-length 2 refl u) (λ _.
     limited-then _ _ (limited-read refl f) (λ d.
@@ -57,13 +57,13 @@ limited-updater room work f u =
 read-of : {may : ℕ → List ℕ} (m : Outcome Dataset) → LimitedOutcome may m → Answered may (readAnswer m)
 unfolding readAnswer
 read-of (done d) p = is-done _ _
-read-of (refused file n x) (limited-refused e) = is-refused file n x e
+read-of (refused file n x) (limited-refused e r) = is-refused file n x e r
 
 -- with one
 pub output-of : {may : ℕ → List ℕ} (room : ℕ) (m : Outcome Written) → LimitedOutcome may m → Answered may ((outputOf room m) .answer)
 unfolding outputOf
 output-of room (done w) p = is-done _ _
-output-of room (refused file n x) (limited-refused e) = is-refused file n x e
+output-of room (refused file n x) (limited-refused e r) = is-refused file n x e r
 
 pub read-answered : (f : List ℕ) → Answered ofReader (read f)
 unfolding read
@@ -82,8 +82,8 @@ pub answered-wider : (none dataset sent result : List ℕ) (may : ℕ → List �
     → allIn result (may 3) ≡ true → (x : Answer) → Answered (byFile none dataset sent result) x → Answered may x
 unfolding allIn eachPasses
 answered-wider none dataset sent result may a b c d _ (is-done length count) = is-done length count
-answered-wider none dataset sent result may a b c d _ (is-refused file n x e) =
-    is-refused file n x (in-wider (x .number) _ (may file) (of-each-file (λ f ns. allIn ns (may f) ≡ true) none dataset sent result a b c d (λ f. refl) file) e)
+answered-wider none dataset sent result may a b c d _ (is-refused file n x e r) =
+    is-refused file n x (in-wider (x .number) _ (may file) (of-each-file (λ f ns. allIn ns (may f) ≡ true) none dataset sent result a b c d (λ f. refl) file) e) r
 
 -- ---- number 0
 
@@ -92,7 +92,7 @@ module _ {A : Type 0} (number : Outcome A → ℕ) (zero : (a : A) → number (d
   -- 0 where it is done, and nowhere else
   zero-done : (may : ℕ → List ℕ) → ((file : ℕ) → isIn 0 (may file) ≡ false) → (m : Outcome A) → LimitedOutcome may m → (number m ≡ 0) ↔ Done m
   zero-done may h (done a) p = (λ e. (a, refl), λ d. zero a)
-  zero-done may h (refused file n x) (limited-refused q) = (
+  zero-done may h (refused file n x) (limited-refused q _) = (
     λ e. absurd (eqb-false (x .number) 0 (in-nonzero (x .number) (may file) (h file) q) (sym (own file n x) ∙ e)),
     λ d. ap number (d .1) ∙ zero (d .0),
   )

@@ -1,8 +1,9 @@
 -- How tests and outcomes that refuse with certain numbers only are put together. Assumes nothing.
-use Prim.Native.Nat.{ℕ, _+_}
+use Prim.Native.Nat.{ℕ, _+_, _<_}
 use mathlib.Core.Path.{_≡_, refl}
 use mathlib.Core.Bool.{Bool, true, false}
 use mathlib.Core.List.{List, [], _∷_}
+use native.Mathlib.Omega.{arith}
 use Rattle.base.specs.Choice.{pick}
 use Rattle.base.specs.Check.{Check, ok, no, bind, inField, Passed, pass, passed}
 use Rattle.base.specs.Keys.{same, among, join, leave}
@@ -10,7 +11,7 @@ use Rattle.base.specs.Lists.{each}
 use Rattle.rules.specs.Outcome.{Outcome, done, refused, andThen, at, everyRecord}
 use Rattle.numbers.specs.Refusals.{isIn}
 use Rattle.numbers.specs.Limited.{LimitedCheck, limited-ok, limited-no, LimitedOutcome, limited-done, limited-refused}
-use Rattle.numbers.proofs.Lists.{allIn, in-wider}
+use Rattle.numbers.proofs.Lists.{eachPasses, allIn, in-wider, names, named-right}
 
 -- ---- checks
 
@@ -62,22 +63,22 @@ module _ {may : ℕ → List ℕ} where
   pub limited-then : {A B : Type 0} (m : Outcome A) (k : A → Outcome B) → LimitedOutcome may m → ((a : A) → LimitedOutcome may (k a)) → LimitedOutcome may (andThen m k)
   unfolding andThen
   limited-then (done a) k p q = q a
-  limited-then (refused file n x) k (limited-refused e) q = limited-refused e
+  limited-then (refused file n x) k (limited-refused e r) q = limited-refused e r
 
   -- a choice
   pub limited-choice : {A : Type 0} (b : Bool) (x y : Outcome A) → LimitedOutcome may x → LimitedOutcome may y → LimitedOutcome may (pick b x y)
   limited-choice true x y p q = p
   limited-choice false x y p q = q
 
-  module _ (ns : List ℕ) (file : ℕ) (listed : allIn ns (may file) ≡ true) where
+  module _ (ns : List ℕ) (file : ℕ) (listed : allIn ns (may file) ≡ true) (named : eachPasses names ns ≡ true) where
     -- a test of a record
-    pub limited-at : {A : Type 0} (n : ℕ) (m : Check A) → LimitedCheck ns m → LimitedOutcome may (at file n m)
+    pub limited-at : {A : Type 0} (n : ℕ) (m : Check A) → 0 < n → LimitedCheck ns m → LimitedOutcome may (at file n m)
     unfolding at
-    limited-at n (ok a) p = limited-done
-    limited-at n (no x) (limited-no e) = limited-refused (in-wider (x .number) ns (may file) listed e)
+    limited-at n (ok a) h p = limited-done
+    limited-at n (no x) h (limited-no e) = limited-refused (in-wider (x .number) ns (may file) listed e) (named-right (x .number) n ns named e h)
 
     -- the same test of record after record
-    pub limited-every : {R : Type 0} (test : R → Passed) (n : ℕ) (rs : List R) → ((r : R) → LimitedCheck ns (test r)) → LimitedOutcome may (everyRecord test file n rs)
+    pub limited-every : {R : Type 0} (test : R → Passed) (n : ℕ) (rs : List R) → 0 < n → ((r : R) → LimitedCheck ns (test r)) → LimitedOutcome may (everyRecord test file n rs)
     unfolding everyRecord
-    limited-every test n [] p = limited-done
-    limited-every test n (r ∷ rs) p = limited-then (at file n (test r)) _ (limited-at n (test r) (p r)) (λ _. limited-every test (n + 1) rs p)
+    limited-every test n [] h p = limited-done
+    limited-every test n (r ∷ rs) h p = limited-then (at file n (test r)) _ (limited-at n (test r) h (p r)) (λ _. limited-every test (n + 1) rs (omega arith) p)

@@ -1,4 +1,4 @@
--- The skeleton's walk over a file ends well or with 1, 2 or 3. Assumes nothing.
+-- A walk ends well or with a number that its steps have; the skeleton's over a file with 1, 2 or 3. Assumes nothing.
 use Prim.Native.Nat.{ℕ, _+_, _-_, _<_}
 use mathlib.Core.Path.{_≡_, refl, ap, _∙_}
 use mathlib.Core.Bool.{Bool, true, false, not}
@@ -23,63 +23,68 @@ use Rattle.skeleton.proofs.DirectoryLaws.{directory-falls}
 use Rattle.skeleton.proofs.FileLaws.{file-falls}
 use Rattle.numbers.specs.Refusals.{isIn}
 
--- a number that a walk may end with: 0, or one of the skeleton's
-unfoldable pub ends : ℕ → Bool
-ends e = either (eqb e 0) (isIn e (1 ∷ 2 ∷ 3 ∷ []))
+-- a number that a walk may end with: 0, or one of these
+unfoldable pub ends : List ℕ → ℕ → Bool
+ends ns e = either (eqb e 0) (isIn e ns)
 
 -- where it is not 0
-pub not-done : (e : ℕ) → eqb e 0 ≡ false → ends e ≡ true → isIn e (1 ∷ 2 ∷ 3 ∷ []) ≡ true
+pub not-done : (ns : List ℕ) (e : ℕ) → eqb e 0 ≡ false → ends ns e ≡ true → isIn e ns ≡ true
 unfolding ends
-not-done e n p = rw n at p
+not-done ns e n p = rw n at p
 
 -- a step that goes on, or ends so
-pub data Ends {S A : Type 0} : Step S A → Type 0 where
-  on : {a : A} {s : S} → Ends (more a s)
-  off : {n : ℕ} → ends n ≡ true → Ends (over n)
+pub data Ends {S A : Type 0} (ns : List ℕ) : Step S A → Type 0 where
+  on : {a : A} {s : S} → Ends ns (more a s)
+  off : {n : ℕ} → ends ns n ≡ true → Ends ns (over n)
 
 -- a choice of numbers
-ends-pick : (b : Bool) (m n : ℕ) → ends m ≡ true → ends n ≡ true → ends (pick b m n) ≡ true
-ends-pick true m n p q = p
-ends-pick false m n p q = q
+ends-pick : (ns : List ℕ) (b : Bool) (m n : ℕ) → ends ns m ≡ true → ends ns n ≡ true → ends ns (pick b m n) ≡ true
+ends-pick ns true m n p q = p
+ends-pick ns false m n p q = q
 
 -- a choice of steps
-pub step-pick : {S A : Type 0} (b : Bool) (x y : Step S A) → Ends x → Ends y → Ends (pick b x y)
+pub step-pick : {S A : Type 0} {ns : List ℕ} (b : Bool) (x y : Step S A) → Ends ns x → Ends ns y → Ends ns (pick b x y)
 step-pick true x y p q = p
 step-pick false x y p q = q
 
 -- a step that leads further on, and then a walk
-follow-ends : {S A : Type 0} (μ : S → ℕ) (s : S) (x : Step S A) (k : S → Got A) → Lower μ s x → Ends x → ((t : S) → μ t < μ s → ends ((k t) .ending) ≡ true)
-    → ends ((follow x k) .ending) ≡ true
-follow-ends μ s (more a t) k low on q = q t low
-follow-ends μ s (over n) k low (off e) q = e
+follow-ends : {S A : Type 0} (ns : List ℕ) (μ : S → ℕ) (s : S) (x : Step S A) (k : S → Got A) → Lower μ s x → Ends ns x → ((t : S) → μ t < μ s → ends ns ((k t) .ending) ≡ true)
+    → ends ns ((follow x k) .ending) ≡ true
+follow-ends ns μ s (more a t) k low on q = q t low
+follow-ends ns μ s (over n) k low (off e) q = e
 
 -- a walk whose measure falls, so that its steps are enough
-pub walk-ends : {S A : Type 0} (f : S → Step S A) (μ : S → ℕ) → ((s : S) → Lower μ s (f s)) → ((s : S) → Ends (f s)) → (s : S) → ends ((walk f μ s) .ending) ≡ true
-walk-ends {S} {A} f μ falls p =
-    by-measure μ (λ s. ends ((walk f μ s) .ending) ≡ true) (λ s so.
-    ap (λ (g : Got A). ends (g .ending)) (walk-step f μ falls s) ∙ follow-ends μ s (f s) (walk f μ) (falls s) (p s) so)
+pub walk-ends : {S A : Type 0} (ns : List ℕ) (f : S → Step S A) (μ : S → ℕ) → ((s : S) → Lower μ s (f s)) → ((s : S) → Ends ns (f s)) → (s : S)
+    → ends ns ((walk f μ s) .ending) ≡ true
+walk-ends {S} {A} ns f μ falls p =
+    by-measure μ (λ s. ends ns ((walk f μ s) .ending) ≡ true) (λ s so.
+    ap (λ (g : Got A). ends ns (g .ending)) (walk-step f μ falls s) ∙ follow-ends ns μ s (f s) (walk f μ) (falls s) (p s) so)
+
+-- the numbers of the skeleton
+abbrev pub inSkeleton : List ℕ
+inSkeleton = 1 ∷ 2 ∷ 3 ∷ []
 
 -- ---- a directory
 
 -- a step over a directory
-dir-ends : (r : List ℕ) (base p at : ℕ) (e : Entry) → Ends (stepBy r base p at e)
+dir-ends : (r : List ℕ) (base p at : ℕ) (e : Entry) → Ends inSkeleton (stepBy r base p at e)
 unfolding ends isIn
 dir-ends r base p at (FieldAt tag pos len next) = step-pick (lies r base at pos len) _ _ on (off refl)
-dir-ends r base p at End = off (ends-pick (ended r base p at) 0 3 refl refl)
+dir-ends r base p at End = off (ends-pick inSkeleton (ended r base p at) 0 3 refl refl)
 dir-ends r base p at Bad = off refl
 
 -- the walk over it
-fields-end : (r : List ℕ) (base a b : ℕ) → ends ((fieldsOf r base a b) .ending) ≡ true
+fields-end : (r : List ℕ) (base a b : ℕ) → ends inSkeleton ((fieldsOf r base a b) .ending) ≡ true
 unfolding fieldsFrom
 fields-end r base a b =
-    walk-ends (dirStep r base a b) (λ s. length r - s .0) (directory-falls r base a b) (λ s. dir-ends r base (s .0) (s .1) (entryAt r a b (s .0))) (24, 0)
+    walk-ends inSkeleton (dirStep r base a b) (λ s. length r - s .0) (directory-falls r base a b) (λ s. dir-ends r base (s .0) (s .1) (entryAt r a b (s .0))) (24, 0)
 
 -- ---- a file
 
 -- a leader that is refused
 data Leads : Head → Type 0 where
   good : {len base a b : ℕ} → Leads (Good len base a b)
-  bad : {n : ℕ} → ends n ≡ true → Leads (Refused n)
+  bad : {n : ℕ} → ends inSkeleton n ≡ true → Leads (Refused n)
 
 -- a choice of leaders
 lead-pick : (b : Bool) (x y : Head) → Leads x → Leads y → Leads (pick b x y)
@@ -101,21 +106,23 @@ leader-leads s first =
     (lead-pick (not (shaped (template first) s)) _ _ (bad refl) (within-leads s (numberAt s 0 5) (numberAt s 12 5)))
 
 -- a record whose directory was walked
-stepDir-ends : (next : ℕ) (r : List ℕ) (g : Got Body) → ends (g .ending) ≡ true → Ends (stepDir next r g)
+stepDir-ends : (next : ℕ) (r : List ℕ) (g : Got Body) → ends inSkeleton (g .ending) ≡ true → Ends inSkeleton (stepDir next r g)
 stepDir-ends next r g e = step-pick (eqb (g .ending) 0) _ _ on (off e)
 
 -- a record whose leader was read
-stepHead-ends : (at : ℕ) (rest : List ℕ) (h : Head) → Leads h → Ends (stepHead at rest h)
+stepHead-ends : (at : ℕ) (rest : List ℕ) (h : Head) → Leads h → Ends inSkeleton (stepHead at rest h)
 stepHead-ends at rest (Good len base a b) good = stepDir-ends (at + len) (take len rest) (fieldsOf (take len rest) base a b) (fields-end (take len rest) base a b)
 stepHead-ends at rest (Refused n) (bad e) = off e
 
 -- a step over a file
-file-ends : (f : List ℕ) (at : ℕ) → Ends (fileStep f at)
+file-ends : (f : List ℕ) (at : ℕ) → Ends inSkeleton (fileStep f at)
 unfolding ends
 file-ends f at = step-pick (ltb at (length f)) _ _ (stepHead-ends at (drop at f) _ (leader-leads (drop at f) (eqb at 0))) (off refl)
 
 -- the records of a file
-pub records-end : (f : List ℕ) → ends ((recordsOf f) .ending) ≡ true
+pub records-end : (f : List ℕ) → ends inSkeleton ((recordsOf f) .ending) ≡ true
 unfolding recordsOf recordsFrom ends isIn
 records-end f =
-    by-test (λ (g : Got (List Field)). ends (g .ending) ≡ true) (eqb (length f) 0) _ _ (λ _. refl) (λ _. walk-ends (fileStep f) (λ q. length f - q) (file-falls f) (file-ends f) 0)
+    by-test (λ (g : Got (List Field)). ends inSkeleton (g .ending) ≡ true) (eqb (length f) 0) _ _
+    (λ _. refl)
+    (λ _. walk-ends inSkeleton (fileStep f) (λ q. length f - q) (file-falls f) (file-ends f) 0)

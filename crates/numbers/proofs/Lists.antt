@@ -1,14 +1,14 @@
 -- Numbers in lists, and lists by the file that a refusal names. Assumes nothing.
-use Prim.Native.Nat.{ℕ}
+use Prim.Native.Nat.{ℕ, _<_}
 use mathlib.Core.Path.{_≡_, refl, sym, ap, subst, _∙_}
-use mathlib.Core.Bool.{Bool, true, false}
+use mathlib.Core.Bool.{Bool, true, false, not}
 use mathlib.Core.List.{List, [], _∷_}
-use borrow.Author.Tests.{eqb-true}
-use lib.Dec.{eqb}
-use Rattle.base.specs.Choice.{both, either}
+use borrow.Author.Tests.{eqb-true, lt-ltb}
+use lib.Dec.{eqb, ltb}
+use Rattle.base.specs.Choice.{pick, both, either}
 use Rattle.base.proofs.ChoiceLaws.{both-hold, both-too, by-test}
 use Rattle.rules.proofs.ReadOnce.{clash}
-use Rattle.numbers.specs.Refusals.{isIn, byFile}
+use Rattle.numbers.specs.Refusals.{isIn, recordless, rightRecord, byFile}
 
 -- each passes a test
 unfoldable pub eachPasses : (ℕ → Bool) → List ℕ → Bool
@@ -47,6 +47,19 @@ in-nonzero n ns h i = go (eqb n 0) refl
     go : (b : Bool) → eqb n 0 ≡ b → b ≡ false
     go false e = refl
     go true e = absurd (clash (isIn 0 ns) (ap (λ m. isIn m ns) (sym (eqb-true n 0 e)) ∙ i) h)
+
+-- a number that names a record
+unfoldable pub names : ℕ → Bool
+names m = not (isIn m recordless)
+
+-- so one of such numbers, at a record counted from 1
+pub named-right : (m n : ℕ) (ns : List ℕ) → eachPasses names ns ≡ true → isIn m ns ≡ true → 0 < n → rightRecord m n ≡ true
+unfolding rightRecord names
+named-right m n ns h i l = go (isIn m recordless) (in-passes names m ns h i)
+  where
+    go : (b : Bool) → not b ≡ true → pick b (eqb n 0) (ltb 0 n) ≡ true
+    go false e = lt-ltb 0 n l
+    go true e = absurd (clash false e refl)
 
 -- what holds of each file and its list, and of any file without one, holds of all files
 pub of-each-file : (P : ℕ → List ℕ → Type 0) (none dataset sent result : List ℕ) → P 0 none → P 1 dataset → P 2 sent → P 3 result → ((file : ℕ) → P file [])

@@ -1,9 +1,10 @@
--- Every refusal's number is one of the paper's: the numbers that an entry point may refuse with, by the file that it names.
+-- Every refusal's number is one of the paper's, with its file and record: the numbers that an entry point may refuse with, by the file that it names,
+-- and which of them name a record.
 use Prim.Native.Nat.{ℕ}
 use mathlib.Core.Path.{_≡_}
 use mathlib.Core.Bool.{Bool, true, false}
 use mathlib.Core.List.{List, [], _∷_}
-use lib.Dec.{eqb}
+use lib.Dec.{eqb, ltb}
 use Rattle.base.specs.Choice.{pick, either}
 use Rattle.base.specs.declared.Fault.{Fault}
 use Rattle.rules.specs.Answers.{refusal, success}
@@ -13,6 +14,14 @@ use Rattle.rules.specs.declared.Answer.{Answer}
 unfoldable pub isIn : ℕ → List ℕ → Bool
 isIn n [] = false
 isIn n (x ∷ xs) = either (eqb n x) (isIn n xs)
+
+-- the numbers that name no record: they are for a slice that was lent, a length, or a parcel
+unfoldable pub recordless : List ℕ
+recordless = 13 ∷ 14 ∷ 15 ∷ 27 ∷ []
+
+-- with these the record is 0; every other number names one, counted from 1
+unfoldable pub rightRecord : ℕ → ℕ → Bool
+rightRecord number n = pick (isIn number recordless) (eqb n 0) (ltb 0 n)
 
 -- lists by the file that a refusal names: 0 none, 1 the dataset, 2 the update, 3 the result
 unfoldable pub byFile : List ℕ → List ℕ → List ℕ → List ℕ → ℕ → List ℕ
@@ -35,7 +44,7 @@ ofUpdater =
 unfoldable pub ofRules : ℕ → List ℕ
 ofRules = byFile [] (1 ∷ 2 ∷ 3 ∷ 4 ∷ 5 ∷ 6 ∷ 7 ∷ 11 ∷ 12 ∷ 14 ∷ []) (1 ∷ 2 ∷ 3 ∷ 4 ∷ 5 ∷ 6 ∷ 7 ∷ 8 ∷ 9 ∷ 10 ∷ 12 ∷ 14 ∷ []) (11 ∷ 14 ∷ [])
 
--- an answer is done, with file and record 0, or a refusal with a number of its file's list, with length and count 0
+-- an answer is done, with file and record 0, or a refusal with a number of its file's list and that number's record, with length and count 0
 pub data Answered (may : ℕ → List ℕ) : Answer → Type 0 where
   is-done : (length count : ℕ) → Answered may (success length count)
-  is-refused : (file n : ℕ) (x : Fault) → isIn (x .number) (may file) ≡ true → Answered may (refusal file n x)
+  is-refused : (file n : ℕ) (x : Fault) → isIn (x .number) (may file) ≡ true → rightRecord (x .number) n ≡ true → Answered may (refusal file n x)

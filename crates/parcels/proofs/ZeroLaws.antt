@@ -34,5 +34,5 @@ tell-done c room z = go (told c) refl (limited-told c) z
         by-bool (ltb room (length h))
         (λ y. unfold andThen toldIn outputOf refusal in absurd (let w : 13 ≡ 0 = rw y at e in omega arith))
         (λ y. (h, x, ltb-false room (length h) y))
-    go (refused file n q) x (limited-refused f) e =
+    go (refused file n q) x (limited-refused f _) e =
         unfold andThen outputOf refusal in absurd (eqb-false (q .number) 0 (in-nonzero (q .number) (ofTell file) (tell-nonzero file) f) e)

@@ -1,4 +1,4 @@
--- The numbers that `tell`, `reply` and `take` may refuse with, by the file that they name.
+-- The numbers that `tell`, `reply` and `take` may refuse with, by the file that they name; the record is as of every number (`rightRecord`).
 use Prim.Native.Nat.{ℕ}
 use mathlib.Core.List.{List, [], _∷_}
 use lib.Dec.{eqb}
