@@ -20,8 +20,10 @@ use Rattle.keys.specs.Listed.{keyOf, listed}
 use Rattle.keys.specs.Look.{lookAt, Sound}
 use Rattle.keys.specs.declared.look.Look.the-variants.{At}
 use Rattle.keys.proofs.ListLaws.{not-first, not-later}
-use Rattle.sorting.specs.Places.{Leads, here, over, Names, Skips, Next, Late, at-start, at-one}
-use Rattle.sorting.proofs.PlaceLaws.{Mid, Front, front-of, leads-mid, leads-sound, leads-then, next-leads, next-up}
+use Rattle.keys.specs.Places.{Leads, here, over, Names}
+use Rattle.sorting.specs.Places.{Skips, Next, Late, at-start, at-one}
+use Rattle.keys.proofs.PlaceLaws.{leads-sound, leads-then}
+use Rattle.sorting.proofs.PlaceLaws.{Mid, Front, front-of, leads-mid, next-leads, next-up}
 use Rattle.composing.specs.Acts.{ruinWith, fateOf, deletedOf, fateFrom, deletedFrom}
 use Rattle.composing.proofs.ActsLaws.{turn-sound, turn-falls, fate-on, deleted-on}
 

@@ -16,7 +16,8 @@ ghost use Rattle.base.specs.Choice.{pick, both, either};
 ghost use Rattle.skeleton.specs.Place.{fieldsAt};
 ghost use Rattle.skeleton.specs.Shape.{Bounded};
 ghost use Rattle.keys.specs.Look.{Sound};
-ghost use Rattle.sorting.specs.Places.{Leads, Indexed};
+ghost use Rattle.keys.specs.Places.{Leads};
+ghost use Rattle.sorting.specs.Places.{Indexed};
 ghost use Rattle.composing.specs.Acts.{ruinWith, fateFrom, deletedFrom};
 
 // RUIN of the update record r, which names the key.

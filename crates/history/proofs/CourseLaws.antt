@@ -31,8 +31,10 @@ use Rattle.keys.specs.declared.look.Look.{Look}
 use Rattle.keys.specs.declared.look.Look.the-variants.{At, Nothing}
 use Rattle.keys.proofs.SoundLaws.{sound-nothing}
 use Rattle.keys.proofs.NumberLaws.{same-number, number-inj}
-use Rattle.sorting.specs.Places.{Leads, here, over, Names, Skips, Next}
-use Rattle.sorting.proofs.PlaceLaws.{same-look, leads-then, next-up}
+use Rattle.keys.specs.Places.{Leads, here, over, Names}
+use Rattle.sorting.specs.Places.{Skips, Next}
+use Rattle.keys.proofs.PlaceLaws.{same-look, leads-then}
+use Rattle.sorting.proofs.PlaceLaws.{next-up}
 use Rattle.version.specs.Present.{HeldAs, ChangedTo, FlagsKept}
 use Rattle.version.specs.declared.Present.{Present}
 use Rattle.version.specs.declared.Changed.{Changed}

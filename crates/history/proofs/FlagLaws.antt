@@ -6,6 +6,7 @@ use Prim.Native.Nat.{ℕ, _/_, _≤_, _<_}
 use native.Mathlib.Omega.{arith}
 use borrow.Author.Tests.{eqb-true, eqb-false}
 use lib.ListN.{length, take, drop, length-take, length-drop}
+use lib.Seq.{drop-drop}
 use lib.Dec.{eqb}
 use Rattle.base.specs.Choice.{pick, either}
 use Rattle.keys.specs.Bits.{flagOf, raised}
@@ -72,6 +73,7 @@ module _ (w : List ℕ) (h : 400000 ≤ length w) where
       let long : length ys ≡ 14000 = raised-long (flagArea w) (keyFlag key) ∙ area-long in
       let back : v ≡ lent 386000 14000 ys w = unfold lent in e in
       record {
+        is = e ∙ ap (λ (l : List ℕ). take 386000 w ++ (ys ++ l)) (drop-drop 14000 386000 w);
         flags = ap (λ (x : List ℕ). flagArea x) back ∙ lent-same 386000 14000 ys w long (omega arith);
         list = ap (λ (x : List ℕ). listArea x) back ∙ lent-before 386000 14000 ys w long (omega arith) 0 200000 (omega arith);
         inas = ap (λ (x : List ℕ). inasArea x) back ∙ lent-before 386000 14000 ys w long (omega arith) 200000 92000 (omega arith);

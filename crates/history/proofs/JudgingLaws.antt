@@ -41,8 +41,9 @@ use Rattle.keys.specs.declared.look.Look.the-variants.{At, Nothing}
 use Rattle.keys.proofs.ListLaws.{listed-none, listed-more}
 use Rattle.keys.proofs.NumberLaws.{number-inj}
 use Rattle.keys.proofs.SoundLaws.{sound-nothing}
-use Rattle.sorting.specs.Places.{Leads, here, over, Next}
-use Rattle.sorting.proofs.PlaceLaws.{leads-sound, leads-up, leads-then, leads-on, leads-end}
+use Rattle.keys.specs.Places.{siteOf, Leads, here, over}
+use Rattle.sorting.specs.Places.{Next}
+use Rattle.keys.proofs.PlaceLaws.{leads-sound, leads-up, leads-then, leads-on, leads-end}
 use Rattle.version.specs.Areas.{flagArea}
 use Rattle.version.specs.Present.{HeldAs, FlagsKept}
 use Rattle.version.specs.declared.Present.{Present}
@@ -51,7 +52,7 @@ use Rattle.version.specs.declared.Changed.{Changed}
 use Rattle.version.specs.declared.Changed.the-variants.{Refused, Now}
 use Rattle.history.specs.Here.{recordHere, namedIn, recordsUpTo}
 use Rattle.history.specs.Flags.{keyFlag, Flags, Marked}
-use Rattle.history.specs.Located.{Stands, Located}
+use Rattle.history.proofs.FindingLaws.{Stands, Located, located}
 use Rattle.history.specs.Ready.{Short, Ready}
 use Rattle.history.specs.Played.{Playing, EndsAt, Coursed}
 use Rattle.history.specs.Judged.{keysUpTo, Naming, Through, RefusedAt, Followed, earlierBy, earlierOf, Judging, judgedBy, AllJudged}
@@ -228,7 +229,10 @@ module _ (d : List ℕ) (ds : ℕ) (u : List ℕ) (us : ℕ) (y : Ready d ds u u
           go (Now p2) e g o z t = absurd (let i = t .0 in omega arith)
 
     -- the record that was located
-    module _ (r : ℕ) (at : Located d ds key r) where
+    module _ (sound : Sound d ds) (r : ℕ) (e : r ≡ siteOf d ds key) where
+      pub at : Located d ds key r
+      at = located d ds (y .stock) (y .once) key sound r e
+
       module _ (h : r < length d) (v : List ℕ) (p : Present)
           (g : (c : List ℕ) → Writable (recIn (recordHere d r)) → HeldAs d c v p (some (recIn (recordHere d r)))) where
         stands : Stands d ds key (recIn (recordHere d r))

@@ -20,8 +20,10 @@ use Rattle.keys.specs.declared.look.Look.the-variants.{At, Nothing}
 use Rattle.keys.proofs.ListLaws.{listed-here, listed-later, listed-none, not-first, not-later}
 use Rattle.keys.proofs.LookLaws.{Found}
 use Rattle.keys.proofs.SoundLaws.{Next as Follows, sound-nothing}
-use Rattle.sorting.specs.Places.{Leads, here, over, Names, Skips, Next}
-use Rattle.sorting.proofs.PlaceLaws.{Mid, leads-mid, follows, same-look, leads-sound, leads-up, leads-on}
+use Rattle.keys.specs.Places.{Leads, here, over, Names}
+use Rattle.sorting.specs.Places.{Skips, Next}
+use Rattle.keys.proofs.PlaceLaws.{follows, same-look, leads-sound, leads-up, leads-on}
+use Rattle.sorting.proofs.PlaceLaws.{Mid, leads-mid}
 use Rattle.history.specs.Here.{recordHere, recordsUpTo}
 use Rattle.history.proofs.HereLaws.{here-keyed}
 

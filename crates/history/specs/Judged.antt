@@ -19,7 +19,7 @@ use Rattle.updates.specs.Streamed.{verdicts}
 use Rattle.stock.specs.Stock.{stockFrom}
 use Rattle.keys.specs.Listed.{keyOf, keysFrom, listed}
 use Rattle.keys.specs.Numbered.{numberOf, Ranged}
-use Rattle.sorting.specs.Places.{Leads}
+use Rattle.keys.specs.Places.{Leads}
 use Rattle.version.specs.Areas.{flagArea}
 use Rattle.version.specs.Present.{FlagsKept}
 use Rattle.version.specs.declared.Changed.{Changed}

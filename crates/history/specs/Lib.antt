@@ -1,5 +1,4 @@
 pub mod Here
-pub mod Located
 pub mod Ready
 pub mod Played
 pub mod Flags

@@ -15,7 +15,7 @@ use Rattle.sequence.specs.History.{history}
 use Rattle.updates.specs.Acts.{chart}
 use Rattle.keys.specs.Look.{Sound}
 use Rattle.keys.specs.Numbered.{numberOf, Ranged}
-use Rattle.sorting.specs.Places.{Leads}
+use Rattle.keys.specs.Places.{Leads}
 use Rattle.version.specs.Present.{HeldAs, ChangedTo, FlagsKept}
 use Rattle.version.specs.declared.Present.{Present}
 use Rattle.version.specs.declared.Changed.{Changed}

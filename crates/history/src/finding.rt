@@ -9,6 +9,7 @@ use sorting::found::site_by;
 use sorting::limits::Limits;
 use sorting::limits::old_index;
 use version::Present;
+ghost use mathlib.Core.Path.{_≡_};
 ghost use mathlib.Core.List.{List};
 ghost use mathlib.Core.Option.{some};
 ghost use Prim.Native.Nat.{ℕ, _≤_, _<_};
@@ -17,12 +18,12 @@ ghost use Rattle.sequence.specs.Keyed.{Once};
 ghost use Rattle.updates.specs.Acts.{chart};
 ghost use Rattle.updates.specs.Accepted.{Writable};
 ghost use Rattle.stock.specs.Stock.{recIn, stockFrom, Stock};
+ghost use Rattle.keys.specs.Places.{siteOf};
 ghost use Rattle.keys.specs.Table.{Laid};
 ghost use Rattle.skeleton.specs.Place.{between};
 ghost use Rattle.sorting.specs.Places.{Indexed};
 ghost use Rattle.version.specs.Present.{HeldAs, FlagsKept};
 ghost use Rattle.history.specs.Here.{recordHere};
-ghost use Rattle.history.specs.Located.{Located};
 
 // Where the dataset's record with the key begins; the dataset's length where there is none.
 pub fn locate(
@@ -37,7 +38,7 @@ pub fn locate(
 ) -> usize
     requires { ⌜ Laid (now d) ds (now t) n (now map) × Stock (now d) ds × Once chart (stockFrom (now d) ds) ⌝ }
     requires { ⌜ (lim .old ≤ lim .new) × (lim .new ≤ length (now out)) × Indexed (now d) ds (between (now out) (lim .old) (lim .new)) ⌝ }
-    ensures { λ r. ⌜ Located (now (d .entry)) ds key r ⌝ }
+    ensures { λ r. ⌜ r ≡ siteOf (now (d .entry)) ds key ⌝ }
 {
     site_by(d, ds, t, n, map, old_index(out, lim), key)
 }

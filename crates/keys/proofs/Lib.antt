@@ -9,6 +9,7 @@ pub mod OnceLaws
 pub mod SlotLaws
 pub mod OrderLaws
 pub mod SoundLaws
+pub mod PlaceLaws
 pub mod TableLaws
 pub mod PresentLaws
 pub mod SiteLaws

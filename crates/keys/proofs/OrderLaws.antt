@@ -1,15 +1,15 @@
 -- Laws of keys that ascend. Assumes nothing.
-use mathlib.Core.Path.{_≡_, refl, sym, ap, _∙_}
+use mathlib.Core.Path.{_≡_, refl, sym, _∙_}
 use mathlib.Core.List.{List, [], _∷_}
 use mathlib.Core.Bool.{Bool, true, false, true≢false}
-use Prim.Native.Nat.{ℕ, zero, suc, _/_, _≤_, _<_}
+use Prim.Native.Nat.{ℕ, _/_, _≤_, _<_}
 use native.Mathlib.Omega.{arith}
 use borrow.Author.Tests.{ltb-true}
-use lib.ListN.{length, drop, List·getD-eq-default}
+use lib.ListN.{length, List·getD-eq-default}
 use lib.Dec.{ltb}
 use Rattle.base.proofs.ChoiceLaws.{by-test, both-hold}
 use Rattle.memory.specs.Hold.{zeros}
-use Rattle.keys.specs.Listed.{listed}
+use Rattle.keys.specs.Listed.{listed, EachOnce}
 use Rattle.keys.specs.Bits.{flagOf, raised}
 use Rattle.keys.specs.Map.{Mapped}
 use Rattle.keys.specs.Order.{ascends, Ascending, ascendedTo, sealed}
@@ -21,51 +21,33 @@ use Rattle.keys.proofs.MapLaws.{zeros-all}
 -- ---- lists of keys
 
 -- the first of them, and the others
-record Parted (low x : ℕ) (xs : List ℕ) : Type 0 where
-  first : low < x
-  others : ascends x xs ≡ true
+pub record Parted (low x : ℕ) (xs : List ℕ) : Type 0 where
+  pub first : low < x
+  pub others : ascends x xs ≡ true
 
-parted : (low x : ℕ) (xs : List ℕ) → ascends low (x ∷ xs) ≡ true → Parted low x xs
+pub parted : (low x : ℕ) (xs : List ℕ) → ascends low (x ∷ xs) ≡ true → Parted low x xs
 unfolding ascends
 parted low x xs e =
     let b = both-hold (ltb low x) (ascends x xs) e in
     record { first = ltb-true low x (b .0); others = b .1 }
 
--- a later one is above the least
-later-above : (low i : ℕ) (l : List ℕ) (k : ℕ) (ks : List ℕ) → ascends low l ≡ true → drop i l ≡ k ∷ ks → Parted low k ks
-later-above low zero l k ks a e = parted low k ks (rw e at a)
-later-above low (suc i) [] k ks a e = absurd (omega (arith, ap length e))
-later-above low (suc i) (x ∷ xs) k ks a e =
-    let p = parted low x xs a in
-    let q = later-above x i xs k ks (p .others) e in
-    let g = p .first in
-    let h = q .first in
-    record { first = omega arith; others = q .others }
-
--- none before a key that is not above it is the key
-pub before-smaller : (low i : ℕ) (l : List ℕ) (k : ℕ) (ks : List ℕ) (key : ℕ) → ascends low l ≡ true → drop i l ≡ k ∷ ks → k ≤ key
-    → listed key (drop i l) ≡ listed key l
-before-smaller low zero l k ks key a e h = refl
-before-smaller low (suc i) [] k ks key a e h = absurd (omega (arith, ap length e))
-before-smaller low (suc i) (x ∷ xs) k ks key a e h =
-    let p = parted low x xs a in
-    let g = later-above x i xs k ks (p .others) e .first in
-    before-smaller x i xs k ks key (p .others) e h ∙ sym (listed-later key x xs (λ z. omega arith))
-
 -- none that is above a larger one is the key
-above-none : (low : ℕ) (l : List ℕ) (key : ℕ) → ascends low l ≡ true → key ≤ low → listed key l ≡ false
+pub above-none : (low : ℕ) (l : List ℕ) (key : ℕ) → ascends low l ≡ true → key ≤ low → listed key l ≡ false
 above-none low [] key a h = listed-none key
 above-none low (x ∷ xs) key a h =
     let p = parted low x xs a in
     let g = p .first in
     listed-later key x xs (λ z. omega arith) ∙ above-none x xs key (p .others) (omega arith)
 
--- nor is one from a larger one on
-pub from-larger : (i : ℕ) (l : List ℕ) (k : ℕ) (ks : List ℕ) (key : ℕ) → Ascending l → drop i l ≡ k ∷ ks → key < k → listed key (k ∷ ks) ≡ false
+-- so each of them stands once
+once-above : (low : ℕ) (l : List ℕ) → ascends low l ≡ true → EachOnce l
+unfolding EachOnce
+once-above low [] a = tt
+once-above low (x ∷ xs) a = let p = parted low x xs a in (above-none x xs x (p .others) (omega arith), once-above x xs (p .others))
+
+pub ascending-once : (l : List ℕ) → Ascending l → EachOnce l
 unfolding Ascending
-from-larger i l k ks key a e h =
-    let p = later-above 0 i l k ks a e in
-    listed-later key k ks (λ z. omega arith) ∙ above-none k ks key (p .others) (omega arith)
+ascending-once l a = once-above 0 l a
 
 -- ---- `ascended_to`
 

@@ -6,6 +6,7 @@ pub mod Map
 pub mod Once
 pub mod Slots
 pub mod Order
+pub mod Places
 pub mod Table
 pub mod Numbered
 pub mod Standing

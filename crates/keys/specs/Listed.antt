@@ -1,5 +1,6 @@
 -- The keys of the records of a file, and whether a key is among them.
 use Prim.Native.Nat.{ℕ}
+use mathlib.Core.Path.{_≡_}
 use mathlib.Core.List.{List, [], _∷_}
 use mathlib.Core.Bool.{Bool, false}
 use lib.ListN.{take}
@@ -31,3 +32,8 @@ hasFrom f at k = listed k (keysFrom f at)
 -- k is among the keys of the first m records from byte at on
 unfoldable pub seenFrom : List ℕ → ℕ → ℕ → ℕ → Bool
 seenFrom f at m k = listed k (take m (keysFrom f at))
+
+-- each of them stands once
+unfoldable pub EachOnce : List ℕ → Type 0
+EachOnce [] = Unit {0}
+EachOnce (x ∷ xs) = (listed x xs ≡ false) × EachOnce xs

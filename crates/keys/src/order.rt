@@ -7,7 +7,8 @@ ghost use mathlib.Core.Path.{_≡_};
 ghost use Rattle.keys.specs.Bits.{flagOf};
 ghost use Rattle.keys.specs.Listed.{keysFrom};
 ghost use Rattle.keys.specs.Order.{Ascending, ascendedTo, sealed};
-ghost use Rattle.keys.specs.Table.{Close, Sited};
+ghost use Rattle.keys.specs.Places.{siteOf};
+ghost use Rattle.keys.specs.Table.{Close};
 
 // Whether keys that ascended up to last do so with one more.
 pub fn ascended_to(so: bool, last: u64, key: u64) -> bool
@@ -41,7 +42,7 @@ pub fn ordered(map: &[u8]) -> bool
 // Where one of the records from start on has the key, where the keys ascend: a walk up to the first larger one; the file's length where none has it.
 pub fn site_ordered(f: &[u8], start: usize, from: usize, key: u64) -> usize
     requires { ⌜ (Close (now f) start key from) × (Ascending (keysFrom (now f) start)) ⌝ }
-    ensures { λ r. ⌜ Sited (now (f .entry)) start key r ⌝ }
+    ensures { λ r. ⌜ r ≡ siteOf (now (f .entry)) start key ⌝ }
 {
     let mut p = from;
     while p < f.len() {

@@ -10,7 +10,7 @@ ghost use mathlib.Core.Bool.{true};
 ghost use Prim.Native.Nat.{_<_};
 ghost use Rattle.keys.specs.Listed.{hasFrom};
 ghost use Rattle.keys.specs.Look.{Sound};
-ghost use Rattle.keys.specs.Table.{Tail, Close, Laid};
+ghost use Rattle.keys.specs.Table.{Tail, Laid, startNear};
 
 // A plain walk over the records from start on.
 pub fn has_plain(f: &[u8], start: usize, key: u64) -> bool
@@ -44,7 +44,7 @@ fn wide(x: u32) -> usize
 // A place from which to look for the key, by halves: the right one where the keys ascend.
 pub fn start_near(f: &[u8], start: usize, t: &[u32], n: usize, map: &[u8], key: u64) -> usize
     requires { ⌜ Laid (now f) start (now t) n (now map) ⌝ }
-    ensures { λ p. ⌜ Close (now (f .entry)) start key p ⌝ }
+    ensures { λ p. ⌜ p ≡ startNear (now (f .entry)) start (now (t .entry)) n key ⌝ }
 {
     let mut p = start;
     let mut lo = 0;

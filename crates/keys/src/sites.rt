@@ -6,15 +6,18 @@ use crate::order::ordered;
 use crate::order::site_ordered;
 use crate::present::start_near;
 use crate::slots::slot;
+ghost use mathlib.Core.Path.{_≡_};
 ghost use Prim.Native.Nat.{_<_};
 ghost use lib.ListN.{length};
+ghost use Rattle.keys.specs.Listed.{keysFrom, EachOnce};
 ghost use Rattle.keys.specs.Look.{Sound};
-ghost use Rattle.keys.specs.Table.{Tail, Sits, Sited, Laid};
+ghost use Rattle.keys.specs.Places.{Names, siteOf};
+ghost use Rattle.keys.specs.Table.{Tail, Laid};
 
 // A plain walk over the records from start on; the file's length where none has the key.
 fn site_plain(f: &[u8], start: usize, key: u64) -> usize
     requires { ⌜ Sound (now f) start ⌝ }
-    ensures { λ r. ⌜ Sited (now (f .entry)) start key r ⌝ }
+    ensures { λ r. ⌜ r ≡ siteOf (now (f .entry)) start key ⌝ }
 {
     let mut p = start;
     while p < f.len() {
@@ -36,7 +39,7 @@ fn site_plain(f: &[u8], start: usize, key: u64) -> usize
 // The first of the next records, up to one whose key is larger, that has the key; the file's length where none is found.
 fn site_near(f: &[u8], start: usize, from: usize, steps: usize, key: u64) -> usize
     requires { ⌜ Tail (now f) start from ⌝ }
-    ensures { λ r. ⌜ (r < length (now (f .entry)) → Sits (now (f .entry)) start key r) ⌝ }
+    ensures { λ r. ⌜ (r < length (now (f .entry)) → Names (now (f .entry)) start key r) ⌝ }
 {
     let mut p = from;
     let mut left = steps;
@@ -62,8 +65,8 @@ fn site_near(f: &[u8], start: usize, from: usize, steps: usize, key: u64) -> usi
 
 // The same with the table, of which n entries are to be tried: near by, or else, if the keys do not ascend, by a plain walk.
 fn site_walk(f: &[u8], start: usize, t: &[u32], n: usize, map: &[u8], key: u64) -> usize
-    requires { ⌜ Laid (now f) start (now t) n (now map) ⌝ }
-    ensures { λ r. ⌜ Sited (now (f .entry)) start key r ⌝ }
+    requires { ⌜ Laid (now f) start (now t) n (now map) × EachOnce (keysFrom (now f) start) ⌝ }
+    ensures { λ r. ⌜ r ≡ siteOf (now (f .entry)) start key ⌝ }
 {
     let p = start_near(f, start, t, n, map, key);
     if ordered(map) {
@@ -76,10 +79,10 @@ fn site_walk(f: &[u8], start: usize, t: &[u32], n: usize, map: &[u8], key: u64) 
     site_plain(f, start, key)
 }
 
-// Where one of the records from start on has the key; the file's length where none has it.
+// Where the record from start on that has the key begins, in a file whose keys stand once; the file's length where none has it.
 pub fn site(f: &[u8], start: usize, t: &[u32], n: usize, map: &[u8], key: u64) -> usize
-    requires { ⌜ Laid (now f) start (now t) n (now map) ⌝ }
-    ensures { λ r. ⌜ Sited (now (f .entry)) start key r ⌝ }
+    requires { ⌜ Laid (now f) start (now t) n (now map) × EachOnce (keysFrom (now f) start) ⌝ }
+    ensures { λ r. ⌜ r ≡ siteOf (now (f .entry)) start key ⌝ }
 {
     let s = slot(key);
     if s < 262144 {

@@ -40,8 +40,8 @@ use Rattle.keys.specs.declared.look.Look.the-variants.{At}
 use Rattle.keys.specs.Numbered.{numberOf, Ranged}
 use Rattle.keys.proofs.FirstLaws.{first-key}
 use Rattle.keys.proofs.IdentLaws.{Keyed}
-use Rattle.sorting.specs.Places.{Leads, here as there, over}
-use Rattle.sorting.proofs.PlaceLaws.{leads-then}
+use Rattle.keys.specs.Places.{Leads, here as there, over}
+use Rattle.keys.proofs.PlaceLaws.{leads-then}
 use Rattle.version.specs.Areas.{flagArea}
 use Rattle.version.specs.Present.{HeldAs, ChangedTo, FlagsKept}
 use Rattle.version.specs.declared.Present.the-variants.{Absent}

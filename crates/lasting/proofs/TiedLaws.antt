@@ -9,8 +9,8 @@ use Rattle.skeleton.specs.File.{Field, recordsFrom}
 use Rattle.rules.specs.Associations.{fieldKeys}
 use Rattle.keys.specs.Look.{Sound}
 use Rattle.keys.proofs.LookLaws.{Found}
-use Rattle.sorting.specs.Places.{Leads, here, over}
-use Rattle.sorting.proofs.PlaceLaws.{follows}
+use Rattle.keys.specs.Places.{Leads, here, over}
+use Rattle.keys.proofs.PlaceLaws.{follows}
 use Rattle.composing.specs.Tied.{TiedIn, TiedFrom}
 
 -- those further on do so too

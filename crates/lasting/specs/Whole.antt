@@ -18,7 +18,7 @@ use Rattle.keys.specs.Listed.{keysFrom}
 use Rattle.keys.specs.Table.{Laid}
 use Rattle.stock.specs.Stock.{Stock, stockFrom}
 use Rattle.incoming.specs.Fitting.{Rest}
-use Rattle.sorting.specs.Places.{Leads}
+use Rattle.keys.specs.Places.{Leads}
 use Rattle.version.specs.Areas.{flagArea}
 use Rattle.composing.specs.Tied.{TiedFrom}
 use Rattle.history.specs.Flags.{Flags}

@@ -9,7 +9,7 @@ ghost use mathlib.Core.Path.{_≡_};
 ghost use Prim.Native.Nat.{_≤_};
 ghost use lib.ListN.{length};
 ghost use Rattle.incoming.specs.Fitting.{Rest};
-ghost use Rattle.sorting.specs.Places.{Leads};
+ghost use Rattle.keys.specs.Places.{Leads};
 ghost use Rattle.composing.specs.Acts.{deletedFrom};
 ghost use Rattle.composing.specs.Tied.{Noted};
 ghost use Rattle.history.specs.Ready.{Short};

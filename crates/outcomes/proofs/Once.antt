@@ -4,7 +4,7 @@ use mathlib.Core.Path.{_≡_, refl, sym, ap, _∙_}
 use mathlib.Core.Bool.{Bool, true, false}
 use mathlib.Core.List.{List}
 use native.Mathlib.Omega.{arith}
-use borrow.Author.Tests.{le-leb, leb-true, ltb-true, ltb-false}
+use borrow.Author.Tests.{ltb-true, ltb-false}
 use lib.Dec.{ltb}
 use lib.ListN.{length}
 use Rattle.base.specs.Check.{ok, no, Passed}
@@ -16,8 +16,9 @@ use Rattle.skeleton.specs.File.{Field}
 use Rattle.skeleton.specs.declared.leader.Head.the-variants.{Good}
 use Rattle.sequence.proofs.Tests.{by-bool}
 use Rattle.keys.specs.Look.{Sound}
-use Rattle.sorting.specs.Numbers.{Parted}
+use Rattle.sorting.specs.Numbers.{Stored, Swapped, Parted}
 use Rattle.sorting.specs.Places.{Next}
+use Rattle.sorting.proofs.PlaceLaws.{next-site}
 use Rattle.writing.specs.Found.{Summed}
 use Rattle.writing.specs.declared.measuring.Sum.{Sum}
 use Rattle.numbering.specs.Tuples.{Sized}
@@ -32,7 +33,7 @@ use Rattle.changing.specs.declared.foid.Foids.the-variants.{Same, Other}
 use Rattle.writer.specs.Measured.{saidBy}
 use Rattle.writer.specs.declared.Measured.{Measured as Lengths}
 use Rattle.writer.specs.declared.Measured.the-variants.{Total, TooLong}
-use Rattle.history.proofs.JudgingLaws.{first-found}
+use Rattle.history.specs.Flags.{Marked}
 use Rattle.updater.specs.Pieces.{Cut}
 use Rattle.updater.specs.declared.front.Piece.{Piece}
 
@@ -44,6 +45,17 @@ wrote-once at ys d n m e f x y = (x .next ∙ sym (y .next), x .is ∙ sym (y .i
 -- an entry is the same for all lists of one length
 pub list-entry-once : (tag n pos at : ℕ) (d : List ℕ) (p q : ℕ) (e f : List ℕ) → ListEntry tag n pos at d p e → ListEntry tag n pos at d q f → (p ≡ q) × (e ≡ f)
 list-entry-once tag n pos at d p q e f x y = wrote-once _ _ _ _ _ _ _ (x .is (zeros n) (length-zeros n)) (y .is (zeros n) (length-zeros n))
+
+-- numbers of an index
+pub stored-once : (s : List ℕ) (i x : ℕ) (t v : List ℕ) → Stored s i x t → Stored s i x v → t ≡ v
+stored-once s i x t v a b = a .is ∙ sym (b .is)
+
+pub swapped-once : (s : List ℕ) (i j : ℕ) (t v : List ℕ) → Swapped s i j t → Swapped s i j v → t ≡ v
+swapped-once s i j t v a b = a .is ∙ sym (b .is)
+
+-- flags of keys
+pub marked-once : (w : List ℕ) (key : ℕ) (v u : List ℕ) → Marked w key v → Marked w key u → v ≡ u
+marked-once w key v u a b = a .is ∙ sym (b .is)
 
 -- a record that has no room leaves the slice as it was
 pub carried-once : (fs : List Field) (to : ℕ) (before : List ℕ) (n m : ℕ) (e f : List ℕ) → Emitted fs to before n e → Emitted fs to before m f → (n ≡ m) × (e ≡ f)
@@ -80,10 +92,7 @@ parted-once n s w r q x y = omega (arith, least r q x y, least q r y x)
 
 -- where the records are right, as the contract's condition has it
 pub next-once : (u : List ℕ) (key p r q : ℕ) → Sound u p → Next u key p r → Next u key p q → r ≡ q
-next-once u key p r q s x y = omega (arith, upto r q x y, upto q r y x)
-  where
-    upto : (i j : ℕ) → Next u key p i → Next u key p j → i ≤ j
-    upto i j a b = leb-true i j (first-found u p i key s (a .leads) j b ∙ sym (first-found u p i key s (a .leads) i a) ∙ le-leb i i (omega arith))
+next-once u key p r q s x y = next-site u key p r s x ∙ sym (next-site u key p q s y)
 
 -- ---- what a record says
 

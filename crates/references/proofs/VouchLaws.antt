@@ -17,7 +17,7 @@ use Rattle.keys.specs.declared.look.Look.{Look}
 use Rattle.keys.specs.declared.look.Look.the-variants.{At}
 use Rattle.keys.proofs.SlotLaws.{slots-say}
 use Rattle.keys.proofs.SoundLaws.{sound-falls}
-use Rattle.keys.proofs.TableLaws.{tail-start}
+use Rattle.keys.proofs.TableLaws.{tail-start, tail-sound}
 use Rattle.keys.proofs.PresentLaws.{near-on, near-word, near-found, near-in, near-small}
 use Rattle.book.specs.Rcids.{spotOf, joined, Unmet}
 use Rattle.book.proofs.RcidLaws.{means-unmet, means-spot, means-joined, unmet-zeros, unmet-sifted}
@@ -46,7 +46,7 @@ module _ (f : List ℕ) (start p : ℕ) (l : Tail f start p) (e : Look) (en : e 
       record { some = v .some; vouches = means-joined (λ key'. hasFrom f start key' ≡ true) b k (v .vouches) key h k' y }
 
   pub all-falls : length f - (p + len) < length f - p
-  all-falls = sound-falls f p (l .sound) e en len key x
+  all-falls = sound-falls f p (tail-sound f start p l) e en len key x
 
 pub vouched-some : (f : List ℕ) (start : ℕ) (b k : List ℕ) → Vouched f start b k → 0 < length b
 vouched-some f start b k v = v .some

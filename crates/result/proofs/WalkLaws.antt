@@ -27,8 +27,8 @@ use Rattle.keys.specs.Key.{keyAt}
 use Rattle.keys.specs.Look.{Sound}
 use Rattle.keys.proofs.FirstLaws.{first-key}
 use Rattle.keys.proofs.LookLaws.{look-good}
-use Rattle.sorting.specs.Places.{Leads, here, over}
-use Rattle.sorting.proofs.PlaceLaws.{leads-then}
+use Rattle.keys.specs.Places.{Leads, here, over}
+use Rattle.keys.proofs.PlaceLaws.{leads-then}
 use Rattle.stock.specs.Stock.{recIn, stockFrom, Stock}
 use Rattle.stock.proofs.StockLaws.{stock-over, stock-here, stock-more, stock-next}
 use Rattle.incoming.proofs.FittingLaws.{rest-more}

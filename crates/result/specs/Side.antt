@@ -19,7 +19,7 @@ use Rattle.stock.specs.Stock.{recIn, Stock, stockFrom}
 use Rattle.incoming.specs.Fitting.{Rest}
 use Rattle.version.specs.Areas.{flagArea}
 use Rattle.version.specs.Present.{FlagsKept}
-use Rattle.sorting.specs.Places.{Leads}
+use Rattle.keys.specs.Places.{Leads}
 use Rattle.lasting.specs.Whole.{Old, New}
 use Rattle.lasting.specs.Step.{Stepped}
 use Rattle.lasting.specs.declared.Step.{Step}

@@ -16,9 +16,11 @@ use Rattle.keys.specs.declared.look.Look.the-variants.{At, Nothing}
 use Rattle.keys.proofs.LookLaws.{Found}
 use Rattle.keys.proofs.SoundLaws.{Next as Follows, sound-nothing, sound-bounds}
 use Rattle.sorting.specs.Numbers.{numberAt, Stored, Has, Mixed, Ascends, Parted}
-use Rattle.sorting.specs.Places.{Leads, here, over, Names, Skips, Next, Late, at-start, at-one, weightOf, Entry, Filled, Sorted, Indexed}
+use Rattle.keys.specs.Places.{Leads, here, over, Names}
+use Rattle.sorting.specs.Places.{Skips, Next, Late, at-start, at-one, weightOf, Entry, Filled, Sorted, Indexed}
 use Rattle.sorting.proofs.NumberLaws.{weak}
-use Rattle.sorting.proofs.PlaceLaws.{follows, same-look, leads-sound, leads-up, leads-then, leads-on, leads-end, skips-none, skips-over, skips-to}
+use Rattle.keys.proofs.PlaceLaws.{follows, same-look, leads-sound, leads-up, leads-then, leads-on, leads-end}
+use Rattle.sorting.proofs.PlaceLaws.{skips-none, skips-over, skips-to}
 
 leads-one : {u : List ℕ} {p q : ℕ} (len key : ℕ) → Leads u p q → lookAt u q ≡ At len key → Leads u p (q + len)
 leads-one len key l e = leads-then l (over e here)

@@ -1,25 +1,16 @@
 -- Laws of two indices at the end of an output, and of a key that is found by one. Assumes nothing.
 use mathlib.Core.Path.{_≡_, refl, sym, ap, _∙_, subst}
 use mathlib.Core.Bool.{Bool, true, false, true≢false}
-use mathlib.Core.List.{List, [], _∷_, _++_, append-nil, append-assoc}
+use mathlib.Core.List.{List, _++_, append-assoc}
 use Prim.Native.Nat.{ℕ, _+_, _-_, _*_, _/_, _≤_, _<_}
 use native.Mathlib.Omega.{arith}
 use lib.ListN.{length, take, drop, length-take, length-drop, length-append}
 use lib.Seq.{take-all, take-at, drop-at, drop-drop, drop-append-le}
-use Rattle.base.specs.Lists.{each}
-use Rattle.base.specs.Walk.{Got}
-use Rattle.base.proofs.ListLaws.{each-drop, drop-take}
-use Rattle.skeleton.specs.File.{Field, recordsFrom}
+use Rattle.base.proofs.ListLaws.{drop-take}
 use Rattle.skeleton.specs.Place.{between}
-use Rattle.skeleton.proofs.FileLaws.{records-over}
-use Rattle.keys.specs.Listed.{keyOf, keysFrom, listed, hasFrom}
-use Rattle.keys.specs.Look.{Sound}
-use Rattle.keys.specs.Table.{Tail, Sits, Sited}
-use Rattle.keys.proofs.LookLaws.{Found}
-use Rattle.sorting.specs.Places.{Leads, Names, Skips, Next, Indexed}
+use Rattle.sorting.specs.Places.{Indexed}
 use Rattle.sorting.specs.Indices.{Indices, reach, Spared, Beyond, Past}
 use Rattle.sorting.specs.declared.limits.Limits.{Limits}
-use Rattle.sorting.proofs.PlaceLaws.{follows}
 use Rattle.sorting.proofs.IndexLaws.{indexed-behind}
 
 -- ---- no index
@@ -193,33 +184,3 @@ module _ (l m : List ℕ) (from to : ℕ) (h : from ≤ to) (g : to ≤ length l
   pub relaid-indexed : (f : List ℕ) (start k : ℕ) → k ≤ length m → Indexed f start (drop k m)
       → (from + k ≤ to) × Indexed f start (between relaid (from + k) to) × (drop to relaid ≡ drop to l)
   relaid-indexed f start k i x = (omega arith, subst (Indexed f start) (sym (relaid-part k i)) x, relaid-behind)
-
--- ---- a key that is found
-
-module _ (f : List ℕ) (start key r : ℕ) (s : Sound f start) (n : Next f key start r) where
-  same-items : drop (length (n .skips .skipped)) ((recordsFrom f start) .items) ≡ (recordsFrom f r) .items
-  same-items = ap (drop (length (n .skips .skipped))) (n .skips .split) ∙ drop-at (n .skips .skipped) ((recordsFrom f r) .items) (length (n .skips .skipped)) refl
-
-  gone : length f ≤ r → hasFrom f start key ≡ false
-  unfolding hasFrom keysFrom each
-  gone h =
-      let e : (recordsFrom f r) .items ≡ [] = ap (λ (g : Got (List Field)). g .items) (records-over f r h) in
-      ap (λ (l : List (List Field)). listed key (each keyOf l)) (n .skips .split ∙ ap (λ (l : List (List Field)). n .skips .skipped ++ l) e ∙ append-nil (n .skips .skipped)) ∙ n .skips .none
-
-  pub next-sited : Sited f start key r
-  unfolding keysFrom
-  next-sited = record {
-    there = λ h.
-        let m = n .names h in
-        record {
-          tail = record {
-            sound = n .sound;
-            skipped = length (n .skips .skipped);
-            rest = each-drop keyOf (length (n .skips .skipped)) ((recordsFrom f start) .items) ∙ ap (each keyOf) same-items;
-            same = same-items;
-          };
-          later = keysFrom f (r + m .len);
-          keys = follows f r (m .len) key (n .sound) (m .look) .found .keys;
-        };
-    gone = gone;
-  }

@@ -1,32 +1,27 @@
--- Laws of the places of records, and of an index of them. Assumes nothing.
-use mathlib.Core.Path.{_≡_, refl, sym, ap, _∙_, subst}
+-- Laws of what lies between two places of records, and of the first record that names a key. Assumes nothing.
+use mathlib.Core.Path.{_≡_, refl, sym, ap, _∙_}
 use mathlib.Core.Bool.{Bool, true, false}
 use mathlib.Core.List.{List, [], _∷_, _++_}
-use Prim.Native.Nat.{ℕ, zero, suc, _+_, _-_, _*_, _/_, _^_, _≤_, _<_}
+use Prim.Native.Nat.{ℕ, _+_, _≤_, _<_}
 use native.Mathlib.Omega.{arith}
-use borrow.Author.Tests.{eqb-true, eqb-false, ltb-true, ltb-false}
-use lib.ListN.{length, getD, drop}
-use lib.Dec.{eqb, ltb}
+use borrow.Author.Tests.{ltb-true, ltb-false}
+use lib.ListN.{length, drop, length-append}
+use lib.Dec.{ltb}
 use Rattle.base.specs.Lists.{each}
 use Rattle.base.specs.Walk.{Got}
 use Rattle.skeleton.specs.File.{Field, recordsFrom}
-use Rattle.skeleton.proofs.FileLaws.{records-over}
-use Rattle.keys.specs.Listed.{keyOf, keysFrom, listed}
+use Rattle.keys.specs.Listed.{keyOf, keysFrom, listed, hasFrom}
 use Rattle.keys.specs.Look.{lookAt, Sound}
-use Rattle.keys.specs.declared.look.Look.{Look}
-use Rattle.keys.specs.declared.look.Look.the-variants.{At, Nothing}
+use Rattle.keys.specs.Places.{Leads, here, over, Names, siteOf}
+use Rattle.keys.specs.declared.look.Look.the-variants.{At}
+use Rattle.keys.proofs.ListLaws.{listed-none, listed-later, not-first, not-later}
 use Rattle.keys.proofs.LookLaws.{Found}
-use Rattle.keys.proofs.ListLaws.{listed-none, listed-later}
-use Rattle.keys.proofs.SoundLaws.{Next as Follows, sound-next, sound-nothing}
-use Rattle.sorting.specs.Numbers.{numberAt, Stored, Has, Mixed, Ascends, Parted}
-use Rattle.sorting.specs.Places.{Leads, here, over, Names, Skips, Next, weightOf, Entry, Filled, Sorted, Indexed}
+use Rattle.keys.proofs.SoundLaws.{Next as Follows}
+use Rattle.keys.proofs.PlaceLaws.{follows, leads-up, leads-then, site-here, site-over, site-end, site-says}
+use Rattle.sorting.specs.Places.{Skips, Next}
 
--- ---- a record at a place
+-- ---- a record's fields
 
-pub follows : (u : List ℕ) (p len key : ℕ) → Sound u p → lookAt u p ≡ At len key → Follows u p len key
-follows u p len key s e = sound-next u p s (lookAt u p) refl len key e
-
--- its fields
 record First (k : ℕ) (items : List (List Field)) : Type 0 where
   fields : List Field
   split : items ≡ fields ∷ drop 1 items
@@ -37,51 +32,8 @@ unfolding each
 first-of k l [] e = let z : _≡_ {A = ℕ} 0 1 = cc in absurd (omega arith)
 first-of k l (fs ∷ rest) e = record { fields = fs; split = refl; key = cc }
 
-pub same-look : (e : Look) (len key n k : ℕ) → e ≡ At len key → e ≡ At n k → (len ≡ n) × (key ≡ k)
-same-look e len key n k a b = ((cc), (cc))
+-- ---- what lies between two places
 
--- ---- places in order
-
-pub leads-sound : {u : List ℕ} {p r : ℕ} → Leads u p r → Sound u p → Sound u r
-leads-sound here s = s
-leads-sound {u} {p} (over {len} {key} e l) s = leads-sound l (follows u p len key s e .sound)
-
-pub leads-up : {u : List ℕ} {p r : ℕ} → Leads u p r → Sound u p → p ≤ r
-leads-up here s = omega arith
-leads-up {u} {p} (over {len} {key} e l) s = let f = follows u p len key s e in let i = leads-up l (f .sound) in omega arith
-
-pub leads-then : {u : List ℕ} {p q r : ℕ} → Leads u p q → Leads u q r → Leads u p r
-leads-then here m = m
-leads-then (over e l) m = over e (leads-then l m)
-
--- of two places that one leads to, the first leads to the second
-pub leads-on : {u : List ℕ} {p q r : ℕ} → Sound u p → Leads u p q → Leads u p r → q ≤ r → Leads u q r
-leads-on s here m h = m
-leads-on {u} {p} s (over {len} {key} e l) here h =
-    let f = follows u p len key s e in let i = leads-up l (f .sound) in let g = f .found .long in absurd (omega arith)
-leads-on {u} {p} {q} {r} s (over {len} {key} e l) (over {len = n} {key = k} d m) h =
-    let z = same-look (lookAt u p) len key n k e d in
-    leads-on (follows u p len key s e .sound) l (subst (λ (i : ℕ). Leads u (p + i) r) (sym (z .0)) m) h
-
--- up to the end
-at-end : (u : List ℕ) (p : ℕ) → Sound u p → length u ≤ p → Leads u p (length u)
-at-end u p s l = let i = s .inside in let z : p ≡ length u = omega arith in subst (λ (i : ℕ). Leads u p i) z here
-
--- or one record further, where there is one
-one-further : (u : List ℕ) (p : ℕ) → Sound u p → ((len : ℕ) → 0 < len → Sound u (p + len) → Leads u (p + len) (length u))
-    → (b : Bool) → ltb p (length u) ≡ b → (e : Look) → e ≡ lookAt u p → Leads u p (length u)
-one-further u p s f false l e x = at-end u p s (ltb-false p (length u) l)
-one-further u p s f true l Nothing x = absurd (sound-nothing u p s Nothing x (ltb-true p (length u) l) refl)
-one-further u p s f true l (At len key) x = let g = follows u p len key s (sym x) in over (sym x) (f len (g .found .long) (g .sound))
-
-to-end : (u : List ℕ) (fuel p : ℕ) → length u ≤ p + fuel → Sound u p → Leads u p (length u)
-to-end u zero p h s = at-end u p s (omega arith)
-to-end u (suc n) p h s = one-further u p s (λ len l t. to-end u n (p + len) (omega arith) t) (ltb p (length u)) refl (lookAt u p) refl
-
-pub leads-end : (u : List ℕ) (p : ℕ) → Sound u p → Leads u p (length u)
-leads-end u p s = to-end u (length u) p (omega arith) s
-
--- what lies between two places
 pub record Mid (u : List ℕ) (p q : ℕ) : Type 0 where
   pub mid : List (List Field)
   pub split : (recordsFrom u p) .items ≡ mid ++ (recordsFrom u q) .items
@@ -140,3 +92,43 @@ next-leads l n = leads-then l (n .leads)
 
 pub next-up : {u : List ℕ} {key p r : ℕ} → Sound u p → Next u key p r → p ≤ r
 next-up s n = leads-up (n .leads) s
+
+-- ---- the first that names a key is its place
+
+-- a record before it is not the key's, and those behind it are skipped
+skips-on : (u : List ℕ) (key p len k r : ℕ) → Sound u p → lookAt u p ≡ At len k → Leads u (p + len) r → Skips u key p r → (k ≡ key → ⊥) × Skips u key (p + len) r
+unfolding each
+skips-on u key p len k r s e l t = go (t .skipped) (t .split) (t .none)
+  where
+    f : Front u p len k
+    f = front-of u p len k s e
+
+    m : Mid u (p + len) r
+    m = leads-mid (follows u p len k s e .sound) l
+
+    go : (xs : List (List Field)) → (recordsFrom u p) .items ≡ xs ++ (recordsFrom u r) .items → listed key (each keyOf xs) ≡ false → (k ≡ key → ⊥) × Skips u key (p + len) r
+    go [] a b =
+        absurd (omega (arith, ap length (sym a ∙ f .split ∙ ap (λ (l : List (List Field)). f .fields ∷ l) (m .split)), length-append (m .mid) ((recordsFrom u r) .items)))
+    go (g ∷ gs) a b =
+        let z : g ∷ (gs ++ (recordsFrom u r) .items) ≡ f .fields ∷ (recordsFrom u (p + len)) .items = sym a ∙ f .split in
+        let first : g ≡ f .fields = cc in
+        let rest : (recordsFrom u (p + len)) .items ≡ gs ++ (recordsFrom u r) .items = cc in (
+          λ h. not-first key (keyOf g) (each keyOf gs) b (ap keyOf first ∙ f .key-of ∙ h),
+          record { skipped = gs; split = rest; none = not-later key (keyOf g) (each keyOf gs) b },
+        )
+
+site-past : {u : List ℕ} {p r : ℕ} (key : ℕ) → Sound u p → Leads u p r → Skips u key p r → siteOf u p key ≡ siteOf u r key
+site-past key s here t = refl
+site-past {u} {p} {r} key s (over {len} {key = k} e l) t =
+    let g = skips-on u key p len k r s e l t in
+    site-over u p len k s e key (g .0) ∙ site-past key (follows u p len k s e .sound) l (g .1)
+
+pub next-site : (u : List ℕ) (key p r : ℕ) → Sound u p → Next u key p r → r ≡ siteOf u p key
+next-site u key p r s n = sym (site-past key s (n .leads) (n .skips) ∙ go (ltb r (length u)) refl)
+  where
+    go : (b : Bool) → ltb r (length u) ≡ b → siteOf u r key ≡ r
+    go true x = let m = n .names (ltb-true r (length u) x) in site-here u r (m .len) key (n .sound) (m .look) key refl
+    go false x = let h = ltb-false r (length u) x in let i = n .sound .inside in site-end u r key h ∙ omega arith
+
+pub next-says : (u : List ℕ) (key p r : ℕ) → Sound u p → Next u key p r → ltb r (length u) ≡ hasFrom u p key
+next-says u key p r s n = ap (λ (i : ℕ). ltb i (length u)) (next-site u key p r s n) ∙ site-says u p key s

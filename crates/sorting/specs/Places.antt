@@ -8,20 +8,9 @@ use Rattle.base.specs.Lists.{each}
 use Rattle.base.specs.Walk.{Got}
 use Rattle.skeleton.specs.File.{Field, recordsFrom}
 use Rattle.keys.specs.Listed.{keyOf, listed}
-use Rattle.keys.specs.Look.{lookAt, Sound}
-use Rattle.keys.specs.declared.look.Look.the-variants.{At}
+use Rattle.keys.specs.Look.{Sound}
+use Rattle.keys.specs.Places.{Leads, Names}
 use Rattle.sorting.specs.Numbers.{numberAt, Has, Ascends}
-
--- the records from p on lead to the one at r, or they end there
-pub data Leads (u : List ℕ) : ℕ → ℕ → Type 0 where
-  here : {p : ℕ} → Leads u p p
-  over : {p len key r : ℕ} → lookAt u p ≡ At len key → Leads u (p + len) r → Leads u p r
-
--- one of the records from us on begins at p and names the key
-pub record Names (u : List ℕ) (us key p : ℕ) : Type 0 where
-  pub leads : Leads u us p
-  pub len : ℕ
-  pub look : lookAt u p ≡ At len key
 
 -- none of the records from p up to r names the key
 pub record Skips (u : List ℕ) (key p r : ℕ) : Type 0 where

@@ -4,11 +4,12 @@ use keys::present::has;
 use keys::sites::site;
 use keys::slots::slot;
 ghost use mathlib.Core.Path.{_≡_};
-ghost use Rattle.keys.specs.Listed.{hasFrom};
-ghost use Rattle.keys.specs.Table.{Sited, Laid};
+ghost use Rattle.keys.specs.Listed.{keysFrom, hasFrom, EachOnce};
+ghost use Rattle.keys.specs.Places.{siteOf};
+ghost use Rattle.keys.specs.Table.{Laid};
 ghost use Rattle.sorting.specs.Places.{Indexed};
 
-// Where one of the records from start on has the key; the file's length where none has it.
+// Where the record from start on that has the key begins, in a file whose keys stand once; the file's length where none has it.
 pub fn site_by(
     f: &[u8],
     start: usize,
@@ -18,8 +19,8 @@ pub fn site_by(
     index: &[u8],
     key: u64,
 ) -> usize
-    requires { ⌜ Laid (now f) start (now t) n (now map) × Indexed (now f) start (now index) ⌝ }
-    ensures { λ r. ⌜ Sited (now (f .entry)) start key r ⌝ }
+    requires { ⌜ Laid (now f) start (now t) n (now map) × Indexed (now f) start (now index) × EachOnce (keysFrom (now f) start) ⌝ }
+    ensures { λ r. ⌜ r ≡ siteOf (now (f .entry)) start key ⌝ }
 {
     if index.len() == 0 {
         return site(f, start, t, n, map, key);
@@ -40,8 +41,11 @@ pub fn has_by(
     requires { ⌜ Laid (now f) start (now t) n (now map) × Indexed (now f) start (now index) ⌝ }
     ensures { λ b. ⌜ b ≡ hasFrom (now (f .entry)) start key ⌝ }
 {
+    if index.len() == 0 {
+        return has(f, start, t, n, map, key);
+    }
     if slot(key) < 262144 {
         return has(f, start, t, n, map, key);
     }
-    site_by(f, start, t, n, map, index, key) < f.len()
+    next(f, start, index, start, key) < f.len()
 }

@@ -11,7 +11,8 @@ ghost use mathlib.Core.Bool.{true};
 ghost use Prim.Native.Nat.{ℕ, _*_, _≤_, _<_};
 ghost use lib.ListN.{length, drop};
 ghost use Rattle.keys.specs.Look.{Sound};
-ghost use Rattle.sorting.specs.Places.{Leads, Next, Late, weightOf, Filled, Sorted, Indexed};
+ghost use Rattle.keys.specs.Places.{Leads};
+ghost use Rattle.sorting.specs.Places.{Next, Late, weightOf, Filled, Sorted, Indexed};
 
 // The number of the record at p, which names the key.
 fn weight(key: u64, p: usize) -> usize

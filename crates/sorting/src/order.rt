@@ -1,15 +1,14 @@
 // Numbers in order: found out, and searched by halves.
 use crate::numbers::number_at;
 ghost use mathlib.Core.Path.{_≡_};
-ghost use mathlib.Core.Bool.{true};
 ghost use Prim.Native.Nat.{_*_, _≤_};
 ghost use lib.ListN.{length};
-ghost use Rattle.sorting.specs.Numbers.{Ascends, Parted};
+ghost use Rattle.sorting.specs.Numbers.{Ascends, rises, Parted};
 
 // Whether none of the first n numbers is below the one before it.
 pub fn ascending(s: &[u8], n: usize) -> bool
     requires { ⌜ 8 * n ≤ length (now s) ⌝ }
-    ensures { λ b. ⌜ (b ≡ true → Ascends n (now (s .entry))) ⌝ }
+    ensures { λ b. ⌜ b ≡ rises n (now (s .entry)) ⌝ }
 {
     let mut last = 0;
     let mut i = 0;

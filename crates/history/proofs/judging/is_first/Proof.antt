@@ -1,4 +1,4 @@
-use Rattle.sorting.specs.Places.{here}
+use Rattle.keys.specs.Places.{here}
 use mathlib.Core.Path.{sym, _∙_}
 use borrow.Author.Tests.{not-true}
 use Rattle.history.proofs.JudgingLaws.{first-flag, first-found}

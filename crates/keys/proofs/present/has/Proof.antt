@@ -1,5 +1,4 @@
 use Rattle.keys.proofs.PresentLaws.{has-ways}
-use Rattle.keys.proofs.SiteLaws.{sited-says}
 use borrow.Author.Needs.{needs}
 use Rattle.keys.proofs.present.has.Statement.{statement}
 use Rattle.keys.proofs.present.has.Tie as tie
@@ -23,10 +22,10 @@ site-ordered-requires : tie.Need-site-ordered-requires
 site-ordered-requires c κs = search has-ways
 
 returns-2 : tie.Need-returns-2
-returns-2 c = search sited-says
+returns-2 c = search has-ways
 
 near-requires : tie.Need-near-requires
-near-requires c κs = search needs
+near-requires c κs = search has-ways
 
 returns-3 : tie.Need-returns-3
 returns-3 c = search has-ways

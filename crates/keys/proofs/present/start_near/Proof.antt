@@ -1,12 +1,11 @@
-use Rattle.keys.proofs.PresentLaws.{half-turn}
-use Prim.Native.Nat.{_-_, _≤_}
-use Rattle.keys.specs.Table.{Close}
+use Rattle.keys.proofs.PresentLaws.{half-turn, Halving, halving-down}
+use Prim.Native.Nat.{_-_}
 use borrow.Author.Needs.{needs}
 use Rattle.keys.proofs.present.start_near.Statement.{statement}
 use Rattle.keys.proofs.present.start_near.Tie as tie
 
 abbrev Inv-loop : tie.InvT-loop
-Inv-loop f start t n map key p₀ lo₀ hi₀ p lo hi = (hi ≤ n) × Close f start key p
+Inv-loop f start t n map key p₀ lo₀ hi₀ p lo hi = Halving f start t n key lo hi p
 
 abbrev μ-loop : tie.MeasureT-loop
 μ-loop f start t n map key p₀ lo₀ hi₀ p lo hi = hi - lo
@@ -48,7 +47,10 @@ loop-less-2 : tie.Need-loop-less-2 Inv-loop μ-loop
 loop-less-2 c = search half-turn
 
 loop-again-2 : tie.Need-loop-again-2 Inv-loop μ-loop
-loop-again-2 c = search half-turn
+loop-again-2 c =
+    let s = c .before .before .before .before in
+    let b = s .before .before .before in
+    halving-down _ _ _ _ _ _ _ _ (b .before .loop .inv) (b .loop-test .taken) _ (s .before .wide .ensures) _ (s .look-at .ensures) _ _ (c .before .before .k .given .1) (search needs)
 
 enum-told : tie.Need-enum-told Inv-loop μ-loop
 enum-told c = search needs

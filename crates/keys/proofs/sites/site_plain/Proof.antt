@@ -1,15 +1,12 @@
-use Rattle.keys.proofs.SiteLaws.{plain-turn}
-use mathlib.Core.Path.{_≡_}
+use Rattle.keys.proofs.SiteLaws.{plain-turn, Sought}
 use lib.ListN.{length}
 use Prim.Native.Nat.{_-_}
-use Rattle.keys.specs.Listed.{hasFrom}
-use Rattle.keys.specs.Table.{Tail}
 use borrow.Author.Needs.{needs}
 use Rattle.keys.proofs.sites.site_plain.Statement.{statement}
 use Rattle.keys.proofs.sites.site_plain.Tie as tie
 
 abbrev Inv-loop : tie.InvT-loop
-Inv-loop f start key p₀ p = Tail f start p × (hasFrom f p key ≡ hasFrom f start key)
+Inv-loop f start key p₀ p = Sought f start key p
 
 abbrev μ-loop : tie.MeasureT-loop
 μ-loop f start key p₀ p = length f - p

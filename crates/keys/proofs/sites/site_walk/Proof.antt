@@ -16,7 +16,7 @@ returns : tie.Need-returns
 returns c = search needs
 
 site-near-requires : tie.Need-site-near-requires
-site-near-requires c κs = search needs
+site-near-requires c κs = search site-ways
 
 returns-2 : tie.Need-returns-2
 returns-2 c = search site-ways

@@ -1,6 +1,6 @@
 use Rattle.lasting.proofs.WholeLaws.{whole-noted}
 use Rattle.lasting.proofs.OldLaws.{old-other, old-same, old-gone, old-played}
-use Rattle.sorting.specs.Places.{here}
+use Rattle.keys.specs.Places.{here}
 use mathlib.Core.Path.{sym, _∙_}
 use borrow.Author.Needs.{needs}
 use Rattle.lasting.proofs.old.make_old.Statement.{statement}

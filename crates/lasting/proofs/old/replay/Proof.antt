@@ -1,5 +1,5 @@
 use Rattle.lasting.proofs.OldLaws.{replay-playing, replayed}
-use Rattle.sorting.specs.Places.{here}
+use Rattle.keys.specs.Places.{here}
 use borrow.Author.Needs.{needs}
 use Rattle.lasting.proofs.old.replay.Statement.{statement}
 use Rattle.lasting.proofs.old.replay.Tie as tie

@@ -1,5 +1,5 @@
-use Rattle.sorting.proofs.IndicesLaws.{next-sited}
-use Rattle.sorting.specs.Places.{here}
+use Rattle.sorting.proofs.PlaceLaws.{next-site}
+use Rattle.keys.specs.Places.{here}
 use native.Mathlib.Omega.{arith}
 use borrow.Author.Needs.{needs}
 use Rattle.sorting.proofs.found.site_by.Statement.{statement}
@@ -19,7 +19,7 @@ next-requires : tie.Need-next-requires
 next-requires c κs = let s = c .before .before .before .before .before in (s .pre .0 .sound, here, s .pre .1)
 
 returns-2 : tie.Need-returns-2
-returns-2 c = let s = c .before .before .before .before .before .before in next-sited _ _ _ _ (s .pre .0 .sound) (c .next .ensures)
+returns-2 c = let s = c .before .before .before .before .before .before in next-site _ _ _ _ (s .pre .0 .sound) (c .next .ensures)
 
 pub site-by-spec : {M : Type 1} → statement M
 site-by-spec = tie.close (tie.spec site-requires returns next-requires returns-2)

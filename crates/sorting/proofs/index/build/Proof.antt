@@ -1,6 +1,7 @@
 use mathlib.Core.Path.{_≡_}
 use Prim.Native.Nat.{ℕ}
 use borrow.Author.Tests.{not-false}
+use Rattle.sorting.proofs.NumberLaws.{rises-ascends}
 use Rattle.sorting.proofs.IndexLaws.{built, built-mixed}
 use native.Mathlib.Omega.{arith}
 use borrow.Author.Needs.{needs}
@@ -28,7 +29,7 @@ same-length-2 : tie.Need-same-length-2
 same-length-2 c = search needs
 
 returns-2 : tie.Need-returns-2
-returns-2 c = λ e. built _ _ _ (c .before .before .before .before .before .before .fill .ensures (not-false _ (c .before .before .before .if1 .left))) (c .before .ascending .ensures (search needs))
+returns-2 c = λ e. built _ _ _ (c .before .before .before .before .before .before .fill .ensures (not-false _ (c .before .before .before .if1 .left))) (rises-ascends _ _ _ (c .before .ascending .ensures) (search needs))
 
 sort-requires : tie.Need-sort-requires
 sort-requires c κs = search needs
@@ -40,7 +41,7 @@ same-length-3 : tie.Need-same-length-3
 same-length-3 c = search needs
 
 returns-3 : tie.Need-returns-3
-returns-3 c = λ e. built-mixed _ _ _ _ (c .before .before .before .before .before .before .before .before .before .before .before .before .fill .ensures (not-false _ (c .before .before .before .before .before .before .before .before .before .if1 .left))) (c .before .before .before .before .sort .ensures) (c .ascending2 .ensures e)
+returns-3 c = λ e. built-mixed _ _ _ _ (c .before .before .before .before .before .before .before .before .before .before .before .before .fill .ensures (not-false _ (c .before .before .before .before .before .before .before .before .before .if1 .left))) (c .before .before .before .before .sort .ensures) (rises-ascends _ _ _ (c .ascending2 .ensures) e)
 
 pub build-spec : {M : Type 1} → statement M
 build-spec =

@@ -1,17 +1,11 @@
-use mathlib.Core.Path.{_≡_}
-use Prim.Native.Nat.{ℕ}
-use Prim.Native.Nat.{_≤_, _-_}
-use Rattle.sorting.proofs.NumberLaws.{Climbed, numbers-turn}
+use Prim.Native.Nat.{_-_}
+use Rattle.sorting.proofs.NumberLaws.{Rising, numbers-turn}
 use borrow.Author.Needs.{needs}
-use native.Mathlib.Omega.{arith}
 use Rattle.sorting.proofs.order.ascending.Statement.{statement}
 use Rattle.sorting.proofs.order.ascending.Tie as tie
-use Rattle.sorting.proofs.order.ascending.Reads as reads
-use Rattle.sorting.proofs.order.ascending.Lts as lts
-use Rattle.sorting.proofs.numbers.number_at.Reads as number-at-reads
 
 abbrev Inv-loop : tie.InvT-loop
-Inv-loop s n last₀ i₀ last i = (i ≤ n) × Climbed i last s
+Inv-loop s n last₀ i₀ last i = Rising n s i last
 
 abbrev μ-loop : tie.MeasureT-loop
 μ-loop s n last₀ i₀ last i = n - i
@@ -23,7 +17,7 @@ number-at-requires : tie.Need-number-at-requires Inv-loop μ-loop
 number-at-requires c κs = search needs
 
 returns : tie.Need-returns Inv-loop μ-loop
-returns c = λ e. absurd (let z : _≡_ {A = ℕ} 0 1 = cc in omega arith)
+returns c = search numbers-turn
 
 add-i : tie.Need-add-i Inv-loop μ-loop
 add-i c = search needs
