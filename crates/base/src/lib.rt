@@ -1,4 +1,5 @@
 // What every layer shares.
+#![tactic(auto)]
 
 // A refusal in a record: its number, and the field of the record and the tuple of the field that gave it, both from 1, 0 where none applies.
 #[derive(Drop)]

@@ -1,4 +1,5 @@
 // Keys put in order some thousand at a time: whether a key stood earlier where flags do not tell.
+#![tactic(auto)]
 pub mod book;
 pub mod first;
 pub mod once;

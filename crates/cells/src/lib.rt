@@ -1,4 +1,5 @@
 // Associations in lent memory, as references to their bytes.
+#![tactic(auto)]
 pub mod acting;
 pub mod cell;
 pub mod inas;

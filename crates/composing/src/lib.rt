@@ -1,4 +1,5 @@
 // The records of an update's result, one by one.
+#![tactic(auto)]
 pub mod acts;
 pub mod carrying;
 pub mod held;

@@ -1,3 +1,4 @@
 // A whole dataset read.
+#![tactic(auto)]
 pub mod record;
 pub mod walk;

@@ -1,1 +1,2 @@
 // What every display holds, with nothing assumed of reading and writing: laws only.
+#![tactic(auto)]

@@ -1,4 +1,5 @@
 // The working form of a record's attributes edited by the ATTR of an update.
+#![tactic(auto)]
 use acting::Progress;
 
 pub mod acting;

@@ -1,4 +1,5 @@
 // The record that the workspace holds, measured and written in the written form.
+#![tactic(auto)]
 pub mod bodies;
 pub mod directory;
 pub mod identifier;

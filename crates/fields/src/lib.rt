@@ -1,4 +1,6 @@
 // The contents of fields.
+#![tactic(auto)]
+
 pub mod counting;
 pub mod head;
 pub mod number;

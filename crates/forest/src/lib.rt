@@ -1,1 +1,2 @@
 // The attribute tree: definitions only.
+#![tactic(auto)]

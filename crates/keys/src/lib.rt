@@ -1,4 +1,5 @@
 // The keys of a dataset's records.
+#![tactic(auto)]
 pub mod bits;
 pub mod look;
 pub mod order;

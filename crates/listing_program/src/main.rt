@@ -1,4 +1,5 @@
 // Prints the listing of standard input: one byte more than 65,536 is read, which shows that the input is too long.
+#![tactic(auto)]
 use libc::{STDIN_FILENO, STDOUT_FILENO};
 
 fn main() {

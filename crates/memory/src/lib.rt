@@ -1,5 +1,6 @@
 // Bytes in lent memory. Each function takes a whole slice and an index into it, and its contract is an equation for the
 // whole slice at exit, by the definitions of specs/.
+#![tactic(auto)]
 
 pub mod clearing;
 pub mod moving;

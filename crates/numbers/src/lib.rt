@@ -1,1 +1,2 @@
 // The numbers of refusal: laws only.
+#![tactic(auto)]

@@ -1,1 +1,2 @@
 // What contracts determine: laws only.
+#![tactic(auto)]

@@ -1,1 +1,2 @@
 // What reader, writer and updater promise, and that it says one outcome alone: laws only.
+#![tactic(auto)]

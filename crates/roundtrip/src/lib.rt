@@ -1,1 +1,2 @@
 // What is written of a sound dataset reads again: laws only.
+#![tactic(auto)]

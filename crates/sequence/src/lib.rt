@@ -1,1 +1,2 @@
 // Updates in sequence: laws only.
+#![tactic(auto)]

@@ -1,4 +1,5 @@
 // The record skeleton of ISO/IEC 8211: leader, directory, field bounds.
+#![tactic(auto)]
 pub mod digits;
 pub mod directory;
 pub mod file;

@@ -1,4 +1,5 @@
 // The present version of one record in the workspace.
+#![tactic(auto)]
 use rules::Kind;
 
 pub mod areas;
