@@ -1,0 +1,19 @@
+use Rattle.fields.proofs.CountLaws.{tally-turn}
+use mathlib.Core.Path.{refl}
+use borrow.Author.Rules.{rules}
+use Rattle.fields.proofs.counting.tally_each.Goals as goal
+
+pub loop-p-init : goal.loop-p-init
+loop-p-init c = (search rules, search rules, refl)
+
+pub returns-in-Bad : goal.returns-in-Bad
+returns-in-Bad c = search tally-turn
+
+pub returns-then-n-p : goal.returns-then-n-p
+returns-then-n-p c = search tally-turn
+
+pub loop-p-preserved : goal.loop-p-preserved
+loop-p-preserved c = (search rules, search tally-turn, search tally-turn)
+
+pub returns : goal.returns
+returns c = search tally-turn
