@@ -32,6 +32,12 @@ module _ (P : Parts) (L : Laws P) where
   did_by ds u d insert none (some s) x f c e (brings q) = did_insert s x f c q (sym e)
   did_by ds u d delete (some r) none x f c e takes = did_delete r x f c (sym e)
   did_by ds u d modify (some r) (some s) x f c e (alters q) = did_modify r s x f c q (sym e)
+  did_by ds u d insert none none x f c e x16 = elim x16 [ ]
+  did_by ds u d insert (some r) p x f c e x12 = elim x12 [ ]
+  did_by ds u d delete none p x f c e x12 = elim x12 [ ]
+  did_by ds u d delete (some r) (some s) x f c e x18 = elim x18 [ ]
+  did_by ds u d modify none p x f c e x13 = elim x13 [ ]
+  did_by ds u d modify (some r) none x f c e x19 = elim x19 [ ]
 
   -- what a step that was accepted did
   pub did : (ds : List Rec) (u : Upd) (d : List Rec) → step P ds u ≡ ok d → Did P ds u d
@@ -65,6 +71,12 @@ module _ (P : Parts) (L : Laws P) where
   stored ds k insert none (some s) v f (brings q) = find_settled P k s ds q f
   stored ds k delete (some r) none v f takes = find_removed P k ds v
   stored ds k modify (some r) (some s) v f (alters q) = find_replaced P k r s ds q f
+  stored ds k insert none none v f x9 = elim x9 [ ]
+  stored ds k insert (some r) p v f x7 = elim x7 [ ]
+  stored ds k delete none p v f x7 = elim x7 [ ]
+  stored ds k delete (some r) (some s) v f x11 = elim x11 [ ]
+  stored ds k modify none p v f x8 = elim x8 [ ]
+  stored ds k modify (some r) none v f x12 = elim x12 [ ]
 
   -- a step is refused as the change of the version that stands is, or leaves under its key what that gives
   pub step_own : (ds : List Rec) (u : Upd) → Once P ds → change u (find P (names u) ds) ≡ bind (step P ds u) (λ d. ok (find P (names u) d))
@@ -112,6 +124,12 @@ module _ (P : Parts) (L : Laws P) where
       made insert none (some s) (brings z) = z
       made delete (some r) none takes = tt
       made modify (some r) (some s) (alters z) = z
+      made insert none none x5 = elim x5 [ ]
+      made insert (some r) q x5 = elim x5 [ ]
+      made delete none q x5 = elim x5 [ ]
+      made delete (some r) (some s) x7 = elim x7 [ ]
+      made modify none q x6 = elim x6 [ ]
+      made modify (some r) none x8 = elim x8 [ ]
 
   -- ---- a run, by the histories of its keys
 

@@ -85,8 +85,10 @@ module _ (P : Parts) where
   -- the old record that a modify changes
   kept_next : (q : ℕ) (u : Upd) (us : List Upd) (r s : Rec) → act u ≡ modify → key r ≡ names u → key s ≡ names u → change u (some r) ≡ ok (some s)
       → kept_of P q (u ∷ us) r ≡ kept_of P q us s
-  unfolding kept_of deleted is_delete history bind
-  kept_next q u us r s a k z y = let m : rank P r ≡ rank P s = ap place (k ∙ sym z) in rw (a, m, k, z, same_refl (names u), y)
+  unfolding kept_of
+  kept_next q u us r s a k z y =
+      let m : rank P r ≡ rank P s = ap place (k ∙ sym z) in
+      rw (m, k, z) (unfold deleted is_delete history bind in rw (a, same_refl (names u), y))
 
   -- a delete: the old record leaves
   kept_remove : (q : ℕ) (u : Upd) (us : List Upd) (ds : List Rec) → act u ≡ delete → Once P ds → kept P q us (remove P (names u) ds) ≡ kept P q (u ∷ us) ds

@@ -205,9 +205,9 @@ small_holds r a b p e =
 
 -- what `entry_at` returns, by its tests
 module _ (r : List ℕ) (a b p : ℕ) where
-  pub entry_past : length r ≤ p → Bad ≡ entry_at r a b p
+  pub entry_past_lem : length r ≤ p → Bad ≡ entry_at r a b p
   unfolding entry_at
-  entry_past h = simp (le-leb _ _ h)
+  entry_past_lem h = simp (le-leb _ _ h)
 
   module _ (h : p < length r) where
     pub entry_end : get_or r p 0 ≡ 30 → End ≡ entry_at r a b p
@@ -236,7 +236,7 @@ module _ (r : List ℕ) (a b p : ℕ) where
         pub entry_zeros_fits : t ≡ true → 4 + (2 + 3) + (2 + 3) ≤ length r - p
         entry_zeros_fits y = let s = small_holds r a b p (sym et ∙ y) in omega (arith, s.0, s.1)
 
-pub ruleset entry-ways = (entry_past, entry_end, entry_short, entry_zeros, entry_any)
+pub ruleset entry-ways = (entry_past_lem, entry_end, entry_short, entry_zeros, entry_any)
 
 -- ---- what `zeros_at` and `is_small` return
 

@@ -41,6 +41,7 @@ unfolding done_by act_of is_delete
 stays k fs none (some s) n (acted_insert i v w) = (s, refl, acted_new k fs none s (acted_insert i v w))
 stays k fs (some r) none n (acted_delete i f) = absurd (let z = rw i at n in let y : ◌≡◌ {A = ℕ} 0 1 = cc in omega arith)
 stays k fs (some r) (some s) n (acted_modify i j f g a w) = (s, refl, acted_new k fs (some r) s (acted_modify i j f g a w))
+stays k fs none none n x4 = elim x4 [ ]
 
 -- the same of an update record
 stays_as : (fs : List Field) (m : Option Kind) (o p : Option Rec) → is_delete (done_by m fs) ≡ false → changed_by m fs o ≡ ok p → (s : Rec) × (p ≡ some s) × (s.rver ≡ rver_of o + 1)

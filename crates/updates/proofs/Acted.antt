@@ -95,6 +95,7 @@ module _ (k : Kind) (fs : List Field) where
   acted_rver none (some s) (acted_insert i v w) = v
   acted_rver (some r) none (acted_delete i f) = (follows_inv r f).0
   acted_rver (some r) (some s) (acted_modify i j f g a w) = (follows_inv r f).0
+  acted_rver none none x'' = elim x'' [ ]
 
   -- and the record that it leaves has that RVER
   pub acted_new : (o : Option Rec) (s : Rec) → Acted k fs o (some s) → s.rver ≡ rver_of o + 1
@@ -108,6 +109,7 @@ module _ (k : Kind) (fs : List Field) where
   acted_goes none (some s) u (acted_insert i v w) = rw i (brings refl)
   acted_goes (some r) none u (acted_delete i f) = rw i takes
   acted_goes (some r) (some s) u (acted_modify i j f g a w) = rw (i, j) (alters u)
+  acted_goes none none u x4 = elim x4 [ ]
 
 -- the law of the run
 pub lawful : Laws chart

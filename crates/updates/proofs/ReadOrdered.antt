@@ -85,6 +85,7 @@ test_next n seen fs new e =
 by_next : (seen new later : List Rec) → Next seen new → Ordered chart (last_rank (new ++ seen)) later → Ordered chart (last_rank seen) (new ++ later)
 by_next seen [] later next_none o = o
 by_next seen (r ∷ []) later (next_one l) o = unfold Ordered last_rank in rw (placed r) (l, o)
+by_next seen (r ∷ (_ ∷ _)) later x6 o = elim x6 [ ]
 
 -- all records of a file
 pub through_ordered : (n : ℕ) (seen : List Rec) (items : List (List Field)) (recs : List Rec) → through dataset_test 1 n seen items ≡ done recs → Ordered chart (last_rank seen) recs
