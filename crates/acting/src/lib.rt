@@ -16,7 +16,7 @@ ghost use Rattle.acting.specs.Ready.{Small, Modifies};
 ghost use Rattle.acting.specs.Acted.{Holding, ActedBy};
 
 // The number, field and tuple of a refusal, or the version as it is now.
-#[derive(Drop)]
+#[derive(Clone, Copy)]
 pub enum Acts {
     Refused(u8, usize, usize),
     Now(Version),

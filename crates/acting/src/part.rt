@@ -21,7 +21,7 @@ use version::Version;
 use version::areas::list_of;
 
 // The number and the tuple of a refusal, or the version as it is now.
-#[derive(Drop)]
+#[derive(Clone, Copy)]
 pub enum Part {
     Wrong(u8, usize),
     Right(Version),

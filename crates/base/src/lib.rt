@@ -2,7 +2,7 @@
 #![tactic(auto)]
 
 // A refusal in a record: its number, and the field of the record and the tuple of the field that gave it, both from 1, 0 where none applies.
-#[derive(Drop)]
+#[derive(Clone, Copy)]
 pub struct Fault {
     pub number: u8,
     pub field: usize,
@@ -10,7 +10,7 @@ pub struct Fault {
 }
 
 // What a test of a record answers: that it passed, or the refusal's number and the field and the tuple that gave it.
-#[derive(Drop)]
+#[derive(Clone, Copy)]
 pub enum Verdict {
     Passed,
     Refused(u8, usize, usize),

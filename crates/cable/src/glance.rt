@@ -9,7 +9,7 @@ use skeleton::leader::Head;
 use skeleton::place::{Place, place_at};
 
 // From a place of the file up to another; or there is nothing to see.
-#[derive(Drop)]
+#[derive(Clone, Copy)]
 pub enum Glance {
     At(usize, usize),
     Nothing,

@@ -12,7 +12,7 @@ use crate::search::find;
 use memory::close_gap;
 
 // What a SPAS of a modify answers: the number and the tuple of a refusal, or how many cells there are now.
-#[derive(Drop)]
+#[derive(Clone, Copy)]
 pub enum Acted {
     Refused(u8, usize),
     Now(usize),

@@ -17,7 +17,7 @@ use crate::search::find;
 use memory::close_gap;
 
 // What an INAS of a modify answers: the number and the tuple of a refusal, or how many cells there are now, and the bytes of their bodies as fields.
-#[derive(Drop)]
+#[derive(Clone, Copy)]
 pub enum ActedInas {
     Refused(u8, usize),
     Now(usize, usize),

@@ -19,7 +19,7 @@ use skeleton::place::{Place, place_at};
 use version::Version;
 
 // Each FOID is the version's; or the number of the field that is another (10).
-#[derive(Drop)]
+#[derive(Clone, Copy)]
 pub enum Foids {
     Same,
     Other(usize),

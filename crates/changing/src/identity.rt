@@ -15,7 +15,7 @@ use skeleton::place::{Place, place_at};
 use version::Version;
 
 // Its code, its RVER, and its instruction, RUIN.
-#[derive(Drop)]
+#[derive(Clone, Copy)]
 pub struct Said {
     pub code: u16,
     pub rver: u16,

@@ -16,7 +16,7 @@ use skeleton::directory::Shape;
 use sorting::limits::Limits;
 
 // It names a record that does not stand (11); or where the next one begins.
-#[derive(Drop)]
+#[derive(Clone, Copy)]
 pub enum Made {
     Loose,
     Next(usize),

@@ -31,7 +31,7 @@ use skeleton::directory::{Shape, tag_at};
 use skeleton::place::{Place, place_at};
 
 // A field's keys: each is new, and then the largest number of a spatial key so far; or the tuple, 0 in an INAS, whose key stands twice (7).
-#[derive(Drop)]
+#[derive(Clone, Copy)]
 pub enum Keys {
     Once(usize),
     Twice(usize),

@@ -17,7 +17,7 @@ use skeleton::directory::Shape;
 use skeleton::place::{Place, place_at};
 
 // Where a walk stands: at offset `at` of the SPAS from start to end, and then at the entry `next`.
-#[derive(Drop)]
+#[derive(Clone, Copy)]
 pub struct Walk {
     pub next: usize,
     pub start: usize,
@@ -26,7 +26,7 @@ pub struct Walk {
 }
 
 // The next code, and the walk behind it; or that there is none.
-#[derive(Drop)]
+#[derive(Clone, Copy)]
 pub enum Step {
     Next(u64, Walk),
     Over,

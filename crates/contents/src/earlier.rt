@@ -16,7 +16,7 @@ use skeleton::directory::Shape;
 use skeleton::place::{Place, place_at};
 
 // A key: RRNM, RRID, NIAC, NARC of an information association; RRNM, RRID of a spatial one.
-#[derive(Drop)]
+#[derive(Clone, Copy)]
 pub enum Key {
     Information(u8, u32, u16, u16),
     Spatial(u8, u32),

@@ -17,7 +17,7 @@ use memory::clearing::zero;
 use skeleton::directory::Shape;
 
 // How many codes a book took, and the walk behind them.
-#[derive(Drop)]
+#[derive(Clone, Copy)]
 pub struct Gathered {
     pub count: usize,
     pub on: Walk,

@@ -20,7 +20,7 @@ use skeleton::directory::{Shape, tag_at};
 use skeleton::place::{Place, place_at};
 
 // The largest number of a spatial key so far, and how many keys are to be searched for.
-#[derive(Drop)]
+#[derive(Clone, Copy)]
 pub struct Strays {
     pub top: usize,
     pub count: usize,

@@ -13,7 +13,7 @@ use skeleton::directory::Shape;
 use skeleton::place::{Place, place_at};
 
 // A place outside the list (9); or how many tuples there are now.
-#[derive(Drop)]
+#[derive(Clone, Copy)]
 pub enum Placed {
     Refused,
     Now(usize),

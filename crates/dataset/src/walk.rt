@@ -24,14 +24,14 @@ use skeleton::file::record_at;
 use skeleton::leader::Head;
 
 // A record that was tested: its key, or the refusal's number, field and tuple.
-#[derive(Drop)]
+#[derive(Clone, Copy)]
 pub enum Admitted {
     Key(u64),
     Stop(u8, usize, usize),
 }
 
 // How many records there are after the third; or the refusal's number, record, field and tuple.
-#[derive(Drop)]
+#[derive(Clone, Copy)]
 pub enum Walked {
     Over(usize),
     Stopped(u8, usize, usize, usize),

@@ -12,14 +12,14 @@ use updater::update_tested;
 use writer::write;
 
 // Where the chart stands: in the second pool or in the first, and its length there.
-#[derive(Drop)]
+#[derive(Clone, Copy)]
 pub struct Chart {
     pub second: bool,
     pub length: usize,
 }
 
 // The answer to a file, and the chart after it.
-#[derive(Drop)]
+#[derive(Clone, Copy)]
 pub struct Shown {
     pub answer: Answer,
     pub chart: Chart,

@@ -6,7 +6,7 @@ ghost use Rattle.edits.specs.Says.{ActSays, RunSays};
 use crate::single::{Deed, perform};
 
 // The number and place of a refusal; or the offset of the update's next tuple, its place, and how many items there are.
-#[derive(Drop)]
+#[derive(Clone, Copy)]
 pub enum Progress {
     No(u8, usize),
     Upto(usize, usize, usize),

@@ -18,7 +18,7 @@ ghost use Rattle.rules.specs.Trees.{attr_acts};
 ghost use Rattle.edits.specs.Applied.{Applied};
 
 // The number and the tuple of a refusal, or how many items there are now.
-#[derive(Drop)]
+#[derive(Clone, Copy)]
 pub enum Edited {
     Refused(u8, usize),
     Done(usize),

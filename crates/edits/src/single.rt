@@ -9,7 +9,7 @@ use crate::search::{addressed, is_beside, run_end, seat};
 use items::number;
 
 // What an act by itself comes to: refused with a number; a delete that leaves so many items; or the item whose children's acts come next, of so many.
-#[derive(Drop)]
+#[derive(Clone, Copy)]
 pub enum Deed {
     Not(u8),
     Gone(usize),

@@ -6,7 +6,7 @@ use crate::block::weigh;
 use items::{number, twin};
 
 // The item that a walk has come to, how many items of the code it has passed, and where the last of them is: it is number `nth` from item `mark` on.
-#[derive(Drop)]
+#[derive(Clone, Copy)]
 pub struct Reach {
     pub at: usize,
     pub count: usize,

@@ -11,7 +11,7 @@ use version::Version;
 use writing::measuring::Sum;
 
 // The bytes of the attributes' tuples, and those of the INAS fields, the 1E of each included.
-#[derive(Drop)]
+#[derive(Clone, Copy)]
 pub struct Sizes {
     pub attr: usize,
     pub inas: usize,

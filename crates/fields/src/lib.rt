@@ -17,7 +17,7 @@ pub use text::text_end;
 pub use tuples::tuple_at;
 
 // The formats of fields. New: every instruction in it is insert; Gone: it is delete, and nothing follows.
-#[derive(Drop)]
+#[derive(Clone, Copy)]
 pub enum Format {
     Dsid,
     DsidUpdate,
@@ -43,7 +43,7 @@ pub enum Format {
 
 // How one subfield is written: a number of 1, 2 or 4 bytes within a range, one of four values, a number of so many bytes without a range,
 // a text that 1F ends, a text of so many bytes.
-#[derive(Drop)]
+#[derive(Clone, Copy)]
 pub enum Sub {
     B11(u32, u32),
     B12(u32, u32),
@@ -55,21 +55,21 @@ pub enum Sub {
 }
 
 // Where subfields end, or that they do not stand, which is no refusal by itself: that is the field's, by its Tally.
-#[derive(Drop)]
+#[derive(Clone, Copy)]
 pub enum Stop {
     At(usize),
     Bad,
 }
 
 // How many tuples fill a field, or the number of the first that does not stand, 0 for the head (5).
-#[derive(Drop)]
+#[derive(Clone, Copy)]
 pub enum Tally {
     Whole(usize),
     Short(usize),
 }
 
 // Where the tuple at a place ends, or that there is none.
-#[derive(Drop)]
+#[derive(Clone, Copy)]
 pub enum Tuple {
     Until(usize),
     Over,

@@ -13,7 +13,7 @@ use crate::subfield::subfield_end;
 use crate::{Format, Stop, Sub};
 
 // The rows of a format: those of its head from the first number to the second, those of its tuple from the second to the third.
-#[derive(Drop)]
+#[derive(Clone, Copy)]
 pub struct Shape(pub usize, pub usize, pub usize);
 
 // RCID

@@ -6,7 +6,7 @@ use crate::reader::{here, next, start};
 use skeleton::place::Place;
 
 // A field: its tag, where its body starts and where its closing 1E stands; or that there is none.
-#[derive(Drop)]
+#[derive(Clone, Copy)]
 pub enum Found {
     Nothing,
     Field { tag: u32, start: usize, end: usize },

@@ -7,7 +7,7 @@ use crate::places::{body_here, field_here, next_here};
 use skeleton::place::Place;
 
 // The record, and the place of a directory entry in it.
-#[derive(Drop)]
+#[derive(Clone, Copy)]
 pub struct Fields<'a> {
     pub rec: &'a [u8],
     pub at: usize,

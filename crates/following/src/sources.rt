@@ -10,7 +10,7 @@ use skeleton::directory::Shape;
 use skeleton::place::{Place, find};
 
 // A field by its tag: in the update or in the dataset, from a place up to another; or in neither.
-#[derive(Drop)]
+#[derive(Clone, Copy)]
 pub enum Source {
     Sent(usize, usize),
     Kept(usize, usize),

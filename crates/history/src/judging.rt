@@ -22,14 +22,14 @@ use sorting::limits::{Limits, new_index};
 use version::{Changed, Present};
 
 // No refusal, or its number, record, field and tuple.
-#[derive(Drop)]
+#[derive(Clone, Copy)]
 pub enum Judged {
     Fine,
     Stopped(u8, usize, usize, usize),
 }
 
 // The place of an update record that is refused, and why; the update's end where none is.
-#[derive(Drop)]
+#[derive(Clone, Copy)]
 pub struct Stop {
     pub at: usize,
     pub number: u8,

@@ -14,7 +14,7 @@ use sorting::index::next;
 use version::{Changed, Present};
 
 // Where they end, at the first that is refused or at the update's end, and what the last of them left.
-#[derive(Drop)]
+#[derive(Clone, Copy)]
 pub struct Course {
     pub at: usize,
     pub left: Changed,

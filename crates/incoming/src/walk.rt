@@ -12,7 +12,7 @@ use skeleton::file::record_at;
 use skeleton::leader::Head;
 
 // Where the records after the second begin; or the refusal's number, record, field and tuple.
-#[derive(Drop)]
+#[derive(Clone, Copy)]
 pub enum Came {
     Fit(usize),
     Stopped(u8, usize, usize, usize),

@@ -41,7 +41,7 @@ pub fn key_at(f: &[u8], q: usize) -> u64
 }
 
 // What a quick look at a record finds: its length and its key.
-#[derive(Drop)]
+#[derive(Clone, Copy)]
 pub enum Look {
     At { len: usize, key: u64 },
     Nothing,

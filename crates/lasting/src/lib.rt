@@ -7,7 +7,7 @@ pub mod old;
 pub mod stepping;
 
 // Nothing stays of it; or it names a record that does not stand (11); or it is written, and the next one begins there.
-#[derive(Drop)]
+#[derive(Clone, Copy)]
 pub enum Step {
     Nothing,
     Loose,

@@ -12,7 +12,7 @@ use rules::Answer;
 
 // What a month comes to: the last answer, how many files were applied, and where the chart stands: in the second pool or in the first, and its
 // length there.
-#[derive(Drop)]
+#[derive(Clone, Copy)]
 pub struct Month {
     pub answer: Answer,
     pub applied: usize,

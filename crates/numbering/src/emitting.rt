@@ -14,7 +14,7 @@ use items::item::number;
 use memory::writing::{put_byte, put_little_endian};
 
 // How many items were written, and the index behind them.
-#[derive(Drop)]
+#[derive(Clone, Copy)]
 pub struct Part {
     pub count: usize,
     pub behind: usize,

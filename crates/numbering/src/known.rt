@@ -8,7 +8,7 @@ use crate::back::{parent_before, twins_before};
 use items::item::number;
 
 // ATIX and PAIX of an item, and over how many items they were looked for.
-#[derive(Drop)]
+#[derive(Clone, Copy)]
 pub struct Numbers {
     pub index: usize,
     pub parent: usize,

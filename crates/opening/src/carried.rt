@@ -15,7 +15,7 @@ use skeleton::leader::Head;
 use skeleton::place::{Place, place_at};
 
 // The place behind a record; or the number of its refusal, the record, the field and the tuple.
-#[derive(Drop)]
+#[derive(Clone, Copy)]
 pub enum Opened {
     Behind(usize),
     Stopped(u8, usize, usize, usize),

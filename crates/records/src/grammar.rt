@@ -16,14 +16,14 @@ use skeleton::directory::Shape;
 use skeleton::place::{Place, place_at};
 
 // A record's kind, where its tags are right; or the refusal's number, field and tuple.
-#[derive(Drop)]
+#[derive(Clone, Copy)]
 pub enum Tags {
     Right(Kind),
     Wrong(u8, usize, usize),
 }
 
 // The kind that a tag begins.
-#[derive(Drop)]
+#[derive(Clone, Copy)]
 pub enum Found {
     Is(Kind),
     Nothing,

@@ -11,7 +11,7 @@ use rules::Mode;
 use skeleton::directory::{Shape, tag_at};
 
 // What a record's instructions are, as far as they decide which fields it takes; general: it has none.
-#[derive(Drop)]
+#[derive(Clone, Copy)]
 pub struct Instructions {
     pub general: bool,
     pub mode: Mode,

@@ -5,7 +5,7 @@ ghost use Rattle.records.specs.Rows.{stands_often, row_after};
 
 // The rows that a field leaves for those after it, as a place among them; or that it may not stand, which is no refusal by itself: the caller says
 // 4 at the field.
-#[derive(Drop)]
+#[derive(Clone, Copy)]
 pub enum Rest {
     From(usize),
     NoRow,

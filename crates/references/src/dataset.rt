@@ -16,7 +16,7 @@ use skeleton::file::stated_at;
 use skeleton::leader::Head;
 
 // Whether every record that is named exists; else the record, the field and the tuple of the first loose reference.
-#[derive(Drop)]
+#[derive(Clone, Copy)]
 pub enum Linked {
     All,
     Loose(usize, usize, usize),

@@ -29,7 +29,7 @@ pub mod turn;
 pub mod walk;
 
 // The number of the record with a loose reference (11); or the length of the result and the count of its records behind the third.
-#[derive(Drop)]
+#[derive(Clone, Copy)]
 pub enum Composed {
     Loose(usize),
     Whole { length: usize, count: usize },

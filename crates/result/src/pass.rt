@@ -5,7 +5,7 @@ ghost use Rattle.result.specs.Pass.{Within, pass_after, pass_from};
 use lasting::Step;
 
 // Where the result's next record begins, how many were made behind the third, and the place of the next record to look at.
-#[derive(Drop)]
+#[derive(Clone, Copy)]
 pub struct Progress {
     pub to: usize,
     pub made: usize,
@@ -13,7 +13,7 @@ pub struct Progress {
 }
 
 // The number of the result's record with a loose reference (11); or how far the pass went.
-#[derive(Drop)]
+#[derive(Clone, Copy)]
 pub enum Pass {
     Loose(usize),
     Went(Progress),

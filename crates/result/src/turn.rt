@@ -29,7 +29,7 @@ fn ends(old: bool, key: u64, q: u64) -> bool
 }
 
 // A record that the walk has come to: where it begins, its length and shape, and the number of its key.
-#[derive(Drop)]
+#[derive(Clone, Copy)]
 struct Found {
     at: usize,
     len: usize,

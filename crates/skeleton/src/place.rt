@@ -6,7 +6,7 @@ ghost use Rattle.skeleton.specs.Shape.{Bounded};
 use crate::directory::{Entry, Shape, entry_at};
 
 // A field: its tag, where its body starts and where its closing 1E stands, and the place of the next entry; or that there is none.
-#[derive(Drop)]
+#[derive(Clone, Copy)]
 pub enum Place {
     At {
         tag: u32,

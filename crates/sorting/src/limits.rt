@@ -9,7 +9,7 @@ use crate::index::lay;
 
 // Where the dataset's index begins, and where it ends and the update's begins, which goes to the output's end. A dry pass over the result's records writes
 // none of them; a sure one knows that all that they name stands.
-#[derive(Drop)]
+#[derive(Clone, Copy)]
 pub struct Limits {
     pub old: usize,
     pub new: usize,

@@ -12,7 +12,7 @@ use book::book::{page, sort};
 use fields::le16;
 
 // How many tuples a book took, and the offset behind them.
-#[derive(Drop)]
+#[derive(Clone, Copy)]
 pub struct Block {
     pub count: usize,
     pub behind: usize,

@@ -8,7 +8,7 @@ use crate::due::surely_due;
 use crate::{siblings, tuple};
 
 // Where a walk over entries ends: the next tuple's offset and its place from 1, or the place of the tuple that breaks the rule (6).
-#[derive(Drop)]
+#[derive(Clone, Copy)]
 pub enum Walk {
     Bad(usize),
     Upto(usize, usize),

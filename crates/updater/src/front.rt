@@ -19,7 +19,7 @@ use writing::measuring::written_length;
 use writing::writer::write_record;
 
 // A record of a file: from where up to where it runs, and the shape of its directory.
-#[derive(Drop)]
+#[derive(Clone, Copy)]
 pub struct Piece {
     pub start: usize,
     pub end: usize,
@@ -27,7 +27,7 @@ pub struct Piece {
 }
 
 // How long the result's general record is; or the number of its refusal.
-#[derive(Drop)]
+#[derive(Clone, Copy)]
 pub enum Follows {
     Long(usize),
     Refused(u8),

@@ -6,7 +6,7 @@ pub mod areas;
 
 // What is kept of a version by value: its identifier, where the eight bytes of its FOID stand, how many items each area of the workspace holds, and
 // the sizes that are no multiples of these counts: the bytes of the attributes' tuples, and those of the INAS fields, the 1E of each included.
-#[derive(Drop)]
+#[derive(Clone, Copy)]
 pub struct Version {
     pub kind: Kind,
     pub rcid: u32,
@@ -24,14 +24,14 @@ pub struct Version {
 }
 
 // What stands under a key: nothing, or a record that the workspace holds.
-#[derive(Drop)]
+#[derive(Clone, Copy)]
 pub enum Present {
     Absent,
     Here(Version),
 }
 
 // What an update record makes of it: the number, field and tuple of a refusal, or what stands there then.
-#[derive(Drop)]
+#[derive(Clone, Copy)]
 pub enum Changed {
     Refused(u8, usize, usize),
     Now(Present),

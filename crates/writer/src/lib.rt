@@ -20,7 +20,7 @@ use writing::measuring::written_length;
 use writing::writer::write_record;
 
 // How long a file is when it is written; or the number of the first record that is too long then (12).
-#[derive(Drop)]
+#[derive(Clone, Copy)]
 pub enum Measured {
     Total(usize),
     TooLong(usize),

@@ -9,7 +9,7 @@ use skeleton::directory::Shape;
 use skeleton::place::{Place, place_at};
 
 // How many bytes lists take over which one goes on, and the place of the entry behind them.
-#[derive(Drop)]
+#[derive(Clone, Copy)]
 pub struct Run {
     pub size: usize,
     pub after: usize,
@@ -17,7 +17,7 @@ pub struct Run {
 
 // A field that is written: its tag, its first body, the size of its bodies together, the place from which on further bodies join it, and the
 // place of the entry behind them; or that there is none.
-#[derive(Drop)]
+#[derive(Clone, Copy)]
 pub enum Written {
     At {
         tag: u32,

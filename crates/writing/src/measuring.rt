@@ -10,7 +10,7 @@ use crate::joining::{Written, next_written};
 use skeleton::directory::Shape;
 
 // How many fields are written, and how many bytes they have, the 1E of each included.
-#[derive(Drop)]
+#[derive(Clone, Copy)]
 pub struct Sum {
     pub fields: usize,
     pub bytes: usize,

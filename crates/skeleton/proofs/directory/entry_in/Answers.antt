@@ -1,0 +1,16 @@
+use Rattle.skeleton.proofs.DirectoryLaws.{entry-in-ways, entry_field}
+use Rattle.skeleton.proofs.directory.entry_in.Goals as goal
+
+pub returns-in_default : goal.returns-in_default
+returns-in_default c = search entry-in-ways
+
+pub returns-in_default-number_at : goal.returns-in_default-number_at
+returns-in_default-number_at c = search entry-in-ways
+
+pub returns : goal.returns
+returns c = entry_field
+    _ _ _ _ _
+    _ c.number_at.ensures
+    _ c.in-Value.is
+    _ c.number_at-2.ensures
+    _ _ c.in-Value-number_at.is c.tag_at.ensures

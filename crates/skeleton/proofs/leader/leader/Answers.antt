@@ -1,0 +1,11 @@
+use Rattle.skeleton.proofs.LeaderLaws.{leader-ways}
+use Rattle.skeleton.proofs.leader.leader.Goals as goal
+
+pub returns-then-s-lt24 : goal.returns-then-s-lt24
+returns-then-s-lt24 c = search leader-ways
+
+pub returns-then-not-leads : goal.returns-then-not-leads
+returns-then-not-leads c = search leader-ways
+
+pub returns : goal.returns
+returns c = search leader-ways
