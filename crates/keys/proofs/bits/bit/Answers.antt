@@ -1,0 +1,5 @@
+use Rattle.keys.proofs.BitLaws.{bit-ways}
+use Rattle.keys.proofs.bits.bit.Goals as goal
+
+pub returns : goal.returns
+returns c = search bit-ways

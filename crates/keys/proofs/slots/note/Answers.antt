@@ -1,0 +1,8 @@
+use Rattle.keys.proofs.SlotLaws.{note-ways}
+use Rattle.keys.proofs.slots.note.Goals as goal
+
+pub returns-then-s-lt262144 : goal.returns-then-s-lt262144
+returns-then-s-lt262144 c = search note-ways
+
+pub returns-else-s-lt262144 : goal.returns-else-s-lt262144
+returns-else-s-lt262144 c = search note-ways
