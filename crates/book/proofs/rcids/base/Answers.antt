@@ -1,0 +1,9 @@
+use Rattle.book.proofs.RcidLaws.{mesh-ways}
+use native.Mathlib.Omega.{arith}
+use Rattle.book.proofs.rcids.base.Goals as goal
+
+pub returns-then-n-lt32768 : goal.returns-then-n-lt32768
+returns-then-n-lt32768 c = (search mesh-ways, omega arith, omega arith)
+
+pub returns : goal.returns
+returns c = (search mesh-ways, omega arith, omega arith)

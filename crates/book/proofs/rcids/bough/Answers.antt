@@ -1,0 +1,6 @@
+use Rattle.book.proofs.RcidLaws.{bough-ways}
+use native.Mathlib.Omega.{arith}
+use Rattle.book.proofs.rcids.bough.Goals as goal
+
+pub returns : goal.returns
+returns c = (search bough-ways, omega arith)

@@ -1,0 +1,8 @@
+use Rattle.book.proofs.RcidLaws.{enter-ways}
+use Rattle.book.proofs.rcids.enter.Goals as goal
+
+pub returns-then-j-gt0 : goal.returns-then-j-gt0
+returns-then-j-gt0 c = search enter-ways
+
+pub returns-else-j-gt0 : goal.returns-else-j-gt0
+returns-else-j-gt0 c = search enter-ways

@@ -1,0 +1,5 @@
+use Rattle.writing.proofs.MeasuringLaws.{length-ways}
+use Rattle.writing.proofs.measuring.written_length.Goals as goal
+
+pub returns : goal.returns
+returns c = search length-ways

@@ -1,0 +1,10 @@
+use Prim.Native.Nat.{◌-◌}
+use lib.ListN.{length}
+use Rattle.writing.proofs.WriterLaws.{FieldsAt}
+use Rattle.writing.proofs.writer.put_fields.Given as goal
+
+abbrev pub invariant-loop-tag : goal.invariant-loop-tag
+invariant-loop-tag l = FieldsAt l.joins l.r l.h l.initial.out l.at l.out l.q l.p
+
+abbrev pub decreases-loop-tag : goal.decreases-loop-tag
+decreases-loop-tag l = length l.r - l.q
