@@ -92,7 +92,8 @@ module _ (f : List ℕ) (p len k : ℕ) (s : Sound f p) (e : look_at f p ≡ At 
 gone_among : (f : List ℕ) (key p : ℕ) (ks : List ℕ) → listed key ks ≡ false → site_among f key p ks ≡ length f
 unfolding site_among
 gone_among f key p [] e = refl
-gone_among f key p (k ∷ ks) e = rw (ne_eqb k key (not_first key k ks e)) (gone_among f key _ ks (not_later key k ks e))
+gone_among f key p (k ∷ ks) e =
+    rw (ne_eqb k key (not_first key k ks e)) (gone_among f key (p + length_by (look_at f p)) ks (not_later key k ks e))
 
 pub site_gone : (f : List ℕ) (p key : ℕ) → has_from f p key ≡ false → site_of f p key ≡ length f
 unfolding site_of has_from
