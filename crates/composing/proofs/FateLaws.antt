@@ -29,12 +29,24 @@ module _ (P : Parts) where
   goes_stands k insert none (some s) (brings z) = refl
   goes_stands k delete (some r) none takes = refl
   goes_stands k modify (some r) (some s) (alters z) = refl
+  goes_stands k insert none none x3 = elim x3 [ ]
+  goes_stands k insert (some r) p x3 = elim x3 [ ]
+  goes_stands k delete none p x3 = elim x3 [ ]
+  goes_stands k delete (some r) (some s) x5 = elim x5 [ ]
+  goes_stands k modify none p x4 = elim x4 [ ]
+  goes_stands k modify (some r) none x6 = elim x6 [ ]
 
   -- has the key
   goes_under : (k : List ℕ) (a : Act) (o p : Option Rec) → Goes P k a o p → Under P k p
   goes_under k insert none (some s) (brings z) = z
   goes_under k delete (some r) none takes = tt
   goes_under k modify (some r) (some s) (alters z) = z
+  goes_under k insert none none x3 = elim x3 [ ]
+  goes_under k insert (some r) p x3 = elim x3 [ ]
+  goes_under k delete none p x3 = elim x3 [ ]
+  goes_under k delete (some r) (some s) x5 = elim x5 [ ]
+  goes_under k modify none p x4 = elim x4 [ ]
+  goes_under k modify (some r) none x6 = elim x6 [ ]
 
   -- an update record that names another key, and one that names this
   pub fate_skip : (k : List ℕ) (u : Upd) (us : List Upd) (b : Bool) → same (names u) k ≡ false → fate P k (u ∷ us) b ≡ fate P k us b

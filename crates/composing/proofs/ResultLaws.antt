@@ -40,6 +40,12 @@ module _ (P : Parts) where
   goes_insert k insert none (some s) (brings z) e = (refl, refl)
   goes_insert k delete (some r) none takes e = absurd (true≢false (sym e))
   goes_insert k modify (some r) (some s) (alters z) e = absurd (true≢false (sym e))
+  goes_insert k insert none none x6 e = elim x6 [ ]
+  goes_insert k insert (some r) p x5 e = elim x5 [ ]
+  goes_insert k delete none p x5 e = elim x5 [ ]
+  goes_insert k delete (some r) (some s) x8 e = elim x8 [ ]
+  goes_insert k modify none p x6 e = elim x6 [ ]
+  goes_insert k modify (some r) none x9 e = elim x9 [ ]
 
 module _ (P : Parts) (L : Laws P) where
   open P use {Rec, Upd, key, act, names, change}
@@ -87,6 +93,12 @@ module _ (P : Parts) (L : Laws P) where
         after k insert none (some s) (brings z) = z
         after k delete (some r) none takes = tt
         after k modify (some r) (some s) (alters z) = z
+        after k insert none none x3 = elim x3 [ ]
+        after k insert (some r) p x3 = elim x3 [ ]
+        after k delete none p x3 = elim x3 [ ]
+        after k delete (some r) (some s) x5 = elim x5 [ ]
+        after k modify none p x4 = elim x4 [ ]
+        after k modify (some r) none x6 = elim x6 [ ]
 
   -- what each record has (Q), and what an accepted update record that has W leaves of a record that has Q, the record at the end of a history has
   pub history_has : (Q : Rec → Type 0) (W : Upd → Type 0) → ((u : Upd) (o : Option Rec) (s : Rec) → W u → Under P (names u) o → Has P Q o → change u o ≡ ok (some s) → Q s)
@@ -104,6 +116,12 @@ module _ (P : Parts) (L : Laws P) where
       after insert none (some s) (brings z) = z
       after delete (some r) none takes = tt
       after modify (some r) (some s) (alters z) = z
+      after insert none none x7 = elim x7 [ ]
+      after insert (some r) q x7 = elim x7 [ ]
+      after delete none q x7 = elim x7 [ ]
+      after delete (some r) (some s) x9 = elim x9 [ ]
+      after modify none q x8 = elim x8 [ ]
+      after modify (some r) none x10 = elim x10 [ ]
 
       one : (q : Option Rec) → change u o ≡ ok q → Under P (names u) o → Has P Q q
       one none x j = tt

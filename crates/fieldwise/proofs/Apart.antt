@@ -48,7 +48,7 @@ slice_of d = slice_val d.rec.ref_ptr (length d.rec.now)
 
 -- what it owns
 abbrev pub OwnOf : Lft → Fields → Fml
-OwnOf κ d = (B (κ, tt)).own d (T'.lowered d ∷ [])
+OwnOf κ d = (B (κ, tt)).own_val d (T'.lowered d ∷ [])
 
 module _ {M : Type 1} {𝓤 : Ura M} (𝓛 : Logic 𝓤) (κ : Lft) (d : Fields) where
   pub twice : ent 𝓤 (sem 𝓛 (OwnOf κ d)) (sep 𝓤 (sem 𝓛 (OwnOf κ d)) (sem 𝓛 (OwnOf κ d)))

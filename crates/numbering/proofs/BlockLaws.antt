@@ -40,8 +40,13 @@ module _ (w : List ℕ) (d c : ℕ) where
   kin_twins zero = twins_start w d c
   kin_twins (suc i) =
       ⊎_elim
-      (λ (h : depth_of w i < d). rw (parent_over_less w d i h) (twins_over_less w d c i h ∙ sym (kin_none (suc i) (suc i) (omega arith))))
-      (λ (h : d ≤ depth_of w i). rw (parent_over w d i h) (twins_over w d c i h ∙ ap (λ (x : ℕ). twin_at w i d c + x) (kin_twins i) ∙ sym (kin_here (parent_before w d i) i refl)))
+      (λ (h : depth_of w i < d).
+      twins_over_less w d c i h ∙ sym (kin_none (suc i) (suc i) (omega arith)) ∙ sym (ap (λ (p : ℕ). kin w d c p (suc i)) (parent_over_less w d i h)))
+      (λ (h : d ≤ depth_of w i).
+      twins_over w d c i h
+      ∙ ap (λ (x : ℕ). twin_at w i d c + x) (kin_twins i)
+      ∙ sym (kin_here (parent_before w d i) i refl)
+      ∙ sym (ap (λ (p : ℕ). kin w d c p (suc i)) (parent_over w d i h)))
       (lt_or_le (depth_of w i) d)
 
   -- one item more, which is of them

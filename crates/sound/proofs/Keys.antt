@@ -58,6 +58,7 @@ pub within_join : (a b : List (List ℕ)) {c d : List (List ℕ)} → Within a b
 within_join [] [] w_none v = v
 within_join (x ∷ a) (y ∷ b) (w_keep w) v = w_keep (within_join a b w v)
 within_join a (y ∷ b) (w_skip w) v = w_skip (within_join a b w v)
+within_join (x ∷ a) [] {c = c} {d = d} x5 v = elim x5 [ ]
 
 -- ---- one more, one fewer
 
