@@ -1,0 +1,14 @@
+use Prim.Native.Nat.{◌-◌}
+use mathlib.Core.Path.{◌≡◌}
+use mathlib.Core.Bool.{true, false}
+use lib.ListN.{length}
+use Rattle.skeleton.specs.Place.{fields_at}
+use Rattle.contents.specs.Fit.{all_fit}
+use Rattle.contents.specs.Codes.{codes_in}
+use Rattle.contents.proofs.codes.first.Given as goal
+
+abbrev pub invariant-loop-tag : goal.invariant-loop-tag
+invariant-loop-tag l = (all_fit false (fields_at l.r l.h l.q) ≡ true) × (codes_in (fields_at l.r l.h l.p) ≡ codes_in (fields_at l.r l.h l.q))
+
+abbrev pub decreases-loop-tag : goal.decreases-loop-tag
+decreases-loop-tag l = length l.r - l.q

@@ -1,0 +1,11 @@
+use Rattle.contents.proofs.ReaderLaws.{reader-ways}
+use Rattle.contents.proofs.identifier.code.Goals as goal
+
+pub le16-requires : goal.le16-requires
+le16-requires c = search reader-ways
+
+pub returns-then-is_coded : goal.returns-then-is_coded
+returns-then-is_coded c = search reader-ways
+
+pub returns : goal.returns
+returns c = search reader-ways

@@ -1,0 +1,8 @@
+use Rattle.contents.proofs.ReaderLaws.{reader-ways}
+use Rattle.contents.proofs.identifier.rver.Goals as goal
+
+pub le16-requires : goal.le16-requires
+le16-requires c = search reader-ways
+
+pub returns : goal.returns
+returns c = search reader-ways

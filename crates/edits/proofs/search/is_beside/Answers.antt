@@ -1,0 +1,5 @@
+use mathlib.Core.Path.{◌∙◌}
+use Rattle.edits.proofs.search.is_beside.Goals as goal
+
+pub returns-then-full : goal.returns-then-full
+returns-then-full c = c.is_deeper.ensures ∙ rw c.if-full.true

@@ -1,0 +1,65 @@
+use mathlib.Core.Path.{refl}
+use mathlib.Core.Logic.{⊎_elim}
+use Prim.Native.Nat.{◌+◌, ◌≤◌, ◌<◌}
+use Rattle.items.specs.Items.{depth_of}
+use Rattle.edits.specs.Walks.{Passed}
+use Rattle.edits.proofs.WalkLaws.{passed_item, going_same, going_mark, going_found, going_out, going_end, walked_ended}
+use native.Mathlib.Omega.{arith}
+use Rattle.edits.proofs.walking.walk.Goals as goal
+
+pub past_blocks-b-requires : goal.past_blocks-b-requires
+past_blocks-b-requires c = omega arith
+
+pub loop-at-init : goal.loop-at-init
+loop-at-init c = c.past_blocks-b.ensures
+
+pub overflow_mul-at : goal.overflow_mul-at
+overflow_mul-at c = omega arith
+
+pub number-requires : goal.number-requires
+number-requires c = omega arith
+
+pub returns-then-number-depth : goal.returns-then-number-depth
+returns-then-number-depth c = let a = c.args in
+    let l = c.loop-at in
+    let out : depth_of a.w.now l.at < a.depth = omega (arith, c.number.ensures.0) in
+    walked_ended _ l.invariant (going_out l.invariant c.loop-at-test.true out)
+
+pub twin-t-requires : goal.twin-t-requires
+twin-t-requires c = omega arith
+
+pub overflow_add-count : goal.overflow_add-count
+overflow_add-count c = omega arith
+
+pub returns-then-count-t : goal.returns-then-count-t
+returns-then-count-t c = let a = c.args in
+    let l = c.loop-at in
+    let in-run : a.depth ≤ depth_of a.w.now l.at = omega (arith, c.number.ensures.0) in
+    let t = c.twin-t.ensures.0 in
+    let found = going_found l.invariant c.loop-at-test.true in-run (rw (← t) c.if-count-t.true) in
+    record { most = omega arith; all = found.2; found = λ e. (found.0, found.1); ended = λ ne. absurd (ne refl); goes = λ ne. absurd (ne refl) }
+
+pub overflow_add-count-in-loop-at : goal.overflow_add-count-in-loop-at
+overflow_add-count-in-loop-at c = omega arith
+
+pub overflow_add-at : goal.overflow_add-at
+overflow_add-at c = omega arith
+
+pub loop-at-smaller : goal.loop-at-smaller
+loop-at-smaller c = omega arith
+
+pub loop-at-preserved : goal.loop-at-preserved
+loop-at-preserved c = let a = c.args in
+    let l = c.loop-at in
+    let t = c.twin-t in
+    let in-run : a.depth ≤ depth_of a.w.now l.at = omega (arith, c.number.ensures.0) in
+    let item = passed_item a.w.now a.n a.depth a.code l.at c.loop-at-test.true in-run in
+    let over : Passed a.w.now a.n a.depth a.code l.at (l.at + 1) t.result = rw t.ensures.0 item in
+    let less : l.count + t.result < a.k = omega (arith, c.if-count-t.false, t.ensures.1, l.invariant.less) in
+    ⊎_elim
+    (λ x. rw (x.1, x.2) (going_mark (l.at + 1) t.result l.invariant over x.0.taken less))
+    (λ x. rw (x.1, x.2) (going_same (l.at + 1) t.result l.invariant over x.0.left))
+    c.if-t-gt0.branch
+
+pub returns : goal.returns
+returns c = let l = c.loop-at in walked_ended _ l.invariant (going_end l.invariant c.loop-at-test.false)

@@ -1,0 +1,32 @@
+use Rattle.numbering.proofs.BackLaws.{twins-ways}
+use Rattle.numbering.proofs.back.twins_before.Goals as goal
+
+pub loop-j-init : goal.loop-j-init
+loop-j-init c = search twins-ways
+
+pub overflow_sub-k : goal.overflow_sub-k
+overflow_sub-k c = search twins-ways
+
+pub overflow_mul-k : goal.overflow_mul-k
+overflow_mul-k c = search twins-ways
+
+pub number-requires : goal.number-requires
+number-requires c = search twins-ways
+
+pub returns-then-number-depth : goal.returns-then-number-depth
+returns-then-number-depth c = search twins-ways
+
+pub twin-t-requires : goal.twin-t-requires
+twin-t-requires c = search twins-ways
+
+pub overflow_add-t : goal.overflow_add-t
+overflow_add-t c = search twins-ways
+
+pub loop-j-smaller : goal.loop-j-smaller
+loop-j-smaller c = search twins-ways
+
+pub loop-j-preserved : goal.loop-j-preserved
+loop-j-preserved c = search twins-ways
+
+pub returns : goal.returns
+returns c = search twins-ways

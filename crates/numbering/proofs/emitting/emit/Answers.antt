@@ -1,0 +1,16 @@
+use Rattle.numbering.proofs.KnownLaws.{known_start}
+use Rattle.numbering.proofs.EmittingLaws.{emit-ways}
+use native.Mathlib.Omega.{arith}
+use Rattle.numbering.proofs.emitting.emit.Goals as goal
+
+pub emit_items-begun-requires : goal.emit_items-begun-requires
+emit_items-begun-requires c = record { n_in_bounds = (omega arith, omega arith, known_start _); n_in_bounds_2 = search emit-ways }
+
+pub returns-then-n-x : goal.returns-then-n-x
+returns-then-n-x c = search emit-ways
+
+pub emit_blocks-requires : goal.emit_blocks-requires
+emit_blocks-requires c = record { x_le_n = (omega arith, omega arith, omega arith); n_in_bounds = search emit-ways }
+
+pub returns : goal.returns
+returns c = search emit-ways

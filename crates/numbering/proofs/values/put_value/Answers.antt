@@ -1,0 +1,14 @@
+use Rattle.numbering.proofs.ValueLaws.{value-ways}
+use Rattle.numbering.proofs.values.put_value.Goals as goal
+
+pub put_text-requires : goal.put_text-requires
+put_text-requires c = search value-ways
+
+pub returns-then-w-i-eq0 : goal.returns-then-w-i-eq0
+returns-then-w-i-eq0 c = search value-ways
+
+pub put_text-requires-2 : goal.put_text-requires-2
+put_text-requires-2 c = search value-ways
+
+pub returns : goal.returns
+returns c = search value-ways

@@ -1,0 +1,8 @@
+use Rattle.numbering.proofs.ValueLaws.{value-ways}
+use Rattle.numbering.proofs.values.value_length.Goals as goal
+
+pub returns-then-w-i-eq0 : goal.returns-then-w-i-eq0
+returns-then-w-i-eq0 c = search value-ways
+
+pub returns : goal.returns
+returns c = search value-ways

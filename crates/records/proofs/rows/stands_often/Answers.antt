@@ -1,0 +1,11 @@
+use Rattle.records.proofs.RowsLaws.{often-ways}
+use Rattle.records.proofs.rows.stands_often.Goals as goal
+
+pub returns-then-tag-eq1229865299 : goal.returns-then-tag-eq1229865299
+returns-then-tag-eq1229865299 c = search often-ways
+
+pub returns-then-tag-eq1127369036 : goal.returns-then-tag-eq1127369036
+returns-then-tag-eq1127369036 c = search often-ways
+
+pub returns : goal.returns
+returns c = search often-ways

@@ -1,0 +1,14 @@
+use Rattle.records.proofs.TaggedLaws.{coui-ways}
+use Rattle.records.proofs.tagged.coui_byte.Goals as goal
+
+pub bounds-r-start : goal.bounds-r-start
+bounds-r-start c = search coui-ways
+
+pub returns-then-start-end : goal.returns-then-start-end
+returns-then-start-end c = search coui-ways
+
+pub returns-else-start-end : goal.returns-else-start-end
+returns-else-start-end c = search coui-ways
+
+pub returns-in-Done : goal.returns-in-Done
+returns-in-Done c = search coui-ways

@@ -1,0 +1,15 @@
+use Rattle.tree.proofs.DueLaws.{gather-turn}
+use native.Mathlib.Omega.{arith}
+use Rattle.tree.proofs.due.many_fall.Goals as goal
+
+pub number-code-requires : goal.number-code-requires
+number-code-requires c = search gather-turn
+
+pub behind-at-requires : goal.behind-at-requires
+behind-at-requires c = search gather-turn
+
+pub loop-at-smaller : goal.loop-at-smaller
+loop-at-smaller c = search gather-turn
+
+pub loop-at-preserved : goal.loop-at-preserved
+loop-at-preserved c = (search gather-turn, omega arith)
