@@ -1,0 +1,5 @@
+use Rattle.following.proofs.WholeLaws.{whole-ways}
+use Rattle.following.proofs.merging.merged_length.Goals as goal
+
+pub returns : goal.returns
+returns c = search whole-ways
