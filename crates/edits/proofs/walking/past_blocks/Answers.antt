@@ -1,9 +1,9 @@
-use mathlib.Core.Logic.{⊎_elim}
 use Prim.Native.Nat.{◌+◌}
 use Rattle.edits.specs.Walks.{Passed}
 use Rattle.edits.proofs.WalkLaws.{passed_block, going_start, going_same, going_mark}
 use native.Mathlib.Omega.{arith}
 use Rattle.edits.proofs.walking.past_blocks.Goals as goal
+use Rattle.edits.proofs.walking.past_blocks.Goals.{then-t-gt0, else-t-gt0}
 
 pub loop-at-init : goal.loop-at-init
 loop-at-init c = going_start _ _ _ _ _ _ (omega arith) (omega arith)
@@ -36,10 +36,10 @@ loop-at-preserved c = let a = c.args in
     let less = c.if-k-count.false in
     let block = passed_block 64 a.w.now a.n a.depth a.code l.at (omega arith) (omega (arith, t.ensures.0)) in
     let over : Passed a.w.now a.n a.depth a.code l.at (l.at + 64) t.result = rw t.ensures.0 block in
-    ⊎_elim
-    (λ x. rw (x.1, x.2) (going_mark (l.at + 64) t.result l.invariant over x.0.taken less))
-    (λ x. rw (x.1, x.2) (going_same (l.at + 64) t.result l.invariant over x.0.left))
-    c.if-t-gt0.branch
+    elim c.if-t-gt0.branch [
+      then-t-gt0 w ↦ rw (w.mark-is, w.nth-is) (going_mark (l.at + 64) t.result l.invariant over w.if-t-gt0.true less)
+    | else-t-gt0 w ↦ rw (w.mark-is, w.nth-is) (going_same (l.at + 64) t.result l.invariant over w.if-t-gt0.false)
+    ]
 
 pub returns : goal.returns
 returns c = c.loop-at.invariant

@@ -1,11 +1,11 @@
 use mathlib.Core.Path.{refl}
-use mathlib.Core.Logic.{⊎_elim}
 use Prim.Native.Nat.{◌+◌, ◌≤◌, ◌<◌}
 use Rattle.items.specs.Items.{depth_of}
 use Rattle.edits.specs.Walks.{Passed}
 use Rattle.edits.proofs.WalkLaws.{passed_item, going_same, going_mark, going_found, going_out, going_end, walked_ended}
 use native.Mathlib.Omega.{arith}
 use Rattle.edits.proofs.walking.walk.Goals as goal
+use Rattle.edits.proofs.walking.walk.Goals.{then-t-gt0, else-t-gt0}
 
 pub past_blocks-b-requires : goal.past_blocks-b-requires
 past_blocks-b-requires c = omega arith
@@ -56,10 +56,10 @@ loop-at-preserved c = let a = c.args in
     let item = passed_item a.w.now a.n a.depth a.code l.at c.loop-at-test.true in-run in
     let over : Passed a.w.now a.n a.depth a.code l.at (l.at + 1) t.result = rw t.ensures.0 item in
     let less : l.count + t.result < a.k = omega (arith, c.if-count-t.false, t.ensures.1, l.invariant.less) in
-    ⊎_elim
-    (λ x. rw (x.1, x.2) (going_mark (l.at + 1) t.result l.invariant over x.0.taken less))
-    (λ x. rw (x.1, x.2) (going_same (l.at + 1) t.result l.invariant over x.0.left))
-    c.if-t-gt0.branch
+    elim c.if-t-gt0.branch [
+      then-t-gt0 w ↦ rw (w.mark-is, w.nth-is) (going_mark (l.at + 1) t.result l.invariant over w.if-t-gt0.true less)
+    | else-t-gt0 w ↦ rw (w.mark-is, w.nth-is) (going_same (l.at + 1) t.result l.invariant over w.if-t-gt0.false)
+    ]
 
 pub returns : goal.returns
 returns c = let l = c.loop-at in walked_ended _ l.invariant (going_end l.invariant c.loop-at-test.false)

@@ -1,0 +1,22 @@
+use mathlib.Core.Path.{refl}
+use Rattle.references.proofs.VouchLaws.{all_start, all-turn}
+use borrow.Author.Rules.{rules}
+use Rattle.references.proofs.vouching.vouch_all.Goals as goal
+
+pub loop-p-init : goal.loop-p-init
+loop-p-init c = (refl, all_start _ _ (search rules), search rules)
+
+pub look_at-requires : goal.look_at-requires
+look_at-requires c = search all-turn
+
+pub enter-requires : goal.enter-requires
+enter-requires c = search all-turn
+
+pub overflow_add-p : goal.overflow_add-p
+overflow_add-p c = search all-turn
+
+pub loop-p-smaller : goal.loop-p-smaller
+loop-p-smaller c = search all-turn
+
+pub loop-p-preserved : goal.loop-p-preserved
+loop-p-preserved c = (search rules, search all-turn, search all-turn)
