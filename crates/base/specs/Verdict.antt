@@ -1,6 +1,5 @@
 -- What code answers of a test.
 use Rattle.base.specs.Check.{Check, ok, no}
-use Rattle.base.specs.declared.Fault.{Fault}
 use Rattle.base.specs.declared.Verdict.{Verdict}
 use Rattle.base.specs.declared.Verdict.TheVariants.{Passed, Refused}
 

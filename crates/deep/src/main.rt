@@ -3,7 +3,7 @@
 #![tactic(auto)]
 ghost use Rattle.std.specs.Prelude.{◌+◌, ◌*◌, ◌≤◌, ◌<◌, length};
 
-use libc::STDOUT_FILENO;
+use std::io;
 
 // Tuple k, from 0: code 21, this index and parent, insert, no value.
 fn put_tuple(b: &mut [u8], k: usize, index: usize, parent: usize)
@@ -61,26 +61,24 @@ fn acts_of(b: &[u8]) -> usize {
 }
 
 // A line for the first n bytes: what the field is, what the whole rule says of it, and what the test of parents says.
-fn show(name: &[u8], b: &[u8], n: usize)
+fn show<R: Print>(rt: &R, name: &str, b: &[u8], n: usize) -> io::Result<()>
     requires { n ≤ length b.now }
 {
     let whole = tree_of(&b[..n]);
     let parents = acts_of(&b[..n]);
-    io::write_all(STDOUT_FILENO, name);
-    io::print_decimal(STDOUT_FILENO, whole as u64);
-    io::write_all(STDOUT_FILENO, b" ");
-    io::print_decimal(STDOUT_FILENO, parents as u64);
-    io::write_all(STDOUT_FILENO, b"\n");
+    println!(rt; "{name}{whole} {parents}")?;
+    Ok(())
 }
 
-fn main() {
+fn main(rt: HostRuntime) -> io::Result<()> {
     let mut b = [0u8; 100000];
     put_nested(&mut b, 12499);
-    show(b"nested ", &b, 99992);
+    show(&rt, "nested ", &b, 99992)?;
     put_tuple(&mut b, 12498, 2, 12498);
-    show(b"nested, last index wrong ", &b, 99992);
+    show(&rt, "nested, last index wrong ", &b, 99992)?;
     put_siblings(&mut b, 12499);
-    show(b"siblings ", &b, 99992);
+    show(&rt, "siblings ", &b, 99992)?;
     put_tuple(&mut b, 12498, 12498, 0);
-    show(b"siblings, last index wrong ", &b, 99992);
+    show(&rt, "siblings, last index wrong ", &b, 99992)?;
+    Ok(())
 }

@@ -1,11 +1,30 @@
 // Prints the listing of standard input: one byte more than 65,536 is read, which shows that the input is too long.
 #![tactic(auto)]
-use libc::{STDIN_FILENO, STDOUT_FILENO};
+ghost use Rattle.std.specs.Prelude.{◌≡◌, ◌≤◌, length, IfOk};
 
-fn main() {
+use std::io;
+use std::io::{Read, Write};
+
+// Reads until the buffer is full or the input ends; how many bytes it read.
+fn read_full<I: Read>(input: &mut I, buf: &mut [u8]) -> io::Result<usize>
+    ensures { IfOk result (λ n. n ≤ length buf.new) }
+{
+    let mut n = 0;
+    while n < buf.len() {
+        let k = input.read(&mut buf[n..])?;
+        if k == 0 {
+            return Ok(n);
+        }
+        n += k;
+    }
+    Ok(n)
+}
+
+fn main(rt: HostRuntime) -> io::Result<()> {
     let mut input = [0u8; 65537];
     let mut out = [0u8; 327736];
-    let n = io::read_full(STDIN_FILENO, &mut input);
+    let n = read_full(&mut rt.stdin(), &mut input)?;
     let m = listing::list(&input[..n], &mut out);
-    io::write_all(STDOUT_FILENO, &out[..m]);
+    rt.stdout().write_all(&out[..m])?;
+    Ok(())
 }

@@ -1,11 +1,9 @@
 use mathlib.Core.Path.{sym, ap}
 use Prim.Native.Nat.{ℕ}
-use native.Mathlib.Omega.{arith}
 use lib.ListN.{get_or}
 use Rattle.fields.specs.Table.{head_of, tuple_of}
 use Rattle.fields.specs.Rows.{table}
 use Rattle.fields.specs.declared.Sub.TheVariants.{Text}
-use Rattle.fields.proofs.RowLaws.{beyond}
 use Rattle.fields.proofs.row.general_row.Goals as goal
 
 pub returns-in-0 : goal.returns-in-0

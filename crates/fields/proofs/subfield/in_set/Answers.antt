@@ -12,16 +12,16 @@ returns-then-v-s c = simp (ne_eqb _ _ c.if-v-p.false, ne_eqb _ _ c.if-v-q.false,
 
 pub returns-then-v-t : goal.returns-then-v-t
 returns-then-v-t c = simp (
-      ne_eqb _ _ c.if-v-p.false,
-      ne_eqb _ _ c.if-v-q.false,
-      ne_eqb _ _ c.if-v-s.false,
-      eq-eqb _ _ c.if-v-t.true,
-    )
+  ne_eqb _ _ c.if-v-p.false,
+  ne_eqb _ _ c.if-v-q.false,
+  ne_eqb _ _ c.if-v-s.false,
+  eq-eqb _ _ c.if-v-t.true,
+)
 
 pub returns : goal.returns
 returns c = simp (
-      ne_eqb _ _ c.if-v-p.false,
-      ne_eqb _ _ c.if-v-q.false,
-      ne_eqb _ _ c.if-v-s.false,
-      ne_eqb _ _ c.if-v-t.false,
-    )
+  ne_eqb _ _ c.if-v-p.false,
+  ne_eqb _ _ c.if-v-q.false,
+  ne_eqb _ _ c.if-v-s.false,
+  ne_eqb _ _ c.if-v-t.false,
+)

@@ -29,7 +29,7 @@ pub shape_of-w : goal.shape_of-w
 shape_of-w c = omega arith
 
 pub returns : goal.returns
-returns c =         let a = c.args in (
-      omega arith,
-      spliced_in_stored a.used a.at a.del a.n _ _ (length_part a.from a.n a.src.now (omega arith)) c.shift.ensures c.copy.ensures,
-    )
+returns c = let a = c.args in (
+  omega arith,
+  spliced_in_stored a.used a.at a.del a.n _ _ (length_part a.from a.n a.src.now (omega arith)) c.shift.ensures c.copy.ensures,
+)
