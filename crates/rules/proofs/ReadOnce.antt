@@ -24,7 +24,7 @@ use Rattle.rules.specs.Record.{Rec, key_of, rec_of, dataset_record}
 use Rattle.rules.specs.General.{general_record}
 use Rattle.rules.specs.Written.{Dataset}
 use Rattle.rules.specs.Outcome.{done, at}
-use Rattle.rules.specs.File.{last_rank, dataset_test, through, ending, taken, Stored, dataset_of, references, read_dataset}
+use Rattle.rules.specs.File.{last_rank, dataset_test, through, taken, Stored, dataset_of, references, read_dataset}
 use Rattle.rules.specs.Update.{find}
 use Rattle.rules.specs.Versions.{Once, o_none, o_more}
 use Rattle.rules.proofs.OutcomeLaws.{and_then_inv, at_inv, done_inj}
