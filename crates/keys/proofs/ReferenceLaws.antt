@@ -8,7 +8,6 @@ use lib.ListN.{length, take}
 use Rattle.base.specs.Check.{ok, no, fault, Passed}
 use Rattle.base.specs.Lists.{each, Each}
 use Rattle.base.specs.Keys.{among}
-use Rattle.base.specs.Walk.{Got}
 use Rattle.base.specs.declared.Fault.{Fault}
 use Rattle.skeleton.specs.File.{Field, records_from}
 use Rattle.skeleton.specs.Place.{between, fields_at}
@@ -19,15 +18,15 @@ use Rattle.skeleton.proofs.FileLaws.{records_over, records_more}
 use Rattle.rules.specs.Associations.{Mark, marks, number11}
 use Rattle.rules.specs.Record.{Rec, key_of as keyInRules}
 use Rattle.rules.specs.Outcome.{Outcome, done, refused, and_then, at, every_record}
-use Rattle.rules.specs.File.{dataset_test, ending, taken, references}
+use Rattle.rules.specs.File.{dataset_test, taken, references}
 use Rattle.rules.proofs.FileLaws.{taken_inv}
 use Rattle.keys.specs.Key.{key_at}
 use Rattle.keys.specs.Listed.{keys_from, has_from}
 use Rattle.keys.specs.Look.{Sound}
-use Rattle.keys.specs.Numbered.{Ranged, Numbered}
+use Rattle.keys.specs.Numbered.{Numbered}
 use Rattle.keys.specs.Standing.{unread, outcome_from, references_from, Fine, FineFrom}
 use Rattle.keys.proofs.NamedLaws.{Names}
-use Rattle.keys.proofs.PassedLaws.{ReadAll, through_read}
+use Rattle.keys.proofs.PassedLaws.{through_read}
 
 -- ---- a dataset whose records have passed 1 to 7
 

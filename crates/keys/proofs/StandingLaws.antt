@@ -12,7 +12,6 @@ use Rattle.base.specs.Choice.{pick, larger_of}
 use Rattle.base.specs.Check.{Check, ok, no, bind, fault}
 use Rattle.base.specs.Lists.{each}
 use Rattle.base.specs.Keys.{among}
-use Rattle.base.specs.Walk.{Got}
 use Rattle.base.specs.declared.Fault.{Fault}
 use Rattle.memory.specs.Hold.{zeros}
 use Rattle.skeleton.specs.File.{Field, records_from}
@@ -30,18 +29,16 @@ use Rattle.rules.proofs.FileLaws.{taken_over, taken_more, test_later}
 use Rattle.rules.specs.declared.Kind.{Kind}
 use Rattle.keys.specs.Key.{key_at}
 use Rattle.keys.specs.Listed.{key_of, keys_from, listed, seen_from}
-use Rattle.keys.specs.Look.{Known}
 use Rattle.keys.specs.Map.{kind_in}
 use Rattle.keys.specs.Once.{none_above, Once, Comes, Told}
-use Rattle.keys.specs.Numbered.{Ranged, Numbered}
+use Rattle.keys.specs.Numbered.{Numbered}
 use Rattle.keys.specs.Standing.{four_to_six, unread, outcome_from, Standing}
 use Rattle.keys.proofs.FirstLaws.{first_key}
 use Rattle.keys.proofs.ListLaws.{listed_none, split_room, split_take, split_drop}
 use Rattle.keys.proofs.LookLaws.{keys_past, keys_good}
 use Rattle.keys.proofs.OnceLaws.{marks_none, larger_least}
 use Rattle.keys.proofs.NumberLaws.{numbered_none, numbered_last}
-use Rattle.keys.proofs.IdentLaws.{Keyed}
-use Rattle.keys.proofs.PassedLaws.{Placed, placed, Read, read_of, seventh, record_parts}
+use Rattle.keys.proofs.PassedLaws.{Placed, placed, read_of, seventh, record_parts}
 
 -- ---- before the fourth record
 

@@ -2,7 +2,6 @@
 use Rattle.std.specs.Prelude.{ℕ, ◌+◌, ◌≡◌, List, take, drop}
 use Rattle.base.specs.Check.{Check, ok, bind, pass}
 use Rattle.base.specs.Lists.{each, Each}
-use Rattle.base.specs.Walk.{Got}
 use Rattle.skeleton.specs.File.{Field, records_from}
 use Rattle.rules.specs.ByTag.{first_tag}
 use Rattle.rules.specs.Kind.{tag_of}
