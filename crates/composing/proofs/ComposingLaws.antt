@@ -11,7 +11,7 @@ use Rattle.memory.specs.Wrote.{Wrote}
 use Rattle.memory.proofs.WroteLaws.{wrote_none, then, wrote_length}
 use Rattle.skeleton.specs.File.{Field}
 use Rattle.rules.specs.Record.{Rec}
-use Rattle.rules.specs.Outcome.{Outcome, refused, and_then, at as atRecord, every_record}
+use Rattle.rules.specs.Outcome.{refused, and_then, at as atRecord, every_record}
 use Rattle.sequence.specs.Stream.{places, kept_of, kept, joined_of, joined, stream}
 use Rattle.sequence.proofs.Gather.{gather_append}
 use Rattle.updates.specs.Acts.{chart}

@@ -1,6 +1,5 @@
 -- Every refusal of a file's own records is at that file: of a dataset, 1. Assumes nothing.
 use mathlib.Core.Path.{◌≡◌, refl}
-use mathlib.Core.Bool.{Bool}
 use mathlib.Core.List.{List, [], ◌∷◌, ◌++◌}
 use Prim.Native.Nat.{ℕ, ◌+◌}
 use native.Mathlib.Omega.{arith}
@@ -16,11 +15,10 @@ use Rattle.rules.specs.Record.{Rec}
 use Rattle.rules.specs.Outcome.{Outcome, done, refused, and_then, at}
 use Rattle.rules.specs.File.{through, ending, taken, dataset_test}
 use Rattle.opening.specs.Carried.{head_at, tested_by, carried, first_two, first_three, unread, begins_csid, opened_by}
-use Rattle.opening.specs.declared.carried.Opened.TheVariants.{Behind, Stopped as Shut}
+use Rattle.opening.specs.declared.carried.Opened.TheVariants.{Stopped as Shut}
 use Rattle.opening.proofs.OpeningLaws.{from_fourth}
 use Rattle.keys.specs.Standing.{outcome_from, unread as unreadOf}
 use Rattle.dataset.specs.Walk.{whole_from, walked_by}
-use Rattle.dataset.specs.declared.walk.Walked.{Walked}
 use Rattle.dataset.specs.declared.walk.Walked.TheVariants.{Over, Stopped}
 use Rattle.rules.specs.General.{general_record}
 use Rattle.rules.specs.declared.Mode.{Mode}

@@ -9,9 +9,9 @@ use borrow.Author.Tests.{eqb-true}
 use lib.Dec.{eqb}
 use lib.ListN.{length, get_or, length-append}
 use Rattle.base.specs.Choice.{pick, either}
-use Rattle.base.specs.Check.{Check, ok, no, bind, in_field, pass, passed, Passed as Through}
+use Rattle.base.specs.Check.{Check, ok, no, bind, in_field, pass, passed}
 use Rattle.base.specs.Lists.{empty, each, gather}
-use Rattle.base.specs.Walk.{Got, steps, walk}
+use Rattle.base.specs.Walk.{steps, walk}
 use Rattle.base.proofs.CheckLaws.{bind_inv, field_inv}
 use Rattle.base.proofs.ChoiceLaws.{both_hold}
 use Rattle.base.proofs.ListLaws.{each_length}
@@ -41,7 +41,7 @@ use Rattle.rules.proofs.CoordinateLaws.{coords_length}
 use Rattle.contents.specs.Fit.{fits, all_fit}
 use Rattle.contents.proofs.FitLaws.{five_fit}
 use Rattle.contents.proofs.TreeLaws.{tree_new_fits}
-use Rattle.listing.specs.Said.{whole, entries_of, entries_in, tuples_of, tuples_in, Passed, kind_for, record_in}
+use Rattle.listing.specs.Said.{whole, entries_of, entries_in, tuples_of, tuples_in, kind_for, record_in}
 use Rattle.listing.proofs.CountLaws.{entries_none}
 
 -- ---- the kind

@@ -29,12 +29,11 @@ use Rattle.rules.specs.Trees.{number6}
 use Rattle.rules.specs.Associations.{number7}
 use Rattle.rules.specs.Record.{Rec, rec_of, key_of, dataset_record}
 use Rattle.rules.specs.Outcome.{done}
-use Rattle.rules.specs.File.{dataset_test, taken, ending}
+use Rattle.rules.specs.File.{dataset_test, taken}
 use Rattle.rules.specs.declared.Kind.{Kind}
 use Rattle.rules.specs.declared.Mode.TheVariants.{InDataset}
 use Rattle.rules.proofs.FileLaws.{taken_inv, through_each}
 use Rattle.updates.specs.Acts.{kind_in}
-use Rattle.stock.specs.Stored.{Stored}
 use Rattle.stock.specs.Stock.{rec_by, rec_in, AnyStored, stock_from, Stock}
 
 -- ---- one record
