@@ -19,7 +19,7 @@ use Rattle.base.proofs.EachLaws.{each_parts}
 use Rattle.base.proofs.KeysLaws.{same_sound, same_refl}
 use Rattle.base.proofs.ListLaws.{each_append}
 use Rattle.skeleton.specs.File.{Field, records_from}
-use Rattle.rules.specs.Record.{Rec, key_of as keyInRules}
+use Rattle.rules.specs.Record.{Rec, key_of as key_in_rules}
 use Rattle.sequence.specs.Keyed.{Parts, Ran, stop, done, Under, Has, Once, find}
 use Rattle.sequence.specs.History.{history, version, due, judged, First, Fine as AllFine, verdict}
 use Rattle.sequence.proofs.Arms.{due_of}
@@ -240,10 +240,10 @@ module _ (d : List ℕ) (ds : ℕ) (u : List ℕ) (us : ℕ) (y : Ready d ds u u
 
         writes : Writable (rec_in (record_here d r))
         writes =
-            subst (Has chart Writable) stands.found (each_find chart Writable (keyInRules (rec_in (record_here d r))) (stock_from d ds) y.writable)
+            subst (Has chart Writable) stands.found (each_find chart Writable (key_in_rules (rec_in (record_here d r))) (stock_from d ds) y.writable)
 
-        key_of_lem : (k : List ℕ) → Ranged k → number_of k ≡ key → keyInRules (rec_in (record_here d r)) ≡ k
-        key_of_lem k a n = number_inj (keyInRules (rec_in (record_here d r))) k stands.ranged a (n ∙ sym stands.number)
+        key_of_lem : (k : List ℕ) → Ranged k → number_of k ≡ key → key_in_rules (rec_in (record_here d r)) ≡ k
+        key_of_lem k a n = number_inj (key_in_rules (rec_in (record_here d r))) k stands.ranged a (n ∙ sym stands.number)
 
         pub there_playing : Playing d u v p key
         there_playing = record { what = some (rec_in (record_here d r)); held = g u writes; under = λ k a n. key_of_lem k a n }
