@@ -11,13 +11,13 @@ pub sum_up-s-requires : goal.sum_up-s-requires
 sum_up-s-requires c = held_small _ _ _ _ c.requires.d_len_bound c.requires.held.0 c.requires.held.1 _ (held_measured _ _ _ _ c.requires.d_len_bound c.requires.held.0 c.requires.held.1 _ c.measure-m.ensures)
 
 pub overflow_mul-result : goal.overflow_mul-result
-overflow_mul-result c =         omega (arith, length_product _ _ (held_summed _ _ _ _ c.requires.d_len_bound c.requires.held.0 c.requires.held.1 _ (held_measured _ _ _ _ c.requires.d_len_bound c.requires.held.0 c.requires.held.1 _ c.measure-m.ensures) (λ k. omega (arith, c.type_inv.work k)) _ c.sum_up-s.ensures))
+overflow_mul-result c = omega (arith, length_product _ _ (held_summed _ _ _ _ c.requires.d_len_bound c.requires.held.0 c.requires.held.1 _ (held_measured _ _ _ _ c.requires.d_len_bound c.requires.held.0 c.requires.held.1 _ c.measure-m.ensures) (λ k. omega (arith, c.type_inv.work k)) _ c.sum_up-s.ensures))
 
 pub overflow_add-result : goal.overflow_add-result
-overflow_add-result c =         omega (arith, length_head _ _ (held_summed _ _ _ _ c.requires.d_len_bound c.requires.held.0 c.requires.held.1 _ (held_measured _ _ _ _ c.requires.d_len_bound c.requires.held.0 c.requires.held.1 _ c.measure-m.ensures) (λ k. omega (arith, c.type_inv.work k)) _ c.sum_up-s.ensures))
+overflow_add-result c = omega (arith, length_head _ _ (held_summed _ _ _ _ c.requires.d_len_bound c.requires.held.0 c.requires.held.1 _ (held_measured _ _ _ _ c.requires.d_len_bound c.requires.held.0 c.requires.held.1 _ c.measure-m.ensures) (λ k. omega (arith, c.type_inv.work k)) _ c.sum_up-s.ensures))
 
 pub overflow_add-result-2 : goal.overflow_add-result-2
-overflow_add-result-2 c =             omega (arith, length_word _ _ (held_summed _ _ _ _ c.requires.d_len_bound c.requires.held.0 c.requires.held.1 _ (held_measured _ _ _ _ c.requires.d_len_bound c.requires.held.0 c.requires.held.1 _ c.measure-m.ensures) (λ k. omega (arith, c.type_inv.work k)) _ c.sum_up-s.ensures))
+overflow_add-result-2 c = omega (arith, length_word _ _ (held_summed _ _ _ _ c.requires.d_len_bound c.requires.held.0 c.requires.held.1 _ (held_measured _ _ _ _ c.requires.d_len_bound c.requires.held.0 c.requires.held.1 _ c.measure-m.ensures) (λ k. omega (arith, c.type_inv.work k)) _ c.sum_up-s.ensures))
 
 pub returns : goal.returns
-returns c =             λ r h. length_is _ _ (held_summed _ _ _ _ c.requires.d_len_bound r h _ (held_measured _ _ _ _ c.requires.d_len_bound c.requires.held.0 c.requires.held.1 _ c.measure-m.ensures) (λ k. omega (arith, c.type_inv.work k)) _ c.sum_up-s.ensures)
+returns c = λ r h. length_is _ _ (held_summed _ _ _ _ c.requires.d_len_bound r h _ (held_measured _ _ _ _ c.requires.d_len_bound c.requires.held.0 c.requires.held.1 _ c.measure-m.ensures) (λ k. omega (arith, c.type_inv.work k)) _ c.sum_up-s.ensures)
