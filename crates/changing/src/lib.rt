@@ -1,5 +1,6 @@
 // One update record on the latest version of the record that it names.
 #![tactic(auto)]
+
 use acts::{delete, insert, modify};
 use identity::read_ident;
 use rules::Kind;

@@ -1,5 +1,6 @@
 // The reader: it checks a dataset and says how many records it has.
 #![tactic(auto)]
+
 ghost use Rattle.std.specs.Prelude.{◌≡◌, ◌≤◌, length};
 ghost use Rattle.rules.specs.Outcome.{done};
 ghost use Rattle.rules.specs.Answers.{read as the_answer};

@@ -9,4 +9,4 @@ pub update_tested-requires : goal.update_tested-requires
 update_tested-requires c = tested_front _ _ _ _ c.held-n.ensures c.requires
 
 pub returns : goal.returns
-returns c =     handed_front _ _ _ _ _ _ _ _ _ c.held-n.ensures c.update_tested.ensures
+returns c = handed_front _ _ _ _ _ _ _ _ _ c.held-n.ensures c.update_tested.ensures

@@ -15,7 +15,7 @@ pub load_record-requires : goal.load_record-requires
 load_record-requires c = (sym c.record_at.ensures ∙ c.in-Good.is, c.requires.2, search rules, stored (load_fields _ _ c.requires.0 c.requires.1 _ c.record_at.ensures _ _ _ _ c.in-Good.is _ c.key_at.ensures.0 _ c.kind_of-k.ensures))
 
 pub returns-in-Good : goal.returns-in-Good
-returns-in-Good c =     let at = c.record_at.ensures in
+returns-in-Good c = let at = c.record_at.ensures in
     let good = c.in-Good.is in
     let v = c.load_record in
     (load_held c.args.d.now c.args.at c.requires.0 c.requires.1 _ at _ _ _ _ good _ (load_fields c.args.d.now c.args.at c.requires.0 c.requires.1 _ at _ _ _ _ good _ c.key_at.ensures.0 _ c.kind_of-k.ensures) v.new.work v.result v.ensures.0, flags_stay c.args.work.now v.new.work v.ensures.1)

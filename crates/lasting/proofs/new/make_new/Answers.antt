@@ -34,4 +34,4 @@ pub joined-requires : goal.joined-requires
 joined-requires c = (c.requires.0, new_lasting _ _ _ _ _ _ _ _ c.requires.0 _ _ _ _ c.requires.1 (sym c.inserts.ensures ∙ c.if-not-inserts.false, sym c.deleted.ensures ∙ c.if-deleted.false), c.requires.2, c.requires.3)
 
 pub returns : goal.returns
-returns c =     new_joined _ _ _ _ _ _ _ c.args.work.now c.requires.0 _ _ _ _ c.requires.1 _ _ _ _ c.if-key-q.false (sym c.inserts.ensures ∙ c.if-not-inserts.false, sym c.deleted.ensures ∙ c.if-deleted.false) _ _ c.joined.new.work c.joined.ensures
+returns c = new_joined _ _ _ _ _ _ _ c.args.work.now c.requires.0 _ _ _ _ c.requires.1 _ _ _ _ c.if-key-q.false (sym c.inserts.ensures ∙ c.if-not-inserts.false, sym c.deleted.ensures ∙ c.if-deleted.false) _ _ c.joined.new.work c.joined.ensures

@@ -25,4 +25,4 @@ pub played-requires : goal.played-requires
 played-requires c = (c.requires.0, (_, _, c.requires.1), c.requires.2, sym c.deleted.ensures ∙ c.if-deleted.false, c.requires.3)
 
 pub returns : goal.returns
-returns c =     old_played _ _ _ _ _ _ _ c.args.work.now c.requires.0 _ _ _ _ c.requires.1 _ _ _ _ c.if-key-q.false _ _ c.played.new.work c.played.ensures
+returns c = old_played _ _ _ _ _ _ _ c.args.work.now c.requires.0 _ _ _ _ c.requires.1 _ _ _ _ c.if-key-q.false _ _ c.played.new.work c.played.ensures
