@@ -14,9 +14,9 @@ use Rattle.skeleton.specs.declared.leader.Head.TheVariants.{Good, Refused}
 use Rattle.rules.specs.Record.{Rec, key_named, update_record}
 use Rattle.rules.specs.Change.{change as change_of}
 use Rattle.rules.specs.declared.Kind.{Kind}
-use Rattle.sequence.specs.Keyed.{Parts, Under}
+use Rattle.sequence.specs.Keyed.{Under}
 use Rattle.updates.specs.Acts.{named_by, changed_by, chart}
-use Rattle.incoming.specs.Fitting.{Single, Rest}
+use Rattle.incoming.specs.Fitting.{Rest}
 use Rattle.incoming.proofs.FittingLaws.{rest_good, rest_here}
 use Rattle.keys.specs.Key.{key_at, kind_ranked}
 use Rattle.version.specs.Present.{HeldAs, ChangedTo, FlagsKept}

@@ -12,7 +12,6 @@ use Rattle.base.specs.Choice.{pick}
 use Rattle.base.specs.Lists.{each, Each}
 use Rattle.base.proofs.EachLaws.{each_parts}
 use Rattle.base.specs.Keys.{same}
-use Rattle.base.specs.Walk.{Got}
 use Rattle.base.proofs.KeysLaws.{same_sound, same_refl}
 use Rattle.skeleton.specs.File.{Field, records_from}
 use Rattle.skeleton.specs.Place.{between, fields_at}
@@ -34,10 +33,7 @@ use Rattle.keys.specs.Look.{Sound}
 use Rattle.keys.specs.Numbered.{number_of, Ranged}
 use Rattle.keys.specs.Places.{Names, site_of}
 use Rattle.keys.proofs.ListLaws.{listed_none, listed_later, not_first, not_later}
-use Rattle.keys.proofs.LookLaws.{Found}
-use Rattle.keys.proofs.SoundLaws.{Next}
 use Rattle.keys.proofs.PlaceLaws.{follows, leads_sound, Sited, site_known}
-use Rattle.keys.proofs.IdentLaws.{Keyed}
 use Rattle.keys.proofs.NumberLaws.{same_number}
 use Rattle.sorting.proofs.PlaceLaws.{Mid, leads_mid}
 use Rattle.items.specs.Items.{source}

@@ -2,17 +2,15 @@
 use mathlib.Core.Path.{◌≡◌, refl, sym, ap, ◌∙◌, subst}
 use mathlib.Core.Bool.{Bool, true, false, not, true≢false}
 use mathlib.Core.Option.{Option, some, none}
-use mathlib.Core.List.{List, [], ◌∷◌, ◌++◌, append_assoc}
+use mathlib.Core.List.{List, [], ◌∷◌, ◌++◌}
 use Prim.Native.Nat.{ℕ, ◌+◌, ◌-◌, ◌^◌, ◌≤◌, ◌<◌}
 use native.Mathlib.Omega.{arith}
 use borrow.Author.Tests.{not-true, not-false, eqb-true, ltb-true, ltb-false, lt-ltb, le-ltb, leb-true, leb-false}
 use lib.Dec.{eqb, ltb, leb}
 use lib.ListN.{length, drop, length-append}
 use Rattle.base.specs.Choice.{pick, either}
-use Rattle.base.specs.Check.{Check, ok, no, bind, fault}
+use Rattle.base.specs.Check.{ok, no, bind, fault}
 use Rattle.base.specs.Lists.{each, Each}
-use Rattle.base.specs.Keys.{same}
-use Rattle.base.specs.Walk.{Got}
 use Rattle.base.specs.declared.Fault.{Fault}
 use Rattle.base.proofs.CheckLaws.{bind_inv}
 use Rattle.base.proofs.EachLaws.{each_parts}
@@ -20,7 +18,7 @@ use Rattle.base.proofs.KeysLaws.{same_sound, same_refl}
 use Rattle.base.proofs.ListLaws.{each_append}
 use Rattle.skeleton.specs.File.{Field, records_from}
 use Rattle.rules.specs.Record.{Rec, key_of as key_in_rules}
-use Rattle.sequence.specs.Keyed.{Parts, Ran, stop, done, Under, Has, Once, find}
+use Rattle.sequence.specs.Keyed.{Ran, stop, done, Under, Has, Once, find}
 use Rattle.sequence.specs.History.{history, version, due, judged, First, Fine as AllFine, verdict}
 use Rattle.sequence.proofs.Arms.{due_of}
 use Rattle.sequence.proofs.Local.{history_append, run_judged}
@@ -53,7 +51,7 @@ use Rattle.version.specs.declared.Changed.TheVariants.{Refused, Now}
 use Rattle.history.specs.Here.{record_here, named_in, records_up_to}
 use Rattle.history.specs.Flags.{key_flag, Flags, Marked}
 use Rattle.history.proofs.FindingLaws.{Stands, Located, located}
-use Rattle.history.specs.Ready.{Short, Ready}
+use Rattle.history.specs.Ready.{Ready}
 use Rattle.history.specs.Played.{Playing, EndsAt, Coursed}
 use Rattle.history.specs.Judged.{keys_up_to, Naming, Through, RefusedAt, Followed, earlier_by, earlier_of, Judging, judged_by, AllJudged}
 use Rattle.history.specs.declared.playing.Course.{Course}
