@@ -41,7 +41,6 @@ use Rattle.keys.specs.Bits.{flag_of}
 use Rattle.keys.specs.Listed.{keys_from, listed}
 use Rattle.keys.specs.Numbered.{number_of, Ranged}
 use Rattle.keys.proofs.FirstLaws.{first_key}
-use Rattle.keys.proofs.IdentLaws.{Keyed}
 use Rattle.keys.proofs.NumberLaws.{number_inj}
 use Rattle.references.specs.Readable.{all_readable}
 use Rattle.writing.specs.House.{in_house_form}
@@ -61,7 +60,7 @@ use Rattle.history.specs.Here.{record_here}
 use Rattle.history.specs.Played.{Playing, Played}
 use Rattle.history.proofs.FlagLaws.{flags_clear, flags_kept}
 use Rattle.history.proofs.HereLaws.{here_is, Known, known_stored}
-use Rattle.history.proofs.FindingLaws.{Said, said}
+use Rattle.history.proofs.FindingLaws.{said}
 use Rattle.lasting.specs.Whole.{Whole, Old}
 use Rattle.lasting.specs.Step.{Stepped}
 use Rattle.lasting.specs.Stays.{Replayable, Replayed, step_by, Stays, LastStep, SameStep, OldStep}
