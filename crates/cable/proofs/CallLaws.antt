@@ -1,5 +1,5 @@
 -- Demand 3 on the cable, of displays and a master that run: what their calls say is what it speaks of. Assumes nothing.
-use Prim.Native.Nat.{ℕ, ◌-◌}
+use Prim.Native.Nat.{ℕ}
 use mathlib.Core.Path.{◌≡◌, refl, sym, ap, ap₂, subst, ◌∙◌}
 use mathlib.Core.Option.{Option, some, none}
 use mathlib.Core.List.{List, [], ◌∷◌, ◌++◌}
@@ -8,7 +8,6 @@ use Rattle.base.specs.Lists.{gather}
 use Rattle.rules.specs.Outcome.{Outcome, done}
 use Rattle.rules.specs.Answers.{success}
 use Rattle.rules.specs.declared.Answer.{Answer}
-use Rattle.displays.specs.Display.{taken}
 use Rattle.displays.specs.Publisher.{Publisher, start}
 use Rattle.displays.specs.Demand.{InStep}
 use Rattle.display.proofs.CallLaws.{begun_start}

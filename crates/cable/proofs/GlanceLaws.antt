@@ -4,12 +4,11 @@ use mathlib.Core.Bool.{Bool, true, false}
 use mathlib.Core.List.{List}
 use Prim.Native.Nat.{ℕ, ◌+◌, ◌-◌, ◌^◌, ◌≤◌, ◌<◌}
 use native.Mathlib.Omega.{arith}
-use borrow.Author.Tests.{le-leb, lt-leb, leb-true, ltb-false, le-ltb}
+use borrow.Author.Tests.{le-leb, lt-leb, ltb-false}
 use lib.Dec.{leb, ltb}
-use lib.ListN.{length, get_or, drop, length-drop}
+use lib.ListN.{length, drop, length-drop}
 use Rattle.base.specs.Choice.{pick, both}
-use Rattle.base.proofs.ChoiceLaws.{both_hold, by_test}
-use Rattle.sequence.proofs.Tests.{by_bool}
+use Rattle.base.proofs.ChoiceLaws.{by_test}
 use Rattle.skeleton.specs.Digits.{number_at, value_of}
 use Rattle.skeleton.specs.Leader.{within, stated_of}
 use Rattle.skeleton.specs.Place.{between, place_at}
@@ -17,7 +16,6 @@ use Rattle.skeleton.specs.Record.{stated_at}
 use Rattle.skeleton.specs.Shape.{Bounded}
 use Rattle.skeleton.specs.declared.digits.Number.{Number}
 use Rattle.skeleton.specs.declared.digits.Number.TheVariants.{Value, NotDigits}
-use Rattle.skeleton.specs.declared.directory.Shape.{Shape}
 use Rattle.skeleton.specs.declared.leader.Head.{Head}
 use Rattle.skeleton.specs.declared.leader.Head.TheVariants.{Good, Refused}
 use Rattle.skeleton.specs.declared.place.Place.{Place}

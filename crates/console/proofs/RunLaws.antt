@@ -10,7 +10,7 @@ use Rattle.base.specs.Choice.{pick}
 use Rattle.displays.specs.Display.{Handed}
 use Rattle.displays.specs.Publisher.{Publisher}
 use Rattle.display.specs.Pools.{chart_in}
-use Rattle.display.specs.Calls.{BeginCall, HandCall, HandCalls, Runs, OverCalls}
+use Rattle.display.specs.Calls.{BeginCall, HandCall, HandCalls, Runs}
 use Rattle.display.specs.declared.Chart.{Chart}
 use Rattle.display.proofs.CallLaws.{over_calls}
 use Rattle.console.specs.Numbered.{two_of}

@@ -9,7 +9,6 @@ use Rattle.base.specs.Choice.{pick}
 use Rattle.display.specs.Pools.{Followed}
 use Rattle.display.specs.declared.Chart.{Chart}
 use Rattle.display.specs.declared.Shown.{Shown}
-use Rattle.console.specs.Numbered.{Says}
 use Rattle.console.specs.Shown.{chart_at, charted, SaysShown, SaysHand}
 use Rattle.console.proofs.NumberedLaws.{two_left, two_put}
 
