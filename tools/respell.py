@@ -37,14 +37,14 @@ def turns(name):
 
 def answers(text):
     """The names that a Proof.antt declares for Rattle's goals."""
-    return set(re.findall(r"^(?:abbrev |pub )*(\S+) : tie\.", text, re.M))
+    return set(re.findall(r"^(?:abbrev |pub )*(\S+) : (?:tie|goal)\.", text, re.M))
 
 
 def renames():
     names, defined, laws = {}, set(), set()
     for path in sorted(glob.glob("crates/*/specs/**/*.antt", recursive=True) + glob.glob("crates/*/proofs/**/*.antt", recursive=True)):
         text = read(path)
-        goals = answers(text) if path.endswith("/Proof.antt") else set()
+        goals = answers(text)
         for indent, name in DECLARED.findall(text):
             if name in goals or name in ("mod", "unfolding"):
                 continue
@@ -71,6 +71,14 @@ def foreign(text):
         if not module.startswith("Rattle.") or module.startswith(("Rattle.std", "Rattle.core")):
             found |= {it.split(" as ")[0].strip() for it in items.split(",")}
     return found
+
+
+def aliases(text):
+    """The names that a file alone gives to what it brings."""
+    items = [it for _, each in IMPORT.findall(text) for it in each.split(",") if " as " in it]
+    items += re.findall(r"^use [^{\n]* as [^\s{]+$", text, re.M)
+    given = {it.split(" as ")[1].strip() for it in items}
+    return {it: snake(it) for it in given if turns(it)}
 
 
 def turned(text, names):
@@ -142,7 +150,7 @@ def main():
     changed = {}
     for path in sorted(glob.glob("crates/**/*.antt", recursive=True) + glob.glob("crates/**/*.rt", recursive=True)):
         text = read(path)
-        own = {k: v for k, v in names.items() if k not in foreign(text)}
+        own = {k: v for k, v in names.items() if k not in foreign(text)} | aliases(text)
         words = set(WORD.findall(text)) if path.endswith(".antt") else {w for s, e in clauses(text) for w in WORD.findall(text[s:e])}
         for old in words & own.keys():
             if own[old] in words:

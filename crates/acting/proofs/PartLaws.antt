@@ -5,12 +5,12 @@ use mathlib.Core.Bool.{true, false, true≢false}
 use mathlib.Core.List.{List, [], ◌++◌, append-nil}
 use native.Mathlib.Omega.{arith}
 use borrow.Author.Tests.{eqb-true}
-use lib.ListN.{length, get_or, take, drop, length-take}
+use lib.ListN.{length, get_or, take, drop}
 use lib.Dec.{eqb}
 use Rattle.base.specs.Check.{Check, ok, bind, refuse, pass, passed}
 use Rattle.base.specs.Lists.{each, Each}
 use Rattle.base.proofs.ListLaws.{none_long}
-use Rattle.skeleton.specs.Emit.{size, sizes}
+use Rattle.skeleton.specs.Emit.{sizes}
 use Rattle.skeleton.specs.File.{Field}
 use Rattle.skeleton.specs.Place.{between, fields_at}
 use Rattle.skeleton.specs.Record.{record_at}

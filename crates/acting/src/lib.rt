@@ -1,5 +1,6 @@
 // What the fields of a modify do to the version that the workspace holds.
 #![tactic(auto)]
+
 use part::{Part, act_field};
 use skeleton::directory::Shape;
 use skeleton::place::{Place, place_at};

@@ -1,5 +1,6 @@
 // Keys put in order some thousand at a time: whether a key stood earlier where flags do not tell.
 #![tactic(auto)]
+
 pub mod book;
 pub mod first;
 pub mod once;

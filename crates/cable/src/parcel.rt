@@ -1,12 +1,12 @@
 // Parcels: whole length, kind, body.
 ghost use Rattle.std.specs.Prelude.{◌≡◌};
-ghost use Rattle.parcels.specs.Parcel.{fronts as frontsOf, is_parcel, tells_holding, carries_file, fronts_file};
+ghost use Rattle.parcels.specs.Parcel.{fronts as fronts_of, is_parcel, tells_holding, carries_file, fronts_file};
 
 use fields::{le16, le32};
 
 // Whether a parcel of this kind, of at least so many bytes, stands at the front of b.
 fn fronts(b: &[u8], kind: u16, least: usize) -> bool
-    ensures { result ≡ frontsOf kind least b.now }
+    ensures { result ≡ fronts_of kind least b.now }
 {
     if b.len() < 6 {
         return false;

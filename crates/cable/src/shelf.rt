@@ -1,6 +1,6 @@
 // A master: what its shelf answers a holding with.
 ghost use Rattle.std.specs.Prelude.{◌≡◌, ◌≤◌, length};
-ghost use Rattle.parcels.specs.Shelf.{reply_from, reply as replyOf, reply_answer};
+ghost use Rattle.parcels.specs.Shelf.{reply_from, reply as reply_of, reply_answer};
 
 use crate::parcel::{fronts_file, tells_holding};
 use crate::successor::follows;
@@ -33,7 +33,7 @@ fn search(h: &[u8], s: &[u8]) -> Reply
 
 // What a shelf answers a holding with.
 pub fn reply(holding: &[u8], shelf: &[u8]) -> Reply
-    ensures { result ≡ replyOf holding.now shelf.now }
+    ensures { result ≡ reply_of holding.now shelf.now }
 {
     if !tells_holding(holding) {
         return Reply::Refused;

@@ -1,7 +1,7 @@
 // Whether a file follows a holding: the update that comes next after what a display holds.
 ghost use Rattle.std.specs.Prelude.{◌≡◌, ◌≤◌, length};
 ghost use Rattle.following.specs.Naming.{Identified};
-ghost use Rattle.parcels.specs.Holding.{follows as followsOf};
+ghost use Rattle.parcels.specs.Holding.{follows as follows_of};
 ghost use Rattle.cable.specs.Naming.{dsid_follows};
 ghost use Rattle.cable.specs.Glance.{ends_next, may_follow};
 
@@ -64,7 +64,7 @@ fn may_follow(h: &[u8], f: &[u8]) -> bool
 // Whether the file f follows the holding h.
 pub fn follows(h: &[u8], f: &[u8]) -> bool
     requires { 10 ≤ length h.now }
-    ensures { result ≡ followsOf h.now f.now }
+    ensures { result ≡ follows_of h.now f.now }
 {
     if !may_follow(h, f) {
         return false;

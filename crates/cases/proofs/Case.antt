@@ -6,14 +6,14 @@ use lib.ListN.{length}
 use lib.Bits.{bit_xor}
 use Rattle.base.specs.Choice.{both}
 use Rattle.base.specs.Keys.{same}
-use Rattle.base.specs.Opened.{opened as baseOpened}
+use Rattle.base.specs.Opened.{opened as base_opened}
 use Rattle.rules.specs.Answers.{Output, read, write, update}
 use Rattle.rules.specs.Listing.{listing}
 use Rattle.rules.specs.declared.Answer.{Answer}
-use Rattle.rules.specs.Opened.{opened as rulesOpened}
-use Rattle.skeleton.specs.Opened.{opened as skeletonOpened}
-use Rattle.fields.specs.Opened.{opened as fieldsOpened}
-use Rattle.forest.specs.Opened.{opened as forestOpened}
+use Rattle.rules.specs.Opened.{opened as rules_opened}
+use Rattle.skeleton.specs.Opened.{opened as skeleton_opened}
+use Rattle.fields.specs.Opened.{opened as fields_opened}
+use Rattle.forest.specs.Opened.{opened as forest_opened}
 
 -- the hash FNV-1a of bytes, 64 bits, from h on
 unfoldable pub fnv : ℕ → List ℕ → ℕ
@@ -57,5 +57,5 @@ all (c ∷ cs) = both (agrees c) (all cs)
 
 -- all that a case computes with
 unfoldable pub cases_opened : Unit {0}
-unfolding baseOpened skeletonOpened fieldsOpened forestOpened rulesOpened fnv hash shown shown_of printed agrees all
+unfolding base_opened skeleton_opened fields_opened forest_opened rules_opened fnv hash shown shown_of printed agrees all
 cases_opened = tt

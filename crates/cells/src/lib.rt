@@ -1,5 +1,6 @@
 // Associations in lent memory, as references to their bytes.
 #![tactic(auto)]
+
 pub mod acting;
 pub mod cell;
 pub mod inas;

@@ -12,7 +12,7 @@ use Rattle.base.specs.Check.{Check, no, bind, fault, pass}
 use Rattle.base.specs.Lists.{gather}
 use Rattle.skeleton.specs.File.{Field}
 use Rattle.rules.specs.ByTag.{front}
-use Rattle.rules.specs.Record.{Rec, Ident, ident_of, key_named, rec_of, foid_of}
+use Rattle.rules.specs.Record.{Rec, ident_of, key_named, rec_of, foid_of}
 use Rattle.rules.specs.Written.{written_fields, written_length, number12}
 use Rattle.rules.specs.Change.{follows, same_foid, fitting, inserted, deleted, modified, change}
 use Rattle.rules.specs.declared.Kind.{Kind}

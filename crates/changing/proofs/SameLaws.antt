@@ -8,7 +8,7 @@ use borrow.Author.Tests.{eq-eqb, ne_eqb}
 use lib.Dec.{eqb}
 use lib.ListN.{length}
 use Rattle.base.specs.Choice.{pick}
-use Rattle.base.specs.Check.{Passed, pass, no, fault}
+use Rattle.base.specs.Check.{Passed, no, fault}
 use Rattle.base.specs.Keys.{same}
 use Rattle.base.specs.Lists.{gather, Each}
 use Rattle.skeleton.specs.File.{Field}

@@ -1,5 +1,6 @@
 // One update record on the latest version of the record that it names.
 #![tactic(auto)]
+
 use acts::{delete, insert, modify};
 use identity::read_ident;
 use rules::Kind;
@@ -17,7 +18,7 @@ ghost use Rattle.skeleton.specs.Place.{between, fields_at};
 ghost use Rattle.skeleton.specs.Record.{record_at};
 ghost use Rattle.skeleton.specs.declared.leader.Head.TheVariants.{Good};
 ghost use Rattle.rules.specs.Record.{Rec, key_named, update_record};
-ghost use Rattle.rules.specs.Change.{change as changeOf};
+ghost use Rattle.rules.specs.Change.{change as change_of};
 ghost use Rattle.sequence.specs.Keyed.{Under};
 ghost use Rattle.updates.specs.Acts.{chart};
 ghost use Rattle.version.specs.Present.{HeldAs, ChangedTo, FlagsKept};
@@ -37,7 +38,7 @@ pub fn change(
     requires h_value { (update_record (fields_at (between u.now at (at + len)) h 24) ≡ ok k)
         × ((o : Option Rec) × HeldAs d.now u.now work.old p o × Under chart (key_named k (fields_at (between u.now at (at + len)) h 24)) o) }
     ensures { ((o : Option Rec) → HeldAs d.now u.now work.old p o → Under chart (key_named k (fields_at (between u.now at (at + len)) h 24)) o
-        → ChangedTo d.now u.now work.new (changeOf k (fields_at (between u.now at (at + len)) h 24) o) result)
+        → ChangedTo d.now u.now work.new (change_of k (fields_at (between u.now at (at + len)) h 24) o) result)
         × FlagsKept work.old work.new }
 {
     let s = read_ident(u, at, len, h, k);

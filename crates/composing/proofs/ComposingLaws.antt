@@ -11,7 +11,7 @@ use Rattle.memory.specs.Wrote.{Wrote}
 use Rattle.memory.proofs.WroteLaws.{wrote_none, then, wrote_length}
 use Rattle.skeleton.specs.File.{Field}
 use Rattle.rules.specs.Record.{Rec}
-use Rattle.rules.specs.Outcome.{Outcome, refused, and_then, at as atRecord, every_record}
+use Rattle.rules.specs.Outcome.{refused, and_then, at as at_record, every_record}
 use Rattle.sequence.specs.Stream.{places, kept_of, kept, joined_of, joined, stream}
 use Rattle.sequence.proofs.Gather.{gather_append}
 use Rattle.updates.specs.Acts.{chart}
@@ -92,11 +92,11 @@ module _ (test : Rec → Passed) (whole : List Rec) (start : ℕ) (before : List
     module _ (r : Rec) (left : List Rec) (c : Composing test whole (r ∷ left) start m len before out) where
       -- a loose reference
       pub composing_loose : (x : Fault) → test r ≡ no x → every_record test 3 4 whole ≡ refused 3 (m + 4) x
-      unfolding every_record and_then atRecord
+      unfolding every_record and_then at_record
       composing_loose x e = sym c.passed ∙ rw e
 
       more_passed : test r ≡ pass → every_record test 3 (m + 1 + 4) left ≡ every_record test 3 4 whole
-      unfolding every_record and_then atRecord
+      unfolding every_record and_then at_record
       more_passed e = let z : m + 1 + 4 ≡ m + 4 + 1 = omega arith in rw z (rw e at c.passed)
 
       more_long : len + record_length r ≡ start + total record_length (c.made ++ (r ∷ []))

@@ -5,7 +5,7 @@ use mathlib.Core.Bool.{Bool, true, false, not, true≢false}
 use mathlib.Core.Option.{Option, some, none}
 use mathlib.Core.List.{List, [], ◌∷◌}
 use Rattle.base.specs.Choice.{both}
-use Rattle.base.specs.Check.{Check, ok}
+use Rattle.base.specs.Check.{ok}
 use Rattle.base.specs.Keys.{same}
 use Rattle.base.proofs.CheckLaws.{bind_inv, ok_inj}
 use Rattle.base.proofs.KeysLaws.{same_sound}

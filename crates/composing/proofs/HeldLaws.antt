@@ -7,16 +7,15 @@ use native.Mathlib.Omega.{arith}
 use borrow.Author.Tests.{eq-eqb, ne_eqb, not-true, not-false}
 use lib.ListN.{length, get_or, take, drop, length-take, length-drop}
 use Rattle.base.specs.Lists.{each, Each}
-use Rattle.base.specs.Walk.{Got}
 use Rattle.base.proofs.EachLaws.{each_map}
 use Rattle.items.specs.Items.{source}
 use Rattle.cells.specs.Cells.{u24, body_at, bodies_from, bodies_of}
 use Rattle.cells.proofs.SpasLaws.{tuple_key}
 use Rattle.keys.specs.Key.{key_at}
 use Rattle.keys.specs.Key.{KeyFits}
-use Rattle.keys.specs.Numbered.{number_of, Ranged}
+use Rattle.keys.specs.Numbered.{number_of}
 use Rattle.keys.proofs.KeyLaws.{key_part}
-use Rattle.keys.proofs.NamedLaws.{Names, inas_names, spas_names}
+use Rattle.keys.proofs.NamedLaws.{inas_names, spas_names}
 use Rattle.fields.specs.Valid.{Bytes}
 use Rattle.fields.proofs.ByteLaws.{bytes_drop, le_bound}
 use Rattle.fields.proofs.WiderLaws.{spas, format_wider}
@@ -27,10 +26,10 @@ use Rattle.sequence.specs.Stream.{standing}
 use Rattle.updates.specs.Acts.{chart}
 use Rattle.contents.proofs.SpatialLaws.{spas_next, spas_ends}
 use Rattle.version.specs.Areas.{inas_area, spas_area}
-use Rattle.version.specs.Held.{RightInas, RightSpas, HeldParts, Held}
+use Rattle.version.specs.Held.{RightInas, RightSpas, Held}
 use Rattle.version.specs.declared.Version.{Version}
 use Rattle.composing.specs.Keys.{Begins, KeyOf}
-use Rattle.composing.specs.Settled.{Settled, Tells, TellsAll, Alike, TellsOf}
+use Rattle.composing.specs.Settled.{Tells, TellsAll, Alike, TellsOf}
 use Rattle.composing.specs.Told.{TellsCells, TellsHeld}
 use Rattle.composing.proofs.LinkedLaws.{held_linked}
 use Rattle.composing.proofs.NamingLaws.{alike_same, alike_over, first_more, first_loose}
@@ -167,5 +166,3 @@ module _ (d : List ℕ) (ds : ℕ) (u : List ℕ) (us : ℕ) (flags w : List ℕ
       let e = inas_told r h recs s in
       let g = q tuple_key (each_map (bodies_of d u (spas_area w) v.spas) spas_begins h.parts.spas_right) recs s in
       sym (held_linked (standing chart recs (records_from u us).items) d u w v r h ∙ rw (← e, not-false x y, ← g))
-
-pub ruleset held-ways = (held_loose, held_told, arith)

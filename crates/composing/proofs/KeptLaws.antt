@@ -10,7 +10,6 @@ use Rattle.rules.specs.Record.{Rec}
 use Rattle.rules.specs.Written.{written_fields, field_width, written_length}
 use Rattle.version.specs.Held.{Held}
 use Rattle.version.specs.declared.Version.{Version}
-use Rattle.composing.specs.Emitted.{Emitted}
 use Rattle.composing.specs.Kept.{Kept, Lasts, EmitsHeld, MadeHeld}
 use Rattle.composing.specs.Made.{Surely}
 use Rattle.composing.specs.Told.{TellsHeld}

@@ -28,7 +28,6 @@ use Rattle.contents.specs.Fit.{identified}
 use Rattle.contents.proofs.ReaderLaws.{five_identified}
 use Rattle.contents.proofs.SevenLaws.{four_first}
 use Rattle.contents.proofs.SpatialLaws.{eqb_swap}
-use Rattle.sequence.specs.Keyed.{Parts}
 use Rattle.sequence.specs.Order.{is_delete, deleted}
 use Rattle.sequence.proofs.Tests.{by_bool, both_no}
 use Rattle.updates.specs.Acts.{kind_in, named_by, act_of, done_by, chart}

@@ -5,7 +5,6 @@ use mathlib.Core.Bool.{Bool, true, false, not, true≢false}
 use mathlib.Core.List.{List}
 use borrow.Author.Tests.{not-true, not-false}
 use Rattle.base.specs.Lists.{gather}
-use Rattle.base.specs.Walk.{Got}
 use Rattle.skeleton.specs.File.{Field, records_from}
 use Rattle.rules.specs.Record.{Rec, rec_of}
 use Rattle.rules.specs.Written.{written_fields}
@@ -17,7 +16,7 @@ use Rattle.sound.specs.Sound.{SoundRec}
 use Rattle.version.specs.Held.{Held}
 use Rattle.version.specs.declared.Version.{Version}
 use Rattle.writing.specs.House.{in_house_form}
-use Rattle.composing.specs.Settled.{Settled, TellsAll, TellsOf}
+use Rattle.composing.specs.Settled.{TellsAll, TellsOf}
 use Rattle.composing.specs.Tied.{TiedIn, StaysAll}
 use Rattle.composing.specs.Told.{TellsHeld}
 use Rattle.composing.specs.Emitted.{Emitted}

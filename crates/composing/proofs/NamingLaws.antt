@@ -1,5 +1,5 @@
 -- Laws of what the associations of one record name: tuple by tuple, field by field. Assumes nothing.
-use Prim.Native.Nat.{ℕ, ◌+◌, ◌-◌, ◌≤◌, ◌<◌}
+use Prim.Native.Nat.{ℕ, ◌+◌, ◌≤◌, ◌<◌}
 use mathlib.Core.Path.{◌≡◌, refl, sym, ap, subst, ◌∙◌}
 use mathlib.Core.Bool.{Bool, true, false, not}
 use mathlib.Core.List.{List, [], ◌∷◌, ◌++◌}
@@ -16,8 +16,8 @@ use Rattle.fields.specs.Table.{head_of, tuple_of}
 use Rattle.fields.specs.Content.{many, fill}
 use Rattle.fields.specs.Places.{ending_at}
 use Rattle.fields.specs.declared.Format.TheVariants.{InasNew, Spas}
-use Rattle.fields.proofs.TupleLaws.{Next, here_end}
-use Rattle.skeleton.specs.File.{Field, records_from}
+use Rattle.fields.proofs.TupleLaws.{here_end}
+use Rattle.skeleton.specs.File.{records_from}
 use Rattle.skeleton.specs.Place.{between, place_at, fields_at}
 use Rattle.skeleton.specs.declared.directory.Shape.{Shape}
 use Rattle.skeleton.specs.declared.place.Place.{Place}

@@ -1,5 +1,5 @@
 -- Laws of the update records that name a key, one after the other. Assumes nothing.
-use Prim.Native.Nat.{ℕ, ◌+◌, ◌-◌, ◌≤◌, ◌<◌}
+use Prim.Native.Nat.{ℕ, ◌+◌, ◌-◌, ◌<◌}
 use mathlib.Core.Path.{◌≡◌, refl, sym, ap, ◌∙◌}
 use mathlib.Core.Bool.{Bool, true, false, not}
 use mathlib.Core.List.{List, [], ◌∷◌, ◌++◌}
@@ -9,7 +9,6 @@ use lib.ListN.{length}
 use lib.Dec.{eqb}
 use Rattle.base.specs.Choice.{pick, both, either}
 use Rattle.base.specs.Lists.{each}
-use Rattle.base.specs.Walk.{Got}
 use Rattle.skeleton.specs.File.{Field, records_from}
 use Rattle.skeleton.specs.Place.{between, fields_at}
 use Rattle.skeleton.specs.Record.{stated_at}
@@ -20,10 +19,10 @@ use Rattle.keys.specs.Listed.{key_of, listed}
 use Rattle.keys.specs.Look.{look_at, Sound}
 use Rattle.keys.specs.declared.look.Look.TheVariants.{At}
 use Rattle.keys.proofs.ListLaws.{not_first, not_later}
-use Rattle.keys.specs.Places.{Leads, here, over, Names}
+use Rattle.keys.specs.Places.{Leads, here, over}
 use Rattle.sorting.specs.Places.{Skips, Next, Late, at_start, at_one}
 use Rattle.keys.proofs.PlaceLaws.{leads_sound, leads_then}
-use Rattle.sorting.proofs.PlaceLaws.{Mid, Front, front_of, leads_mid, next_leads, next_up}
+use Rattle.sorting.proofs.PlaceLaws.{front_of, leads_mid, next_leads, next_up}
 use Rattle.composing.specs.Acts.{ruin_with, fate_of, deleted_of, fate_from, deleted_from}
 use Rattle.composing.proofs.ActsLaws.{turn_sound, turn_falls, fate_on, deleted_on}
 

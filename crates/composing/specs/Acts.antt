@@ -2,11 +2,9 @@
 use Rattle.std.specs.Prelude.{ℕ, ◌/◌, ◌≡◌, Bool, false, not, List, [], ◌∷◌, eqb}
 use Rattle.base.specs.Choice.{pick, both, either}
 use Rattle.base.specs.Keys.{same}
-use Rattle.base.specs.Walk.{Got}
 use Rattle.skeleton.specs.File.{Field, records_from}
 use Rattle.rules.specs.ByTag.{front}
 use Rattle.rules.specs.Grammar.{ruin_byte}
-use Rattle.sequence.specs.Keyed.{Parts}
 use Rattle.updates.specs.Acts.{act_of, chart}
 use Rattle.keys.specs.Listed.{key_of}
 use Rattle.keys.specs.Numbered.{number_of, Ranged}

@@ -2,7 +2,6 @@
 use Rattle.std.specs.Prelude.{ℕ, ◌≡◌, Bool, true, false, List}
 use Rattle.base.specs.Check.{no, pass}
 use Rattle.base.specs.Lists.{gather}
-use Rattle.base.specs.Walk.{Got}
 use Rattle.base.specs.declared.Fault.{Fault}
 use Rattle.skeleton.specs.File.{Field, records_from}
 use Rattle.rules.specs.Associations.{marks, field_keys}

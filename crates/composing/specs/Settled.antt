@@ -1,6 +1,5 @@
 -- A dataset and an update none of whose records is refused, and whether a record stands under a key in the end.
 use Rattle.std.specs.Prelude.{ℕ, ◌%◌, ◌≤◌, ◌≡◌, Bool, true, List, [], length}
-use Rattle.base.specs.Walk.{Got}
 use Rattle.base.specs.Lists.{Each}
 use Rattle.skeleton.specs.File.{records_from}
 use Rattle.rules.specs.Record.{Rec}

@@ -1,6 +1,5 @@
 -- Keys that the dataset has, and whether records stand under them in the end: the update alone tells.
 use Rattle.std.specs.Prelude.{ℕ, ◌≤◌, ◌≡◌, Bool, true, List, length, take, drop}
-use Rattle.base.specs.Walk.{Got}
 use Rattle.base.specs.Lists.{gather, Each}
 use Rattle.skeleton.specs.File.{Field, records_from}
 use Rattle.rules.specs.Associations.{field_keys}

@@ -1,5 +1,6 @@
 // The records of an update's result, one by one.
 #![tactic(auto)]
+
 pub mod acts;
 pub mod carrying;
 pub mod held;

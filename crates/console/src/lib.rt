@@ -1,6 +1,7 @@
 // What other languages link: the entry points over numbers and byte slices. Each that refuses says its answer in two ways: the refusal's number, 0 for
 // done, is the result, and the five numbers stand in a lent slice.
 #![tactic(auto)]
+
 ghost use Rattle.std.specs.Prelude.{◌≡◌, length};
 ghost use Rattle.base.specs.Choice.{pick};
 ghost use Rattle.listing.specs.Lists.{Lists};

@@ -1,7 +1,7 @@
 -- Laws of lists of anything. Assumes nothing.
 use mathlib.Core.Path.{◌≡◌, sym, ap, ◌∙◌}
 use mathlib.Core.List.{List, [], ◌∷◌, ◌++◌, append_assoc, append-nil}
-use Prim.Native.Nat.{ℕ, ◌+◌, ◌-◌}
+use Prim.Native.Nat.{ℕ, ◌+◌}
 use lib.ListN.{take, drop}
 use lib.Seq.{drop-drop, take-add}
 use Rattle.base.specs.Lists.{gather}

@@ -1,5 +1,6 @@
 // The contents of one record's fields: numbers 5, 6 and 7 within the record, and what its identifier says.
 #![tactic(auto)]
+
 pub mod associations;
 pub mod codes;
 pub mod content;

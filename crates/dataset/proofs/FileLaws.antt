@@ -1,6 +1,5 @@
 -- Every refusal of a file's own records is at that file: of a dataset, 1. Assumes nothing.
 use mathlib.Core.Path.{◌≡◌, refl}
-use mathlib.Core.Bool.{Bool}
 use mathlib.Core.List.{List, [], ◌∷◌, ◌++◌}
 use Prim.Native.Nat.{ℕ, ◌+◌}
 use native.Mathlib.Omega.{arith}
@@ -16,11 +15,10 @@ use Rattle.rules.specs.Record.{Rec}
 use Rattle.rules.specs.Outcome.{Outcome, done, refused, and_then, at}
 use Rattle.rules.specs.File.{through, ending, taken, dataset_test}
 use Rattle.opening.specs.Carried.{head_at, tested_by, carried, first_two, first_three, unread, begins_csid, opened_by}
-use Rattle.opening.specs.declared.carried.Opened.TheVariants.{Behind, Stopped as Shut}
+use Rattle.opening.specs.declared.carried.Opened.TheVariants.{Stopped as Shut}
 use Rattle.opening.proofs.OpeningLaws.{from_fourth}
-use Rattle.keys.specs.Standing.{outcome_from, unread as unreadOf}
+use Rattle.keys.specs.Standing.{outcome_from, unread as unread_of}
 use Rattle.dataset.specs.Walk.{whole_from, walked_by}
-use Rattle.dataset.specs.declared.walk.Walked.{Walked}
 use Rattle.dataset.specs.declared.walk.Walked.TheVariants.{Over, Stopped}
 use Rattle.rules.specs.General.{general_record}
 use Rattle.rules.specs.declared.Mode.{Mode}
@@ -97,8 +95,8 @@ shut_is file (refused other m x) o k n i j e =
 pub first_shut : (f : List ℕ) (k n i j : ℕ) → Shut k n i j ≡ opened_by (first_three f) → first_three f ≡ refused 1 n (fault k i j)
 first_shut f k n i j e = shut_is 1 (first_three f) (one_three f) k n i j e
 
-later_is : (c : Outcome (List Rec)) → AtFile 1 c → (m k n i j : ℕ) → Stopped k n i j ≡ walked_by m (unreadOf c) → c ≡ refused 1 n (fault k i j)
-unfolding walked_by AtFile unreadOf and_then
+later_is : (c : Outcome (List Rec)) → AtFile 1 c → (m k n i j : ℕ) → Stopped k n i j ≡ walked_by m (unread_of c) → c ≡ refused 1 n (fault k i j)
+unfolding walked_by AtFile unread_of and_then
 later_is (done a) o m k n i j e = absurd (let y : ◌≡◌ {A = ℕ} 0 1 = cc in omega arith)
 later_is (refused file r x) o m k n i j e =
     let a : k ≡ x.number = cc in

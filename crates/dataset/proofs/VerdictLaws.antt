@@ -5,7 +5,6 @@ use native.Mathlib.Omega.{arith}
 use Rattle.base.specs.Check.{Check, ok, no, fault}
 use Rattle.rules.specs.declared.Kind.{Kind}
 use Rattle.records.specs.Graded.{graded}
-use Rattle.records.specs.declared.grammar.Tags.{Tags}
 use Rattle.records.specs.declared.grammar.Tags.TheVariants.{Right, Wrong}
 
 pub right_is : (c : Check Kind) (k : Kind) → Right k ≡ graded c → c ≡ ok k

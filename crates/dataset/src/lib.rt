@@ -1,4 +1,5 @@
 // A whole dataset read.
 #![tactic(auto)]
+
 pub mod record;
 pub mod walk;

@@ -1,6 +1,7 @@
 // The tree rule on the deepest and on the widest field that a record has room for: 12,499 tuples of 8 bytes, each the child of the one before
 // it, or all of them siblings. Each kind is shown as it is right, and with its last index wrong; parents alone are right in both.
 #![tactic(auto)]
+
 ghost use Rattle.std.specs.Prelude.{◌+◌, ◌*◌, ◌≤◌, ◌<◌, length};
 
 use std::io;

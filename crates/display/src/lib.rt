@@ -1,6 +1,7 @@
 // A display that follows the master. It has two pools: one holds its chart, and what a file makes of the chart is built in the other while the chart
 // stays in use.
 #![tactic(auto)]
+
 ghost use Rattle.std.specs.Prelude.{◌≡◌, length, take, ltb};
 ghost use Rattle.base.specs.Choice.{pick};
 ghost use Rattle.promises.specs.Promise.{Updates};

@@ -14,7 +14,7 @@ use Rattle.rules.specs.File.{read_dataset, writable}
 use Rattle.rules.specs.Answers.{not_too_long}
 use Rattle.rules.proofs.OutcomeLaws.{done_inj}
 use Rattle.updates.specs.Accepted.{Accepted}
-use Rattle.updates.proofs.Accepted.{accepted as is-accepted}
+use Rattle.updates.proofs.Accepted.{accepted as is_accepted}
 use Rattle.updates.proofs.Kept.{result_writable}
 use Rattle.displays.specs.Display.{Handed, taken, after, shown, number_read, number_shown, number_sent, bears, updated_by, ruled}
 use Rattle.displays.specs.Publisher.{Publisher, accepted, next, start, first, Genuine, Cable, in_order}
@@ -34,7 +34,7 @@ shows c d e = rw e
 module _ (c f : List ℕ) (r : Dataset) (q : Ruled c f r) where
   -- it obeys the laws of an accepted update
   lawful : Accepted q.dataset q.sent r
-  lawful = is-accepted c f q.dataset q.sent r q.is_read q.is_sent q.is_updated
+  lawful = is_accepted c f q.dataset q.sent r q.is_read q.is_sent q.is_updated
 
   -- it bears the chart's number plus one
   follows : bears f ≡ some (number_shown c + 1)

@@ -7,23 +7,23 @@ use mathlib.Core.List.{List, [], ◌∷◌}
 use lib.ListN.{take}
 use lib.Dec.{eqb}
 use Rattle.base.specs.Choice.{pick}
-use Rattle.base.specs.Opened.{opened as baseOpened}
+use Rattle.base.specs.Opened.{opened as base_opened}
 use Rattle.skeleton.specs.Emit.{emits}
-use Rattle.skeleton.specs.Opened.{opened as skeletonOpened}
+use Rattle.skeleton.specs.Opened.{opened as skeleton_opened}
 use Rattle.fields.proofs.ByteLaws.{are_bytes, are_bytes_lem}
-use Rattle.fields.specs.Opened.{opened as fieldsOpened}
+use Rattle.fields.specs.Opened.{opened as fields_opened}
 use Rattle.fields.specs.declared.Format.TheVariants.{Prid}
-use Rattle.forest.specs.Opened.{opened as forestOpened}
+use Rattle.forest.specs.Opened.{opened as forest_opened}
 use Rattle.rules.specs.Tags.{CSID, PRID}
 use Rattle.rules.specs.Written.{Dataset, written_bytes}
-use Rattle.rules.specs.Opened.{opened as rulesOpened}
+use Rattle.rules.specs.Opened.{opened as rules_opened}
 use Rattle.rules.proofs.Builders.{numbered, prid, coordinates, c2it, at, general, filler, point_sent, point, only_coordinates}
 use Rattle.displays.specs.Display.{Handed, taken, after, shown, number_read, number_shown, number_sent, bears}
 use Rattle.displays.specs.Publisher.{Publisher}
 
 -- every definition that the sample goes through
 unfoldable pub opened : Unit {0}
-unfolding baseOpened skeletonOpened fieldsOpened forestOpened rulesOpened numbered prid coordinates c2it general filler point_sent point only_coordinates taken after shown number_read number_shown number_sent bears
+unfolding base_opened skeleton_opened fields_opened forest_opened rules_opened numbered prid coordinates c2it general filler point_sent point only_coordinates taken after shown number_read number_shown number_sent bears
 opened = tt
 
 -- a dataset with update number 3 and one point, 7

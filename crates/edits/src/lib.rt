@@ -1,5 +1,6 @@
 // The working form of a record's attributes edited by the ATTR of an update.
 #![tactic(auto)]
+
 use acting::Progress;
 
 pub mod acting;

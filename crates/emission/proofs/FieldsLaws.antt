@@ -16,7 +16,6 @@ use Rattle.rules.specs.Written.{field_as, list_field, coord_tag}
 use Rattle.cells.specs.Cells.{bodies_from, bodies_of}
 use Rattle.version.specs.declared.Version.{Version}
 use Rattle.writing.specs.Found.{Summed}
-use Rattle.writing.specs.declared.measuring.Sum.{Sum}
 use Rattle.emission.specs.Bodies.{inas_fields}
 use Rattle.emission.specs.Fields.{ident_part, foid_part, last_fields, version_fields, list_size, list_count, ident_size, foid_size, last_size, last_count, total, Few, Indexed}
 use Rattle.emission.specs.declared.measuring.Sizes.{Sizes}

@@ -1,5 +1,5 @@
 -- The record that the workspace holds is written as the fields that are copied. Assumes nothing.
-use Prim.Native.Nat.{ℕ, ◌+◌, ◌-◌, ◌*◌, ◌%◌, ◌≤◌}
+use Prim.Native.Nat.{ℕ, ◌+◌, ◌*◌, ◌%◌, ◌≤◌}
 use mathlib.Core.Path.{◌≡◌, refl, sym, ap, ap₂, ◌∙◌}
 use mathlib.Core.Bool.{Bool, true, false}
 use mathlib.Core.List.{List, [], ◌∷◌, ◌++◌, append-nil, append_assoc}
@@ -31,14 +31,14 @@ use Rattle.rules.specs.Kind.{rcnm, tag_of, coded}
 use Rattle.rules.specs.Content.{ident_format}
 use Rattle.rules.specs.Coordinates.{Coord, coords_in}
 use Rattle.rules.specs.Trees.{inas_tree}
-use Rattle.rules.specs.Record.{Rec, Parts, Assoc, Spatial, foid_of, assoc_of}
+use Rattle.rules.specs.Record.{Rec, Spatial, foid_of, assoc_of}
 use Rattle.rules.specs.Written.{field_as, list_field, nums, ident_bytes, tree_bytes, assoc_field, coord_vals, spatial_vals, coord_tag, part_fields, written_fields}
 use Rattle.rules.specs.declared.Kind.{Kind}
 use Rattle.rules.specs.declared.Kind.TheVariants.{Info, Point, Multi, Feature}
 use Rattle.items.specs.Items.{source}
 use Rattle.cells.specs.Cells.{bodies_of, spatial_in}
 use Rattle.version.specs.Areas.{list_area, inas_area, spas_area}
-use Rattle.version.specs.Held.{RightInas, RightSpas, RightFoid, foid_bodies, HeldParts, Held}
+use Rattle.version.specs.Held.{RightInas, RightSpas, RightFoid, foid_bodies, Held}
 use Rattle.version.specs.declared.Version.{Version}
 use Rattle.writing.proofs.SameBytesLaws.{foid_again, inas_again, none, one, coords_again, spatial_again}
 use Rattle.emission.specs.Bodies.{joined, inas_fields}

@@ -11,7 +11,7 @@ use Rattle.memory.specs.Wrote.{Wrote}
 use Rattle.memory.proofs.PutLaws.{length_part}
 use Rattle.memory.proofs.WroteLaws.{then, wrote_none, wrote_length}
 use Rattle.skeleton.specs.File.{Field}
-use Rattle.skeleton.specs.Emit.{size, sizes, entries, contents}
+use Rattle.skeleton.specs.Emit.{sizes, entries, contents}
 use Rattle.skeleton.proofs.EmitFieldsLaws.{contents_append, entries_append}
 use Rattle.forest.specs.Forest.{Forest}
 use Rattle.forest.specs.Flat.{flat}

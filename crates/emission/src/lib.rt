@@ -1,5 +1,6 @@
 // The record that the workspace holds, measured and written in the written form.
 #![tactic(auto)]
+
 pub mod bodies;
 pub mod directory;
 pub mod identifier;

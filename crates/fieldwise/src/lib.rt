@@ -1,5 +1,6 @@
 // A reader of one record that steps from field to field, and fields by their number in a record and in a file.
 #![tactic(auto)]
+
 pub mod file;
 pub mod numbered;
 pub mod places;

@@ -1,5 +1,5 @@
-// A reader of one record: it stands over the caller's bytes and steps from field to field. Its functions are thin, and each is proved by a
-// walk of its MIR by hand; the work is done by the functions of `places`, which take the bytes and the place.
+// A reader of one record: it stands over the caller's bytes and steps from field to field. Its functions are thin;
+// the work is done by the functions of `places`, which take the bytes and the place.
 ghost use Rattle.std.specs.Prelude.{◌≡◌};
 ghost use Rattle.fieldwise.specs.Reader.{field_here, next_here, body_here};
 

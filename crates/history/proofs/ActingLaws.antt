@@ -12,11 +12,11 @@ use Rattle.skeleton.specs.Record.{record_at}
 use Rattle.skeleton.specs.declared.leader.Head.{Head}
 use Rattle.skeleton.specs.declared.leader.Head.TheVariants.{Good, Refused}
 use Rattle.rules.specs.Record.{Rec, key_named, update_record}
-use Rattle.rules.specs.Change.{change as changeOf}
+use Rattle.rules.specs.Change.{change as change_of}
 use Rattle.rules.specs.declared.Kind.{Kind}
-use Rattle.sequence.specs.Keyed.{Parts, Under}
+use Rattle.sequence.specs.Keyed.{Under}
 use Rattle.updates.specs.Acts.{named_by, changed_by, chart}
-use Rattle.incoming.specs.Fitting.{Single, Rest}
+use Rattle.incoming.specs.Fitting.{Rest}
 use Rattle.incoming.proofs.FittingLaws.{rest_good, rest_here}
 use Rattle.keys.specs.Key.{key_at, kind_ranked}
 use Rattle.version.specs.Present.{HeldAs, ChangedTo, FlagsKept}
@@ -32,7 +32,7 @@ pub named_as : (k : Kind) (fs : List Field) → update_record fs ≡ ok k → na
 unfolding named_by
 named_as k fs r = ap (λ (m : Option Kind). named_by m fs) (known_sent k fs r).kind
 
-changed_as : (k : Kind) (fs : List Field) → update_record fs ≡ ok k → (o : Option Rec) → chart.change fs o ≡ changeOf k fs o
+changed_as : (k : Kind) (fs : List Field) → update_record fs ≡ ok k → (o : Option Rec) → chart.change fs o ≡ change_of k fs o
 unfolding changed_by
 changed_as k fs r o = ap (λ (m : Option Kind). changed_by m fs o) (known_sent k fs r).kind
 
@@ -54,14 +54,14 @@ module _ (u : List ℕ) (at : ℕ) (s : Rest u at) (h : at < length u) (q : Head
       name_is : named_in (record_here u at) ≡ key_named k fields
       name_is = ap named_in (here_is u at h q e len base a b x) ∙ named_as k fields r
 
-      change_is : (o : Option Rec) → chart.change (record_here u at) o ≡ changeOf k fields o
+      change_is : (o : Option Rec) → chart.change (record_here u at) o ≡ change_of k fields o
       change_is o = ap (λ (fs : List Field). chart.change fs o) (here_is u at h q e len base a b x) ∙ changed_as k fields r o
 
       pub act_on_lem : (d w : List ℕ) (p : Present) → Acting d u w p (record_here u at) → (o : Option Rec) × HeldAs d u w p o × Under chart (key_named k fields) o
       act_on_lem d w p t = (t.what, t.held, subst (λ (n : List ℕ). Under chart n t.what) name_is t.under)
 
       pub act_done : (d w w' : List ℕ) (p : Present) (c : Changed)
-          → ((o : Option Rec) → HeldAs d u w p o → Under chart (key_named k fields) o → ChangedTo d u w' (changeOf k fields o) c) → FlagsKept w w'
+          → ((o : Option Rec) → HeldAs d u w p o → Under chart (key_named k fields) o → ChangedTo d u w' (change_of k fields o) c) → FlagsKept w w'
           → Acted d u w p (record_here u at) w' c
       act_done d w w' p c g f = record {
         came = λ o y z. subst (λ (m : Check (Option Rec)). ChangedTo d u w' m c) (sym (change_is o)) (g o y (subst (λ (n : List ℕ). Under chart n o) name_is z));

@@ -3,12 +3,12 @@ use mathlib.Core.Path.{◌≡◌, refl, sym, ap, ◌∙◌, subst}
 use mathlib.Core.Bool.{true, false}
 use mathlib.Core.Option.{Option}
 use mathlib.Core.List.{List, [], ◌∷◌, ◌++◌, append-nil, append_assoc}
-use Prim.Native.Nat.{ℕ, ◌+◌, ◌-◌, ◌^◌, ◌≤◌, ◌<◌}
+use Prim.Native.Nat.{ℕ, ◌+◌, ◌-◌, ◌≤◌, ◌<◌}
 use native.Mathlib.Omega.{arith}
 use borrow.Author.Tests.{eq-eqb}
 use lib.ListN.{length, take, drop}
 use lib.Seq.{take_all}
-use Rattle.base.specs.Check.{Check, ok, no, bind, fault}
+use Rattle.base.specs.Check.{Check, ok, bind, fault}
 use Rattle.base.specs.Lists.{each, Each}
 use Rattle.base.proofs.EachLaws.{each_parts}
 use Rattle.base.specs.Keys.{same}
@@ -17,22 +17,22 @@ use Rattle.skeleton.specs.File.{Field, records_from}
 use Rattle.skeleton.proofs.FileLaws.{records_over}
 use Rattle.skeleton.proofs.ReadLaws.{few_records}
 use Rattle.rules.specs.Record.{Rec}
-use Rattle.sequence.specs.Keyed.{Parts, Under}
+use Rattle.sequence.specs.Keyed.{Under}
 use Rattle.sequence.specs.History.{history}
 use Rattle.sequence.proofs.Arms.{history_none, history_next, history_no}
 use Rattle.sequence.proofs.Local.{history_append, history_own, history_under}
 use Rattle.updates.specs.Acts.{chart}
 use Rattle.updates.proofs.Acted.{lawful}
 use Rattle.incoming.specs.Fitting.{Single, Rest}
-use Rattle.keys.specs.Listed.{key_of, keys_from, listed}
+use Rattle.keys.specs.Listed.{key_of, listed}
 use Rattle.keys.specs.Look.{look_at, Sound}
 use Rattle.keys.specs.Numbered.{number_of, Ranged}
 use Rattle.keys.specs.declared.look.Look.{Look}
 use Rattle.keys.specs.declared.look.Look.TheVariants.{At, Nothing}
 use Rattle.keys.proofs.SoundLaws.{sound_nothing}
 use Rattle.keys.proofs.NumberLaws.{same_number, number_inj}
-use Rattle.keys.specs.Places.{Leads, here, over, Names}
-use Rattle.sorting.specs.Places.{Skips, Next}
+use Rattle.keys.specs.Places.{Leads, here, over}
+use Rattle.sorting.specs.Places.{Next}
 use Rattle.keys.proofs.PlaceLaws.{same_look, leads_then}
 use Rattle.sorting.proofs.PlaceLaws.{next_up}
 use Rattle.version.specs.Present.{HeldAs, ChangedTo, FlagsKept}

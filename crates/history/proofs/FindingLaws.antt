@@ -12,14 +12,13 @@ use Rattle.base.specs.Choice.{pick}
 use Rattle.base.specs.Lists.{each, Each}
 use Rattle.base.proofs.EachLaws.{each_parts}
 use Rattle.base.specs.Keys.{same}
-use Rattle.base.specs.Walk.{Got}
 use Rattle.base.proofs.KeysLaws.{same_sound, same_refl}
 use Rattle.skeleton.specs.File.{Field, records_from}
 use Rattle.skeleton.specs.Place.{between, fields_at}
 use Rattle.skeleton.specs.Record.{record_at}
 use Rattle.skeleton.specs.declared.leader.Head.{Head}
 use Rattle.skeleton.specs.declared.leader.Head.TheVariants.{Good, Refused}
-use Rattle.rules.specs.Record.{Rec, key_of as keyInRules, key_named, rec_of}
+use Rattle.rules.specs.Record.{Rec, key_of as key_in_rules, key_named, rec_of}
 use Rattle.rules.specs.declared.Kind.{Kind}
 use Rattle.rules.proofs.Locality.{key_named_lem}
 use Rattle.sequence.specs.Keyed.{find, Once}
@@ -34,10 +33,7 @@ use Rattle.keys.specs.Look.{Sound}
 use Rattle.keys.specs.Numbered.{number_of, Ranged}
 use Rattle.keys.specs.Places.{Names, site_of}
 use Rattle.keys.proofs.ListLaws.{listed_none, listed_later, not_first, not_later}
-use Rattle.keys.proofs.LookLaws.{Found}
-use Rattle.keys.proofs.SoundLaws.{Next}
 use Rattle.keys.proofs.PlaceLaws.{follows, leads_sound, Sited, site_known}
-use Rattle.keys.proofs.IdentLaws.{Keyed}
 use Rattle.keys.proofs.NumberLaws.{same_number}
 use Rattle.sorting.proofs.PlaceLaws.{Mid, leads_mid}
 use Rattle.items.specs.Items.{source}
@@ -52,8 +48,8 @@ use Rattle.history.proofs.HereLaws.{here_is, here_word, here_fits, here_keyed, h
 
 -- the record that fields say has their key
 pub record Said (fs : List Field) : Type 0 where
-  pub ranged : Ranged (keyInRules (rec_in fs))
-  pub number : key_of fs ≡ number_of (keyInRules (rec_in fs))
+  pub ranged : Ranged (key_in_rules (rec_in fs))
+  pub number : key_of fs ≡ number_of (key_in_rules (rec_in fs))
 
 said_as : (k : Kind) (fs : List Field) → Stored k fs → rec_in fs ≡ rec_of k fs
 unfolding rec_by
@@ -62,7 +58,7 @@ said_as k fs s = ap (λ (o : Option Kind). rec_by o fs) (known_stored k fs s).ki
 pub said : (k : Kind) (fs : List Field) → Stored k fs → Said fs
 said k fs s =
     let n = (known_stored k fs s).keyed in
-    let e : keyInRules (rec_in fs) ≡ key_named k fs = ap keyInRules (said_as k fs s) ∙ key_named_lem k fs in
+    let e : key_in_rules (rec_in fs) ≡ key_named k fs = ap key_in_rules (said_as k fs s) ∙ key_named_lem k fs in
     record { ranged = rw e n.ranged; number = rw e n.number }
 
 -- a key that is not listed is not found
@@ -73,29 +69,29 @@ none_listed [] s k r e = refl
 none_listed (fs ∷ items) s k r e =
     let t = said s.0.0 fs s.0.1 in
     let n : key_of fs ≡ number_of k → ⊥ = not_first (number_of k) (key_of fs) (each key_of items) e in
-    let x : same (keyInRules (rec_in fs)) k ≡ false
-    = same_number (keyInRules (rec_in fs)) k t.ranged r ∙ ne_eqb (number_of k) (number_of (keyInRules (rec_in fs))) (λ z. n (t.number ∙ sym z)) in
+    let x : same (key_in_rules (rec_in fs)) k ≡ false
+    = same_number (key_in_rules (rec_in fs)) k t.ranged r ∙ ne_eqb (number_of k) (number_of (key_in_rules (rec_in fs))) (λ z. n (t.number ∙ sym z)) in
     rw x (none_listed items s.1 k r (not_later (number_of k) (key_of fs) (each key_of items) e))
 
 -- a record that stands is found where keys stand once
 pub once_found : (i : ℕ) (items : List (List Field)) → Once chart (each rec_in items) → (fs : List Field) (later : List (List Field)) → drop i items ≡ fs ∷ later
-    → find chart (keyInRules (rec_in fs)) (each rec_in items) ≡ some (rec_in fs)
+    → find chart (key_in_rules (rec_in fs)) (each rec_in items) ≡ some (rec_in fs)
 unfolding Once each find
 once_found zero [] o fs later e = absurd (let z : ◌≡◌ {A = ℕ} 0 1 = cc in omega arith)
 once_found (suc i) [] o fs later e = absurd (let z : ◌≡◌ {A = ℕ} 0 1 = cc in omega arith)
 once_found zero (gs ∷ items) o fs later e =
     let z : gs ≡ fs = cc in
-    rw (z, same_refl (keyInRules (rec_in fs)))
+    rw (z, same_refl (key_in_rules (rec_in fs)))
 once_found (suc i) (gs ∷ items) o fs later e =
     let there = once_found i items o.1 fs later e in
-    go (same (keyInRules (rec_in gs)) (keyInRules (rec_in fs))) refl there
+    go (same (key_in_rules (rec_in gs)) (key_in_rules (rec_in fs))) refl there
   where
-    go : (t : Bool) → same (keyInRules (rec_in gs)) (keyInRules (rec_in fs)) ≡ t → find chart (keyInRules (rec_in fs)) (each rec_in items) ≡ some (rec_in fs)
-        → pick t (some (rec_in gs)) (find chart (keyInRules (rec_in fs)) (each rec_in items)) ≡ some (rec_in fs)
+    go : (t : Bool) → same (key_in_rules (rec_in gs)) (key_in_rules (rec_in fs)) ≡ t → find chart (key_in_rules (rec_in fs)) (each rec_in items) ≡ some (rec_in fs)
+        → pick t (some (rec_in gs)) (find chart (key_in_rules (rec_in fs)) (each rec_in items)) ≡ some (rec_in fs)
     go false y h = h
     go true y h =
-        let z = same_sound (keyInRules (rec_in gs)) (keyInRules (rec_in fs)) y in
-        let n : find chart (keyInRules (rec_in fs)) (each rec_in items) ≡ none = rw z at o.0 in
+        let z = same_sound (key_in_rules (rec_in gs)) (key_in_rules (rec_in fs)) y in
+        let n : find chart (key_in_rules (rec_in fs)) (each rec_in items) ≡ none = rw z at o.0 in
         absurd (let w : ◌≡◌ {A = ℕ} 0 1 = cc in omega arith)
 
 -- a key that is not found is not listed
@@ -103,16 +99,16 @@ none_found : (items : List (List Field)) → Each AnyStored items → (k : List 
     → listed (number_of k) (each key_of items) ≡ false
 unfolding Each each find
 none_found [] s k r e = listed_none (number_of k)
-none_found (fs ∷ items) s k r e = go (same (keyInRules (rec_in fs)) k) refl (none_found items s.1 k r) e
+none_found (fs ∷ items) s k r e = go (same (key_in_rules (rec_in fs)) k) refl (none_found items s.1 k r) e
   where
-    go : (t : Bool) → same (keyInRules (rec_in fs)) k ≡ t → (find chart k (each rec_in items) ≡ none → listed (number_of k) (each key_of items) ≡ false)
+    go : (t : Bool) → same (key_in_rules (rec_in fs)) k ≡ t → (find chart k (each rec_in items) ≡ none → listed (number_of k) (each key_of items) ≡ false)
         → pick t (some (rec_in fs)) (find chart k (each rec_in items)) ≡ none → listed (number_of k) (key_of fs ∷ each key_of items) ≡ false
     go true x later e = absurd (let z : ◌≡◌ {A = ℕ} 0 1 = cc in omega arith)
     go false x later e =
         let t = said s.0.0 fs s.0.1 in
-        let test = same_number (keyInRules (rec_in fs)) k t.ranged r in
+        let test = same_number (key_in_rules (rec_in fs)) k t.ranged r in
         listed_later (number_of k) (key_of fs) (each key_of items)
-        (λ z. true≢false (sym (test ∙ eq-eqb (number_of k) (number_of (keyInRules (rec_in fs))) (sym z ∙ t.number)) ∙ x))
+        (λ z. true≢false (sym (test ∙ eq-eqb (number_of k) (number_of (key_in_rules (rec_in fs))) (sym z ∙ t.number)) ∙ x))
         ∙ later e
 
 -- where records stand once under their keys, so do the keys as numbers
@@ -121,7 +117,7 @@ unfolding Each each Once EachOnce
 numbers_once [] s o = tt
 numbers_once (fs ∷ items) s o =
     let t = said s.0.0 fs s.0.1 in (
-      ap (λ (n : ℕ). listed n (each key_of items)) t.number ∙ none_found items s.1 (keyInRules (rec_in fs)) t.ranged o.0,
+      ap (λ (n : ℕ). listed n (each key_of items)) t.number ∙ none_found items s.1 (key_in_rules (rec_in fs)) t.ranged o.0,
       numbers_once items s.1 o.1,
     )
 
@@ -129,9 +125,9 @@ numbers_once (fs ∷ items) s o =
 
 -- s is the dataset's record whose key has this number
 pub record Stands (d : List ℕ) (ds key : ℕ) (s : Rec) : Type 0 where
-  pub ranged : Ranged (keyInRules s)
-  pub number : number_of (keyInRules s) ≡ key
-  pub found : find chart (keyInRules s) (stock_from d ds) ≡ some s
+  pub ranged : Ranged (key_in_rules s)
+  pub number : number_of (key_in_rules s) ≡ key
+  pub found : find chart (key_in_rules s) (stock_from d ds) ≡ some s
 
 -- it begins at r, where that is before the dataset's end; else there is none
 pub record Located (d : List ℕ) (ds key r : ℕ) : Type 0 where

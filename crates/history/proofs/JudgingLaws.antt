@@ -2,25 +2,23 @@
 use mathlib.Core.Path.{◌≡◌, refl, sym, ap, ◌∙◌, subst}
 use mathlib.Core.Bool.{Bool, true, false, not, true≢false}
 use mathlib.Core.Option.{Option, some, none}
-use mathlib.Core.List.{List, [], ◌∷◌, ◌++◌, append_assoc}
+use mathlib.Core.List.{List, [], ◌∷◌, ◌++◌}
 use Prim.Native.Nat.{ℕ, ◌+◌, ◌-◌, ◌^◌, ◌≤◌, ◌<◌}
 use native.Mathlib.Omega.{arith}
 use borrow.Author.Tests.{not-true, not-false, eqb-true, ltb-true, ltb-false, lt-ltb, le-ltb, leb-true, leb-false}
 use lib.Dec.{eqb, ltb, leb}
 use lib.ListN.{length, drop, length-append}
 use Rattle.base.specs.Choice.{pick, either}
-use Rattle.base.specs.Check.{Check, ok, no, bind, fault}
+use Rattle.base.specs.Check.{ok, no, bind, fault}
 use Rattle.base.specs.Lists.{each, Each}
-use Rattle.base.specs.Keys.{same}
-use Rattle.base.specs.Walk.{Got}
 use Rattle.base.specs.declared.Fault.{Fault}
 use Rattle.base.proofs.CheckLaws.{bind_inv}
 use Rattle.base.proofs.EachLaws.{each_parts}
 use Rattle.base.proofs.KeysLaws.{same_sound, same_refl}
 use Rattle.base.proofs.ListLaws.{each_append}
 use Rattle.skeleton.specs.File.{Field, records_from}
-use Rattle.rules.specs.Record.{Rec, key_of as keyInRules}
-use Rattle.sequence.specs.Keyed.{Parts, Ran, stop, done, Under, Has, Once, find}
+use Rattle.rules.specs.Record.{Rec, key_of as key_in_rules}
+use Rattle.sequence.specs.Keyed.{Ran, stop, done, Under, Has, Once, find}
 use Rattle.sequence.specs.History.{history, version, due, judged, First, Fine as AllFine, verdict}
 use Rattle.sequence.proofs.Arms.{due_of}
 use Rattle.sequence.proofs.Local.{history_append, run_judged}
@@ -53,7 +51,7 @@ use Rattle.version.specs.declared.Changed.TheVariants.{Refused, Now}
 use Rattle.history.specs.Here.{record_here, named_in, records_up_to}
 use Rattle.history.specs.Flags.{key_flag, Flags, Marked}
 use Rattle.history.proofs.FindingLaws.{Stands, Located, located}
-use Rattle.history.specs.Ready.{Short, Ready}
+use Rattle.history.specs.Ready.{Ready}
 use Rattle.history.specs.Played.{Playing, EndsAt, Coursed}
 use Rattle.history.specs.Judged.{keys_up_to, Naming, Through, RefusedAt, Followed, earlier_by, earlier_of, Judging, judged_by, AllJudged}
 use Rattle.history.specs.declared.playing.Course.{Course}
@@ -240,10 +238,10 @@ module _ (d : List ℕ) (ds : ℕ) (u : List ℕ) (us : ℕ) (y : Ready d ds u u
 
         writes : Writable (rec_in (record_here d r))
         writes =
-            subst (Has chart Writable) stands.found (each_find chart Writable (keyInRules (rec_in (record_here d r))) (stock_from d ds) y.writable)
+            subst (Has chart Writable) stands.found (each_find chart Writable (key_in_rules (rec_in (record_here d r))) (stock_from d ds) y.writable)
 
-        key_of_lem : (k : List ℕ) → Ranged k → number_of k ≡ key → keyInRules (rec_in (record_here d r)) ≡ k
-        key_of_lem k a n = number_inj (keyInRules (rec_in (record_here d r))) k stands.ranged a (n ∙ sym stands.number)
+        key_of_lem : (k : List ℕ) → Ranged k → number_of k ≡ key → key_in_rules (rec_in (record_here d r)) ≡ k
+        key_of_lem k a n = number_inj (key_in_rules (rec_in (record_here d r))) k stands.ranged a (n ∙ sym stands.number)
 
         pub there_playing : Playing d u v p key
         there_playing = record { what = some (rec_in (record_here d r)); held = g u writes; under = λ k a n. key_of_lem k a n }

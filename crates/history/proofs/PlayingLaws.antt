@@ -7,7 +7,6 @@ use borrow.Author.Tests.{ne_eqb}
 use lib.ListN.{length}
 use Rattle.base.specs.Lists.{each, Each}
 use Rattle.base.specs.Keys.{same}
-use Rattle.base.specs.Walk.{Got}
 use Rattle.skeleton.specs.File.{Field, records_from}
 use Rattle.sequence.specs.Order.{named}
 use Rattle.updates.specs.Acts.{chart}
@@ -17,13 +16,11 @@ use Rattle.keys.specs.Look.{look_at, Sound}
 use Rattle.keys.specs.Numbered.{number_of, Ranged}
 use Rattle.keys.specs.declared.look.Look.{Look}
 use Rattle.keys.specs.declared.look.Look.TheVariants.{At}
-use Rattle.keys.proofs.IdentLaws.{Keyed}
 use Rattle.keys.proofs.ListLaws.{listed_none, listed_later, not_first, not_later}
-use Rattle.keys.proofs.LookLaws.{Found}
-use Rattle.keys.proofs.SoundLaws.{Next, sound_next}
+use Rattle.keys.proofs.SoundLaws.{sound_next}
 use Rattle.keys.proofs.NumberLaws.{same_number}
 use Rattle.history.specs.Here.{record_here, named_in}
-use Rattle.history.proofs.HereLaws.{here_keyed, Known, known_sent}
+use Rattle.history.proofs.HereLaws.{here_keyed, known_sent}
 use Rattle.history.proofs.ActingLaws.{named_as}
 
 -- ---- an update record that a quick look finds

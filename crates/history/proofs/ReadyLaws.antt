@@ -11,13 +11,12 @@ use Rattle.rules.specs.File.{read_dataset, writable}
 use Rattle.rules.proofs.OutcomeLaws.{and_then_inv}
 use Rattle.sequence.specs.Keyed.{Once}
 use Rattle.updates.specs.Acts.{chart}
-use Rattle.updates.specs.Sorted.{Sorted}
 use Rattle.updates.specs.Accepted.{Writable}
 use Rattle.updates.proofs.Results.{read_sorted}
 use Rattle.updates.proofs.Kept.{every_inv, each_of}
 use Rattle.stock.specs.Stock.{stock_from, Stock}
 use Rattle.incoming.specs.Fitting.{Fitting}
-use Rattle.history.specs.Ready.{Short, Ready}
+use Rattle.history.specs.Ready.{Ready}
 
 -- each record of a dataset that can be written can be
 pub writable_each : (a : Dataset) → writable a ≡ done a → Each Writable a.records

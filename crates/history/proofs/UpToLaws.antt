@@ -4,13 +4,12 @@ use mathlib.Core.Bool.{Bool, true, false}
 use mathlib.Core.List.{List, [], ◌∷◌, ◌++◌, append-nil, append_assoc}
 use Prim.Native.Nat.{ℕ, ◌+◌, ◌-◌, ◌≤◌, ◌<◌}
 use native.Mathlib.Omega.{arith}
-use borrow.Author.Tests.{ltb-true, ltb-false, eqb-true, eqb-false}
+use borrow.Author.Tests.{eqb-true, eqb-false}
 use lib.Dec.{eqb}
 use lib.ListN.{length, take, drop, length-append}
 use lib.Seq.{take_at}
 use Rattle.base.specs.Lists.{each}
 use Rattle.base.specs.Walk.{Got}
-use Rattle.base.proofs.ListLaws.{each_append}
 use Rattle.skeleton.specs.File.{Field, records_from}
 use Rattle.skeleton.proofs.FileLaws.{records_over}
 use Rattle.keys.specs.Listed.{key_of, keys_from, listed}
@@ -18,12 +17,11 @@ use Rattle.keys.specs.Look.{look_at, Sound}
 use Rattle.keys.specs.declared.look.Look.{Look}
 use Rattle.keys.specs.declared.look.Look.TheVariants.{At, Nothing}
 use Rattle.keys.proofs.ListLaws.{listed_here, listed_later, listed_none, not_first, not_later}
-use Rattle.keys.proofs.LookLaws.{Found}
-use Rattle.keys.proofs.SoundLaws.{Next as Follows, sound_nothing}
-use Rattle.keys.specs.Places.{Leads, here, over, Names}
-use Rattle.sorting.specs.Places.{Skips, Next}
-use Rattle.keys.proofs.PlaceLaws.{follows, same_look, leads_sound, leads_up, leads_on}
-use Rattle.sorting.proofs.PlaceLaws.{Mid, leads_mid}
+use Rattle.keys.proofs.SoundLaws.{sound_nothing}
+use Rattle.keys.specs.Places.{Leads, here, over}
+use Rattle.sorting.specs.Places.{Next}
+use Rattle.keys.proofs.PlaceLaws.{follows, same_look, leads_sound, leads_on}
+use Rattle.sorting.proofs.PlaceLaws.{leads_mid}
 use Rattle.history.specs.Here.{record_here, records_up_to}
 use Rattle.history.proofs.HereLaws.{here_keyed}
 

@@ -1,6 +1,5 @@
 -- The record that begins at a byte.
 use Rattle.std.specs.Prelude.{ℕ, ◌-◌, List, [], length, take, get_or}
-use Rattle.base.specs.Walk.{Got}
 use Rattle.skeleton.specs.File.{Field, records_from}
 use Rattle.updates.specs.Acts.{kind_in, named_by}
 

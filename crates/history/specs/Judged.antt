@@ -4,8 +4,7 @@ use Rattle.std.proofs.Math.Option.{Option}
 use Rattle.base.specs.Choice.{pick}
 use Rattle.base.specs.Check.{ok, no, fault}
 use Rattle.base.specs.Lists.{each}
-use Rattle.base.specs.Walk.{Got}
-use Rattle.skeleton.specs.File.{Field, records_from}
+use Rattle.skeleton.specs.File.{records_from}
 use Rattle.rules.specs.Outcome.{Outcome, done, refused}
 use Rattle.rules.specs.Record.{Rec}
 use Rattle.sequence.specs.History.{version, due}

@@ -3,10 +3,9 @@ use Rattle.std.specs.Prelude.{ℕ, ◌≤◌, ◌<◌, ◌≡◌, true, List, �
 use Rattle.std.proofs.Math.Option.{Option}
 use Rattle.base.specs.Check.{ok, no, fault}
 use Rattle.base.specs.Keys.{same}
-use Rattle.base.specs.Walk.{Got}
 use Rattle.skeleton.specs.File.{Field, records_from}
 use Rattle.rules.specs.Record.{Rec}
-use Rattle.sequence.specs.Keyed.{Parts, Under}
+use Rattle.sequence.specs.Keyed.{Under}
 use Rattle.sequence.specs.History.{history}
 use Rattle.updates.specs.Acts.{chart}
 use Rattle.keys.specs.Look.{Sound}

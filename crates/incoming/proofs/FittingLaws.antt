@@ -18,7 +18,7 @@ use Rattle.skeleton.proofs.RecordLaws.{refusal_some}
 use Rattle.rules.specs.General.{general_record}
 use Rattle.rules.specs.Record.{Rec, update_record}
 use Rattle.rules.specs.Outcome.{Outcome, done, refused, and_then, at}
-use Rattle.rules.specs.File.{Sent, sent_as, update_test, through, ending, taken, read_update}
+use Rattle.rules.specs.File.{Sent, sent_as, update_test, through, taken, read_update}
 use Rattle.rules.specs.declared.Mode.TheVariants.{InUpdate}
 use Rattle.rules.proofs.OutcomeLaws.{and_then_inv, at_inv}
 use Rattle.rules.proofs.FileLaws.{ending_inv}

@@ -1,4 +1,5 @@
 // An update, first pass: every record on its own.
 #![tactic(auto)]
+
 pub mod record;
 pub mod walk;

@@ -1,5 +1,6 @@
 // The working form of a record's attributes in lent memory.
 #![tactic(auto)]
+
 pub mod item;
 pub mod loading;
 

@@ -7,13 +7,11 @@ use native.Mathlib.Omega.{arith}
 use native.Mathlib.Nat.{add-zero}
 use lib.ListN.{length, take, drop, length-take, length-drop}
 use Rattle.base.specs.Lists.{each}
-use Rattle.base.specs.Walk.{Got}
-use Rattle.skeleton.specs.Directory.{Body, entry_at, lies, ended, fields_of}
+use Rattle.skeleton.specs.Directory.{entry_at, lies, ended, fields_of}
 use Rattle.skeleton.specs.File.{Field, cut_out}
 use Rattle.skeleton.specs.Place.{between, fields_at}
 use Rattle.skeleton.specs.declared.directory.Entry.{Entry}
 use Rattle.skeleton.specs.declared.directory.Entry.TheVariants.{Field as FieldAt, End, Bad}
-use Rattle.skeleton.specs.declared.directory.Shape.{Shape}
 use Rattle.skeleton.proofs.DirectoryLaws.{lies_in, fields_step, dir_bad}
 use Rattle.skeleton.proofs.PlaceLaws.{fields_same}
 use Rattle.rules.specs.ByTag.{front}

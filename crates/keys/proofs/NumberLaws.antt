@@ -11,7 +11,7 @@ use Rattle.base.specs.Lists.{each}
 use Rattle.base.specs.Keys.{same, among}
 use Rattle.base.proofs.ChoiceLaws.{by_test}
 use Rattle.base.proofs.KeysLaws.{same_sound, same_refl}
-use Rattle.rules.specs.Record.{Rec, key_of as keyInRules}
+use Rattle.rules.specs.Record.{Rec, key_of as key_in_rules}
 use Rattle.keys.specs.Key.{rank_of}
 use Rattle.keys.specs.Listed.{listed}
 use Rattle.keys.specs.Numbered.{number_of, Ranged, Numbered}
@@ -74,9 +74,9 @@ either_swap true false = refl
 either_swap false true = refl
 either_swap false false = refl
 
-module _ (r : Rec) (recs : List Rec) (l : List ℕ) (x : ℕ) (n : Numbered recs l) (g : Ranged (keyInRules r)) (e : x ≡ number_of (keyInRules r)) where
-  test : (k : List ℕ) → Ranged k → same k (keyInRules r) ≡ eqb x (number_of k)
-  test k h = same_number k (keyInRules r) h g ∙ ap (λ (y : ℕ). eqb y (number_of k)) (sym e)
+module _ (r : Rec) (recs : List Rec) (l : List ℕ) (x : ℕ) (n : Numbered recs l) (g : Ranged (key_in_rules r)) (e : x ≡ number_of (key_in_rules r)) where
+  test : (k : List ℕ) → Ranged k → same k (key_in_rules r) ≡ eqb x (number_of k)
+  test k h = same_number k (key_in_rules r) h g ∙ ap (λ (y : ℕ). eqb y (number_of k)) (sym e)
 
   -- one more in front of both
   pub numbered_front : Numbered (r ∷ recs) (x ∷ l)

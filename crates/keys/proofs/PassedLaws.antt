@@ -20,7 +20,7 @@ use Rattle.rules.specs.Grammar.{number4, on_kind, fields_stand}
 use Rattle.rules.specs.Content.{number5}
 use Rattle.rules.specs.Trees.{number6}
 use Rattle.rules.specs.Associations.{number7}
-use Rattle.rules.specs.Record.{Rec, key_named, rec_of, dataset_record, key_of as keyInRules}
+use Rattle.rules.specs.Record.{Rec, key_named, rec_of, dataset_record, key_of as key_in_rules}
 use Rattle.rules.specs.Outcome.{done}
 use Rattle.rules.specs.File.{last_rank, dataset_test, through}
 use Rattle.rules.proofs.OutcomeLaws.{done_inj}
@@ -115,14 +115,14 @@ regroup (no y) b c g = refl
 
 -- numbers 4 to 6, and then 7
 pub record_parts : (least : ℕ) (earlier : List (List ℕ)) (fs : List Field) → dataset_record least earlier fs ≡ bind (four_to_six least fs) (seventh earlier fs)
-unfolding dataset_record four_to_six keyInRules rec_of key_named
+unfolding dataset_record four_to_six key_in_rules rec_of key_named
 record_parts least earlier fs =
     regroup (number4 InDataset least fs) (λ k. number5 InDataset k fs) (λ k. number6 InDataset k fs) (seventh earlier fs)
 
 -- a record that has passed them all
 pub record Read (fs : List Field) (r : Rec) : Type 0 where
-  pub ranged : Ranged (keyInRules r)
-  pub number : key_of fs ≡ number_of (keyInRules r)
+  pub ranged : Ranged (key_in_rules r)
+  pub number : key_of fs ≡ number_of (key_in_rules r)
   pub some : key_of fs ≡ 0 → ⊥
   pub fine : Fine fs
 
@@ -179,5 +179,5 @@ unfolding through
 through_read [] n seen recs h e = read_none recs e
 through_read (fs ∷ items) n seen recs h e =
     let l = through_later fs items n seen recs h e in
-    read_more fs items l.made l.others recs (record_read (last_rank seen) (each keyInRules seen) fs l.made l.passes)
+    read_more fs items l.made l.others recs (record_read (last_rank seen) (each key_in_rules seen) fs l.made l.passes)
     (through_read items (n + 1) (l.made ∷ seen) l.others (omega arith) l.onward) l.all

@@ -15,8 +15,8 @@ use Rattle.keys.specs.Places.{Leads, here, over, Names, length_by, site_among, s
 use Rattle.keys.specs.declared.look.Look.{Look}
 use Rattle.keys.specs.declared.look.Look.TheVariants.{At, Nothing}
 use Rattle.keys.proofs.ListLaws.{listed_here, listed_later, listed_none, not_first, not_later}
-use Rattle.keys.proofs.LookLaws.{keys_past, Found}
-use Rattle.keys.proofs.OrderLaws.{Parted, parted, above_none}
+use Rattle.keys.proofs.LookLaws.{keys_past}
+use Rattle.keys.proofs.OrderLaws.{parted, above_none}
 use Rattle.keys.proofs.SoundLaws.{Next as Follows, sound_next, sound_nothing}
 
 -- ---- a record at a place

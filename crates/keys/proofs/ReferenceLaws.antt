@@ -8,7 +8,6 @@ use lib.ListN.{length, take}
 use Rattle.base.specs.Check.{ok, no, fault, Passed}
 use Rattle.base.specs.Lists.{each, Each}
 use Rattle.base.specs.Keys.{among}
-use Rattle.base.specs.Walk.{Got}
 use Rattle.base.specs.declared.Fault.{Fault}
 use Rattle.skeleton.specs.File.{Field, records_from}
 use Rattle.skeleton.specs.Place.{between, fields_at}
@@ -17,17 +16,17 @@ use Rattle.skeleton.specs.declared.leader.Head.{Head}
 use Rattle.skeleton.specs.declared.leader.Head.TheVariants.{Good}
 use Rattle.skeleton.proofs.FileLaws.{records_over, records_more}
 use Rattle.rules.specs.Associations.{Mark, marks, number11}
-use Rattle.rules.specs.Record.{Rec, key_of as keyInRules}
+use Rattle.rules.specs.Record.{Rec, key_of as key_in_rules}
 use Rattle.rules.specs.Outcome.{Outcome, done, refused, and_then, at, every_record}
-use Rattle.rules.specs.File.{dataset_test, ending, taken, references}
+use Rattle.rules.specs.File.{dataset_test, taken, references}
 use Rattle.rules.proofs.FileLaws.{taken_inv}
 use Rattle.keys.specs.Key.{key_at}
 use Rattle.keys.specs.Listed.{keys_from, has_from}
 use Rattle.keys.specs.Look.{Sound}
-use Rattle.keys.specs.Numbered.{Ranged, Numbered}
+use Rattle.keys.specs.Numbered.{Numbered}
 use Rattle.keys.specs.Standing.{unread, outcome_from, references_from, Fine, FineFrom}
 use Rattle.keys.proofs.NamedLaws.{Names}
-use Rattle.keys.proofs.PassedLaws.{ReadAll, through_read}
+use Rattle.keys.proofs.PassedLaws.{through_read}
 
 -- ---- a dataset whose records have passed 1 to 7
 
@@ -84,14 +83,14 @@ module _ (f : List ℕ) (p : ℕ) (g : FineFrom f p) (l : p < length f) (h : Hea
 
 module _ (f : List ℕ) (start : ℕ) (recs : List Rec) (numbered : Numbered recs (keys_from f start)) where
   -- the record that bytes name at p exists where their key stands in the file
-  pub named_is : (b : List ℕ) (p : ℕ) (k : List ℕ) → Names b p k → among k (each keyInRules recs) ≡ has_from f start (key_at b p)
+  pub named_is : (b : List ℕ) (p : ℕ) (k : List ℕ) → Names b p k → among k (each key_in_rules recs) ≡ has_from f start (key_at b p)
   unfolding Numbered has_from
   named_is b p k n = rw n.number (numbered k n.ranged)
 
   -- the mark at hand, and those after it
   module _ (m : Mark) (ms : List Mark) (b : List ℕ) (p : ℕ) (n : Names b p (take 2 m.key)) (t : Bool) (et : t ≡ has_from f start (key_at b p))
-      (x : Passed) (inv : number11 (each keyInRules recs) (m ∷ ms) ≡ x) where
-    pub named_more : t ≡ true → number11 (each keyInRules recs) ms ≡ x
+      (x : Passed) (inv : number11 (each key_in_rules recs) (m ∷ ms) ≡ x) where
+    pub named_more : t ≡ true → number11 (each key_in_rules recs) ms ≡ x
     unfolding number11
     named_more y = simp (named_is b p (take 2 m.key) n, ← et, y) at inv
 
@@ -119,16 +118,16 @@ module _ (recs : List Rec) (f : List ℕ) (p m : ℕ) (x : Outcome (Unit {0})) (
     abbrev fields : List Field
     fields = fields_at (between f p (p + len)) (record { base = base; a = a; b = b }) 24
 
-    turn : and_then (at 1 (m + 4) (number11 (each keyInRules recs) (marks 1 fields)))
-        (λ _. every_record (λ fs. number11 (each keyInRules recs) (marks 1 fs)) 1 (m + 4 + 1) (records_from f (p + len)).items) ≡ x
+    turn : and_then (at 1 (m + 4) (number11 (each key_in_rules recs) (marks 1 fields)))
+        (λ _. every_record (λ fs. number11 (each key_in_rules recs) (marks 1 fs)) 1 (m + 4 + 1) (records_from f (p + len)).items) ≡ x
     unfolding references_from every_record
     turn = rw (records_more f p l h eh len base a b y) at inv
 
-    pub references_loose : (z : Fault) → number11 (each keyInRules recs) (marks 1 fields) ≡ no z → refused 1 (m + 4) z ≡ x
+    pub references_loose : (z : Fault) → number11 (each key_in_rules recs) (marks 1 fields) ≡ no z → refused 1 (m + 4) z ≡ x
     unfolding at and_then
     references_loose z e = rw e at turn
 
-    pub references_more : (u : Unit {0}) → number11 (each keyInRules recs) (marks 1 fields) ≡ ok u → references_from recs f (p + len) (m + 1) ≡ x
+    pub references_more : (u : Unit {0}) → number11 (each key_in_rules recs) (marks 1 fields) ≡ ok u → references_from recs f (p + len) (m + 1) ≡ x
     unfolding references_from at and_then
     references_more u e =
         let i : m + 1 + 4 ≡ m + 4 + 1 = omega arith in

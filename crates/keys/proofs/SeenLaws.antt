@@ -9,7 +9,7 @@ use Rattle.keys.specs.Listed.{keys_from, listed, seen_from}
 use Rattle.keys.specs.Look.{look_at, Known}
 use Rattle.keys.specs.declared.look.Look.{Look}
 use Rattle.keys.specs.declared.look.Look.TheVariants.{At, Nothing}
-use Rattle.keys.proofs.ListLaws.{listed_here, listed_later, listed_none, Begins, begins, take_first, rest_keyed}
+use Rattle.keys.proofs.ListLaws.{listed_here, listed_later, listed_none, begins, take_first, rest_keyed}
 use Rattle.keys.proofs.LookLaws.{Found, FoundBy, found}
 
 -- by the look e at p, where m records are to be passed

@@ -12,7 +12,6 @@ use Rattle.base.specs.Choice.{pick, larger_of}
 use Rattle.base.specs.Check.{Check, ok, no, bind, fault}
 use Rattle.base.specs.Lists.{each}
 use Rattle.base.specs.Keys.{among}
-use Rattle.base.specs.Walk.{Got}
 use Rattle.base.specs.declared.Fault.{Fault}
 use Rattle.memory.specs.Hold.{zeros}
 use Rattle.skeleton.specs.File.{Field, records_from}
@@ -23,25 +22,23 @@ use Rattle.skeleton.specs.declared.leader.Head.TheVariants.{Good, Refused}
 use Rattle.skeleton.proofs.RecordLaws.{right, refusal_some}
 use Rattle.skeleton.proofs.FileLaws.{records_over, records_refused, records_more}
 use Rattle.rules.specs.Associations.{number7}
-use Rattle.rules.specs.Record.{Rec, key_named, rec_of, key_of as keyInRules}
+use Rattle.rules.specs.Record.{Rec, key_named, rec_of, key_of as key_in_rules}
 use Rattle.rules.specs.Outcome.{Outcome, done, refused, and_then, at}
 use Rattle.rules.specs.File.{last_rank, dataset_test, ending, taken}
 use Rattle.rules.proofs.FileLaws.{taken_over, taken_more, test_later}
 use Rattle.rules.specs.declared.Kind.{Kind}
 use Rattle.keys.specs.Key.{key_at}
 use Rattle.keys.specs.Listed.{key_of, keys_from, listed, seen_from}
-use Rattle.keys.specs.Look.{Known}
 use Rattle.keys.specs.Map.{kind_in}
 use Rattle.keys.specs.Once.{none_above, Once, Comes, Told}
-use Rattle.keys.specs.Numbered.{Ranged, Numbered}
+use Rattle.keys.specs.Numbered.{Numbered}
 use Rattle.keys.specs.Standing.{four_to_six, unread, outcome_from, Standing}
 use Rattle.keys.proofs.FirstLaws.{first_key}
 use Rattle.keys.proofs.ListLaws.{listed_none, split_room, split_take, split_drop}
 use Rattle.keys.proofs.LookLaws.{keys_past, keys_good}
 use Rattle.keys.proofs.OnceLaws.{marks_none, larger_least}
 use Rattle.keys.proofs.NumberLaws.{numbered_none, numbered_last}
-use Rattle.keys.proofs.IdentLaws.{Keyed}
-use Rattle.keys.proofs.PassedLaws.{Placed, placed, Read, read_of, seventh, record_parts}
+use Rattle.keys.proofs.PassedLaws.{Placed, placed, read_of, seventh, record_parts}
 
 -- ---- before the fourth record
 
@@ -111,7 +108,7 @@ module _ (f : List ℕ) (start at' m top : ℕ) (x : Outcome (Unit {0})) (s : St
           unread (and_then (at 1 (m + 4) (bind c (λ r. ok (r ∷ [])))) (λ new.
           and_then (taken dataset_test 1 3 (m + 4 + 1) (new ++ s.seen) (records_from f (at' + len))) (λ later. done (new ++ later))))
 
-      turn : after (bind (four_to_six (kind_in top) fields) (seventh (each keyInRules s.seen) fields)) ≡ x
+      turn : after (bind (four_to_six (kind_in top) fields) (seventh (each key_in_rules s.seen) fields)) ≡ x
       unfolding outcome_from
       turn =
           let e : taken dataset_test 1 3 (m + 4) s.seen (records_from f at')
@@ -120,8 +117,8 @@ module _ (f : List ℕ) (start at' m top : ℕ) (x : Outcome (Unit {0})) (s : St
           = ap (taken dataset_test 1 3 (m + 4) s.seen) (records_more f at' l h eh len base a b y)
           ∙ taken_more dataset_test 1 3 (m + 4) s.seen fields (records_from f (at' + len)) in
           let t = test_later (m + 4) s.seen fields (omega arith) in
-          let p = record_parts (last_rank s.seen) (each keyInRules s.seen) fields in
-          let q : after (bind (four_to_six (last_rank s.seen) fields) (seventh (each keyInRules s.seen) fields)) ≡ x = rw (e, t, p) at s.outcome in
+          let p = record_parts (last_rank s.seen) (each key_in_rules s.seen) fields in
+          let q : after (bind (four_to_six (last_rank s.seen) fields) (seventh (each key_in_rules s.seen) fields)) ≡ x = rw (e, t, p) at s.outcome in
           rw s.last at q
 
       after_no : (z : Fault) → after (no z) ≡ refused 1 (m + 4) z
@@ -153,7 +150,7 @@ module _ (f : List ℕ) (start at' m top : ℕ) (x : Outcome (Unit {0})) (s : St
         pub standing_kind : kind_in top ≤ kind_in key
         standing_kind = let r = passed.follows in let p = passed.keyed.kind in rw key_is (omega arith)
 
-        earlier : among (key_named k fields) (each keyInRules s.seen) ≡ seen_from f start m key
+        earlier : among (key_named k fields) (each key_in_rules s.seen) ≡ seen_from f start m key
         unfolding Numbered seen_from
         earlier =
             s.numbered (key_named k fields) passed.keyed.ranged

@@ -15,12 +15,12 @@ use Rattle.keys.specs.Look.{look_at, Sound}
 use Rattle.keys.specs.Bits.{flag_of}
 use Rattle.keys.specs.Order.{ascends, Ascending, ascended_to, sealed}
 use Rattle.keys.specs.Slots.{Slots, noted}
-use Rattle.keys.specs.Places.{Leads, here, over}
+use Rattle.keys.specs.Places.{here, over}
 use Rattle.keys.specs.Table.{Tail, Tails, Laid}
 use Rattle.keys.specs.declared.look.Look.{Look}
 use Rattle.keys.specs.declared.look.Look.TheVariants.{At, Nothing}
 use Rattle.keys.proofs.ListLaws.{split_take, split_drop}
-use Rattle.keys.proofs.LookLaws.{Found, keys_past}
+use Rattle.keys.proofs.LookLaws.{keys_past}
 use Rattle.keys.proofs.SoundLaws.{Next, sound_next, sound_nothing, sound_word, sound_falls, sound-bounds}
 use Rattle.keys.proofs.PlaceLaws.{leads_sound, leads_then}
 use Rattle.keys.proofs.SlotLaws.{slots_none, slots_more, noted_long}

@@ -2,7 +2,6 @@
 use Rattle.std.specs.Prelude.{ℕ, ◌≡◌, List, [], ◌∷◌, Bool, false, take, eqb}
 use Rattle.base.specs.Choice.{either}
 use Rattle.base.specs.Lists.{each}
-use Rattle.base.specs.Walk.{Got}
 use Rattle.skeleton.specs.File.{Field, records_from}
 use Rattle.rules.specs.ByTag.{front}
 use Rattle.keys.specs.Key.{key_at}

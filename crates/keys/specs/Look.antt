@@ -1,6 +1,5 @@
 -- A quick look at a record that was found right before.
 use Rattle.std.specs.Prelude.{ℕ, ◌+◌, ◌≤◌, ◌≡◌, false, List, length}
-use Rattle.base.specs.Walk.{Got}
 use Rattle.skeleton.specs.File.{records_from}
 use Rattle.skeleton.specs.Record.{stated_at}
 use Rattle.skeleton.specs.declared.leader.Head.{Head}

@@ -2,7 +2,7 @@
 use Rattle.std.specs.Prelude.{ℕ, ◌<◌, ◌≡◌, List, [], ◌∷◌, get_or}
 use Rattle.base.specs.Lists.{each}
 use Rattle.base.specs.Keys.{among}
-use Rattle.rules.specs.Record.{Rec, key_of as keyInRules}
+use Rattle.rules.specs.Record.{Rec, key_of as key_in_rules}
 use Rattle.keys.specs.Key.{rank_of, key_number}
 use Rattle.keys.specs.Listed.{listed}
 
@@ -20,4 +20,4 @@ pub record Ranged (k : List ℕ) : Type 0 where
 
 -- a key is among those of the records where its number is among the numbers
 unfoldable pub Numbered : List Rec → List ℕ → Type 0
-Numbered recs l = (k : List ℕ) → Ranged k → among k (each keyInRules recs) ≡ listed (number_of k) l
+Numbered recs l = (k : List ℕ) → Ranged k → among k (each key_in_rules recs) ≡ listed (number_of k) l

@@ -2,7 +2,6 @@
 use Rattle.std.specs.Prelude.{ℕ, ◌+◌, ◌≡◌, List, take, drop}
 use Rattle.base.specs.Check.{Check, ok, bind, pass}
 use Rattle.base.specs.Lists.{each, Each}
-use Rattle.base.specs.Walk.{Got}
 use Rattle.skeleton.specs.File.{Field, records_from}
 use Rattle.rules.specs.ByTag.{first_tag}
 use Rattle.rules.specs.Kind.{tag_of}
@@ -10,7 +9,7 @@ use Rattle.rules.specs.Grammar.{number4}
 use Rattle.rules.specs.Content.{number5}
 use Rattle.rules.specs.Trees.{number6}
 use Rattle.rules.specs.Associations.{marks, number11}
-use Rattle.rules.specs.Record.{Rec, key_of as keyInRules}
+use Rattle.rules.specs.Record.{Rec, key_of as key_in_rules}
 use Rattle.rules.specs.Outcome.{Outcome, done, and_then, every_record}
 use Rattle.rules.specs.File.{last_rank, dataset_test, taken}
 use Rattle.rules.specs.declared.Kind.{Kind}
@@ -45,7 +44,7 @@ pub record Standing (f : List ℕ) (start at m top : ℕ) (x : Outcome (Unit {0}
 -- number 11 of the records from byte at on, after m records behind the third, where those of the file are recs
 unfoldable pub references_from : List Rec → List ℕ → ℕ → ℕ → Outcome (Unit {0})
 references_from recs f at m =
-    let keys = each keyInRules recs in
+    let keys = each key_in_rules recs in
     every_record (λ fs. number11 keys (marks 1 fs)) 1 (m + 4) (records_from f at).items
 
 -- a record that has passed number 5 as one of the kind of its first tag

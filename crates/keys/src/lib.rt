@@ -1,5 +1,6 @@
 // The keys of a dataset's records.
 #![tactic(auto)]
+
 pub mod bits;
 pub mod look;
 pub mod order;

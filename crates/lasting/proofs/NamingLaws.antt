@@ -11,7 +11,7 @@ use Rattle.base.proofs.KeysLaws.{same_sound, same_refl}
 use Rattle.base.proofs.OptionLaws.{never}
 use Rattle.skeleton.specs.File.{Field}
 use Rattle.rules.specs.Kind.{rcnm, rank}
-use Rattle.rules.specs.Record.{Rec, key_of as keyInRules}
+use Rattle.rules.specs.Record.{Rec, key_of as key_in_rules}
 use Rattle.sequence.specs.Keyed.{find, Once}
 use Rattle.sequence.specs.Order.{is_insert, named}
 use Rattle.sequence.proofs.Tests.{by_bool}
@@ -52,11 +52,11 @@ insert_one n = by_bool (eqb n 1) (λ h. rw h) (λ h. by_bool (eqb n 2) (λ g. rw
 
 -- ---- records whose keys stand once
 
-pub once_there : (before : List Rec) (r : Rec) (later : List Rec) → Once chart (before ++ (r ∷ later)) → find chart (keyInRules r) (before ++ (r ∷ later)) ≡ some r
+pub once_there : (before : List Rec) (r : Rec) (later : List Rec) → Once chart (before ++ (r ∷ later)) → find chart (key_in_rules r) (before ++ (r ∷ later)) ≡ some r
 unfolding Once
-once_there [] r later o = find_hit chart (keyInRules r) r later (same_refl (keyInRules r))
+once_there [] r later o = find_hit chart (key_in_rules r) r later (same_refl (key_in_rules r))
 once_there (b ∷ before) r later o =
     let there = once_there before r later o.1 in
-    by_bool (same (keyInRules b) (keyInRules r))
-    (λ h. never (sym there ∙ subst (λ (k : List ℕ). find chart k (before ++ (r ∷ later)) ≡ none) (same_sound (keyInRules b) (keyInRules r) h) o.0))
-    (λ h. find_miss chart (keyInRules r) b (before ++ (r ∷ later)) h ∙ there)
+    by_bool (same (key_in_rules b) (key_in_rules r))
+    (λ h. never (sym there ∙ subst (λ (k : List ℕ). find chart k (before ++ (r ∷ later)) ≡ none) (same_sound (key_in_rules b) (key_in_rules r) h) o.0))
+    (λ h. find_miss chart (key_in_rules r) b (before ++ (r ∷ later)) h ∙ there)

@@ -21,7 +21,6 @@ use Rattle.skeleton.proofs.FileLaws.{records_more}
 use Rattle.skeleton.proofs.AgainLaws.{again, records_some}
 use Rattle.fields.specs.Valid.{Bytes}
 use Rattle.rules.specs.Record.{Rec}
-use Rattle.sequence.specs.Keyed.{Parts}
 use Rattle.sequence.specs.History.{history}
 use Rattle.sequence.specs.Order.{is_insert, deleted}
 use Rattle.sequence.specs.Stream.{joined_of}
@@ -39,21 +38,20 @@ use Rattle.keys.specs.Look.{look_at}
 use Rattle.keys.specs.declared.look.Look.TheVariants.{At}
 use Rattle.keys.specs.Numbered.{number_of, Ranged}
 use Rattle.keys.proofs.FirstLaws.{first_key}
-use Rattle.keys.proofs.IdentLaws.{Keyed}
 use Rattle.keys.specs.Places.{Leads, here as there, over}
 use Rattle.keys.proofs.PlaceLaws.{leads_then}
 use Rattle.version.specs.Areas.{flag_area}
 use Rattle.version.specs.Present.{HeldAs, ChangedTo, FlagsKept}
 use Rattle.version.specs.declared.Present.TheVariants.{Absent}
 use Rattle.version.specs.declared.Changed.{Changed}
-use Rattle.composing.specs.Acts.{ruin_with, deleted_from, Known}
+use Rattle.composing.specs.Acts.{ruin_with, deleted_from}
 use Rattle.composing.proofs.KnownLaws.{known_right, deleted_known}
 use Rattle.composing.proofs.ResultLaws.{joined_some, history_sound}
 use Rattle.history.specs.Here.{named_in}
 use Rattle.history.specs.Played.{Playing, Played}
 use Rattle.history.proofs.FlagLaws.{flags_kept}
 use Rattle.history.proofs.HereLaws.{known_sent}
-use Rattle.history.proofs.PlayingLaws.{Named, single_named}
+use Rattle.history.proofs.PlayingLaws.{single_named}
 use Rattle.lasting.specs.Whole.{Whole, New}
 use Rattle.lasting.specs.Step.{Stepped}
 use Rattle.lasting.specs.Stays.{Lasting, Stays, LastStep, NewStep}

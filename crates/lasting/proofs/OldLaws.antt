@@ -20,7 +20,7 @@ use Rattle.skeleton.proofs.FileLaws.{records_more}
 use Rattle.skeleton.proofs.ReadLaws.{bytes_between}
 use Rattle.fields.specs.Valid.{Bytes}
 use Rattle.rules.specs.Associations.{field_keys}
-use Rattle.rules.specs.Record.{Rec, rec_of, key_of as keyInRules}
+use Rattle.rules.specs.Record.{Rec, rec_of, key_of as key_in_rules}
 use Rattle.rules.specs.Written.{written_fields, written_length, number12}
 use Rattle.rules.specs.declared.Kind.{Kind}
 use Rattle.rules.proofs.LengthLaws.{short_record}
@@ -41,7 +41,6 @@ use Rattle.keys.specs.Bits.{flag_of}
 use Rattle.keys.specs.Listed.{keys_from, listed}
 use Rattle.keys.specs.Numbered.{number_of, Ranged}
 use Rattle.keys.proofs.FirstLaws.{first_key}
-use Rattle.keys.proofs.IdentLaws.{Keyed}
 use Rattle.keys.proofs.NumberLaws.{number_inj}
 use Rattle.references.specs.Readable.{all_readable}
 use Rattle.writing.specs.House.{in_house_form}
@@ -61,7 +60,7 @@ use Rattle.history.specs.Here.{record_here}
 use Rattle.history.specs.Played.{Playing, Played}
 use Rattle.history.proofs.FlagLaws.{flags_clear, flags_kept}
 use Rattle.history.proofs.HereLaws.{here_is, Known, known_stored}
-use Rattle.history.proofs.FindingLaws.{Said, said}
+use Rattle.history.proofs.FindingLaws.{said}
 use Rattle.lasting.specs.Whole.{Whole, Old}
 use Rattle.lasting.specs.Step.{Stepped}
 use Rattle.lasting.specs.Stays.{Replayable, Replayed, step_by, Stays, LastStep, SameStep, OldStep}
@@ -101,14 +100,14 @@ module _ (d : List ℕ) (ds : ℕ) (t : List ℕ) (n : ℕ) (map u : List ℕ) (
 
   -- ---- its key
 
-  ranged : Ranged (keyInRules rec)
+  ranged : Ranged (key_in_rules rec)
   ranged = (said stored.0 fields stored.1).ranged
 
-  number : number_of (keyInRules rec) ≡ key
+  number : number_of (key_in_rules rec) ≡ key
   number = sym (said stored.0 fields stored.1).number ∙ sym (first_key d p len h.base h.a h.b whole.walked known.keyed.some) ∙ o.number
 
-  placed : place_of (keyInRules rec) ≡ key / 4294967296
-  placed = place_is (keyInRules rec) ranged ∙ ap (λ (m : ℕ). m / 4294967296) number
+  placed : place_of (key_in_rules rec) ≡ key / 4294967296
+  placed = place_is (key_in_rules rec) ranged ∙ ap (λ (m : ℕ). m / 4294967296) number
 
   -- ---- it is the one that stands under its key, and it is sound and can be written
 
@@ -117,24 +116,24 @@ module _ (d : List ℕ) (ds : ℕ) (t : List ℕ) (n : ℕ) (map u : List ℕ) (
       ap (λ (l : List Rec). o.before ++ l) (sym (stock_next d p o.stock o.inside (record_at d p) refl len h.base h.a h.b o.there))
       ∙ o.split
 
-  found : find chart (keyInRules rec) (stock_from d ds) ≡ some rec
+  found : find chart (key_in_rules rec) (stock_from d ds) ≡ some rec
   found =
-      subst (λ (l : List Rec). find chart (keyInRules rec) l ≡ some rec) split
+      subst (λ (l : List Rec). find chart (key_in_rules rec) l ≡ some rec) split
       (once_there o.before rec (stock_from d (p + len)) (subst (Once chart) (sym split) x.ready.once))
 
   has : (Q : Rec → Type 0) → Each Q (stock_from d ds) → Q rec
-  has Q e = subst (Has chart Q) found (each_find chart Q (keyInRules rec) (stock_from d ds) e)
+  has Q e = subst (Has chart Q) found (each_find chart Q (key_in_rules rec) (stock_from d ds) e)
 
   -- ---- what the update records do with it
 
-  gone_is : deleted chart (keyInRules rec) items ≡ deleted_from u us key
+  gone_is : deleted chart (key_in_rules rec) items ≡ deleted_from u us key
   unfolding deleted_from
-  gone_is = deleted_known key (keyInRules rec) ranged number items (whole_known d ds t n map u us w x)
+  gone_is = deleted_known key (key_in_rules rec) ranged number items (whole_known d ds t n map u us w x)
 
-  unnamed : flag_of (flag_area w) (key % 111997) ≡ false → named chart (keyInRules rec) items ≡ false
+  unnamed : flag_of (flag_area w) (key % 111997) ≡ false → named chart (key_in_rules rec) items ≡ false
   unfolding keys_from
   unnamed e =
-      named_listed (keyInRules rec) ranged items (whole_known d ds t n map u us w x)
+      named_listed (key_in_rules rec) ranged items (whole_known d ds t n map u us w x)
       ∙ ap (λ (m : ℕ). listed m (keys_from u us)) number
       ∙ flags_clear (keys_from u us) (flag_area w) key x.flags e
 
@@ -147,7 +146,7 @@ module _ (d : List ℕ) (ds : ℕ) (t : List ℕ) (n : ℕ) (map u : List ℕ) (
 
     pub old_other : (key / 4294967296 ≡ q → ⊥) → Done before w Nothing
     unfolding Stepped
-    old_other z = ((kept_kind chart q items rec (ne_eqb (place_of (keyInRules rec)) q (λ e. z (sym placed ∙ e))), refl), refl)
+    old_other z = ((kept_kind chart q items rec (ne_eqb (place_of (key_in_rules rec)) q (λ e. z (sym placed ∙ e))), refl), refl)
 
     pub old_gone : (g : Bool) → g ≡ deleted_from u us key → g ≡ true → Done before w Nothing
     unfolding Stepped
@@ -158,7 +157,7 @@ module _ (d : List ℕ) (ds : ℕ) (t : List ℕ) (n : ℕ) (map u : List ℕ) (
       unfolding SameStep
       old_same f ef z y = (
         stepped_as d ds u us (flag_area w) sure to before out (rec ∷ []) (kept_of chart q items rec)
-            (kept_untouched chart q items rec (eq-eqb (place_of (keyInRules rec)) q (placed ∙ e)) (unnamed (sym ef ∙ not-true f z)))
+            (kept_untouched chart q items rec (eq-eqb (place_of (key_in_rules rec)) q (placed ∙ e)) (unnamed (sym ef ∙ not-true f z)))
             s (y key o),
         refl,
       )
@@ -227,7 +226,7 @@ module _ (d : List ℕ) (ds : ℕ) (t : List ℕ) (n : ℕ) (map u : List ℕ) (
     rest = x.ready.rest;
     start = x.ready.inside;
     writable = writable_here;
-    under = λ k r e. ap (λ (fs : List Field). keyInRules (rec_in fs)) here ∙ number_inj (keyInRules rec) k ranged r (e ∙ sym number);
+    under = λ k r e. ap (λ (fs : List Field). key_in_rules (rec_in fs)) here ∙ number_inj (key_in_rules rec) k ranged r (e ∙ sym number);
   }
 
   -- w₂ and c are what the update records made of it
@@ -235,17 +234,17 @@ module _ (d : List ℕ) (ds : ℕ) (t : List ℕ) (n : ℕ) (map u : List ℕ) (
     loaded : HeldAs d u y.middle y.first (some rec)
     loaded = subst (λ (fs : List Field). HeldAs d u y.middle y.first (some (rec_in fs))) here (y.loaded u writable_here)
 
-    ends : (s : Rec) × (history chart (keyInRules rec) items (some rec) ≡ ok (some s))
+    ends : (s : Rec) × (history chart (key_in_rules rec) items (some rec) ≡ ok (some s))
     ends = kept_some chart lawful 3 (stock_from d ds) items x.ready.once (whole_fine d ds t n map u us w x) rec found (gone_is ∙ kept)
 
     came : ChangedTo d u w₂ (ok (some ends.0)) c
     came =
         subst (λ (a : Check (Option Rec)). ChangedTo d u w₂ a c)
-        (ap (λ (l : List (List Field)). history chart (keyInRules rec) l (some rec)) (take_records u us) ∙ ends.1)
-        (y.played.came (keyInRules rec) ranged number (some rec) loaded refl)
+        (ap (λ (l : List (List Field)). history chart (key_in_rules rec) l (some rec)) (take_records u us) ∙ ends.1)
+        (y.played.came (key_in_rules rec) ranged number (some rec) loaded refl)
 
     sound : Bytes u → SoundRec ends.0
-    sound b = history_sound (keyInRules rec) items (some rec) (some ends.0) (rest_sendable u us x.ready.rest b) refl (has SoundRec x.sound) ends.1
+    sound b = history_sound (key_in_rules rec) items (some rec) (some ends.0) (rest_sendable u us x.ready.rest b) refl (has SoundRec x.sound) ends.1
 
     -- what the record's last step asks for
     pub old_stays : Bytes u → length w₂ ≡ length w → Whole d ds t n map u us w₂ × Stays d u w₂ c
@@ -256,7 +255,7 @@ module _ (d : List ℕ) (ds : ℕ) (t : List ℕ) (n : ℕ) (map u : List ℕ) (
     unfolding LastStep
     old_last sure b to before out s l =
         stepped_as d ds u us (flag_area w) sure to before out (ends.0 ∷ []) (kept_of chart (key / 4294967296) items rec)
-        (kept_stays chart (key / 4294967296) items rec ends.0 (eq-eqb (place_of (keyInRules rec)) (key / 4294967296) placed) (gone_is ∙ kept) ends.1)
+        (kept_stays chart (key / 4294967296) items rec ends.0 (eq-eqb (place_of (key_in_rules rec)) (key / 4294967296) placed) (gone_is ∙ kept) ends.1)
         s (subst (λ (f : List ℕ). Stepped d ds u us f sure (ends.0 ∷ []) to before out s) (flags_kept w w₂ y.kept) (l ends.0 (sound b) came))
 
 -- ---- `replay`

@@ -19,7 +19,6 @@ use Rattle.version.specs.declared.Present.{Present}
 use Rattle.version.specs.declared.Present.TheVariants.{Absent, Here}
 use Rattle.version.specs.declared.Changed.{Changed}
 use Rattle.version.specs.declared.Changed.TheVariants.{Refused, Now}
-use Rattle.composing.specs.Emitted.{Emitted}
 use Rattle.composing.specs.Kept.{Kept, MadeHeld}
 use Rattle.composing.specs.Made.{MadeOf}
 use Rattle.composing.specs.declared.making.Made.{Made}

@@ -2,13 +2,11 @@
 use Prim.Native.Nat.{ℕ}
 use mathlib.Core.Path.{◌≡◌, subst}
 use mathlib.Core.List.{List, ◌∷◌}
-use Rattle.base.specs.Walk.{Got}
 use Rattle.base.specs.Lists.{gather, Each}
 use Rattle.base.proofs.EachLaws.{each_dropped}
 use Rattle.skeleton.specs.File.{Field, records_from}
 use Rattle.rules.specs.Associations.{field_keys}
 use Rattle.keys.specs.Look.{Sound}
-use Rattle.keys.proofs.LookLaws.{Found}
 use Rattle.keys.specs.Places.{Leads, here, over}
 use Rattle.keys.proofs.PlaceLaws.{follows}
 use Rattle.composing.specs.Tied.{TiedIn, TiedFrom}

@@ -5,7 +5,6 @@ use mathlib.Core.List.{List, [], ◌∷◌}
 use native.Mathlib.Omega.{arith}
 use lib.ListN.{length}
 use Rattle.base.specs.Lists.{each, Each}
-use Rattle.base.specs.Walk.{Got}
 use Rattle.skeleton.specs.File.{Field, records_from}
 use Rattle.fields.specs.Valid.{Bytes}
 use Rattle.rules.specs.Outcome.{done}
@@ -31,7 +30,7 @@ use Rattle.composing.specs.Tied.{Noted}
 use Rattle.composing.proofs.KnownLaws.{known_right}
 use Rattle.history.specs.Flags.{Flags}
 use Rattle.history.proofs.FlagLaws.{flags_kept, area_long}
-use Rattle.history.proofs.FindingLaws.{Said, said}
+use Rattle.history.proofs.FindingLaws.{said}
 use Rattle.history.proofs.PlayingLaws.{rest_sound}
 use Rattle.lasting.specs.Whole.{Whole}
 

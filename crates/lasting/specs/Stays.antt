@@ -2,7 +2,6 @@
 use Rattle.std.specs.Prelude.{ℕ, ◌+◌, ◌/◌, ◌≤◌, ◌<◌, ◌≡◌, Bool, true, false, List, [], ◌∷◌, eqb, length}
 use Rattle.std.proofs.Math.Option.{some}
 use Rattle.base.specs.Check.{ok, pass}
-use Rattle.base.specs.Walk.{Got}
 use Rattle.skeleton.specs.File.{records_from}
 use Rattle.skeleton.specs.Place.{between, fields_at}
 use Rattle.skeleton.specs.declared.directory.Shape.{Shape}

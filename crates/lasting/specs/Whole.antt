@@ -1,6 +1,5 @@
 -- A dataset and an update none of whose records is refused: where the result's records come from.
 use Rattle.std.specs.Prelude.{ℕ, ◌+◌, ◌≤◌, ◌<◌, ◌≡◌, List, ◌++◌, length}
-use Rattle.base.specs.Walk.{Got}
 use Rattle.base.specs.Lists.{Each}
 use Rattle.skeleton.specs.File.{Field, records_from}
 use Rattle.skeleton.specs.Record.{record_at}

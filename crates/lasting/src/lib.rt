@@ -1,5 +1,6 @@
 // One record of the result: an old one after the update records that name it, or an inserted one after the later ones.
 #![tactic(auto)]
+
 pub mod emitting;
 pub mod named;
 pub mod new;

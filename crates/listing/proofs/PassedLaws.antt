@@ -8,7 +8,6 @@ use Rattle.base.specs.Choice.{pick}
 use Rattle.base.specs.Check.{ok, no, bind, fault, Passed as Through}
 use Rattle.base.specs.Keys.{among}
 use Rattle.base.specs.Lists.{each, Each}
-use Rattle.base.specs.Walk.{Got}
 use Rattle.base.proofs.CheckLaws.{bind_inv, ok_inj}
 use Rattle.skeleton.specs.File.{Field, records_from, records_of}
 use Rattle.rules.specs.Grammar.{number4}
@@ -18,15 +17,14 @@ use Rattle.rules.specs.Associations.{number7}
 use Rattle.rules.specs.Record.{Rec, key_of, rec_of, dataset_record}
 use Rattle.rules.specs.Written.{Dataset}
 use Rattle.rules.specs.Outcome.{done}
-use Rattle.rules.specs.File.{dataset_test, ending, taken, Stored, stored_as, dataset_of, references, read_dataset}
-use Rattle.rules.specs.declared.Kind.{Kind}
+use Rattle.rules.specs.File.{dataset_test, taken, Stored, stored_as, dataset_of, references, read_dataset}
 use Rattle.rules.specs.declared.Mode.TheVariants.{InDataset}
 use Rattle.rules.proofs.OutcomeLaws.{and_then_inv, done_inj}
 use Rattle.rules.proofs.FileLaws.{taken_inv, through_each}
 use Rattle.contents.proofs.SevenLaws.{four_first}
 use Rattle.opening.specs.Carried.{first_three}
 use Rattle.opening.proofs.OpeningLaws.{from_fourth, opened}
-use Rattle.keys.proofs.ReferenceLaws.{Reads, taken_reads}
+use Rattle.keys.proofs.ReferenceLaws.{taken_reads}
 use Rattle.listing.specs.Said.{Passed, PassedFrom, record_in}
 use Rattle.listing.proofs.SaidLaws.{record_is}
 

@@ -9,9 +9,9 @@ use borrow.Author.Tests.{eqb-true}
 use lib.Dec.{eqb}
 use lib.ListN.{length, get_or, length-append}
 use Rattle.base.specs.Choice.{pick, either}
-use Rattle.base.specs.Check.{Check, ok, no, bind, in_field, pass, passed, Passed as Through}
+use Rattle.base.specs.Check.{Check, ok, no, bind, in_field, pass, passed}
 use Rattle.base.specs.Lists.{empty, each, gather}
-use Rattle.base.specs.Walk.{Got, steps, walk}
+use Rattle.base.specs.Walk.{steps, walk}
 use Rattle.base.proofs.CheckLaws.{bind_inv, field_inv}
 use Rattle.base.proofs.ChoiceLaws.{both_hold}
 use Rattle.base.proofs.ListLaws.{each_length}
@@ -21,7 +21,7 @@ use Rattle.fields.specs.Table.{head_of, tuple_of}
 use Rattle.fields.specs.Content.{tuple_step, tuples, many, fill, content}
 use Rattle.fields.specs.declared.Format.TheVariants.{AttrNew}
 use Rattle.fields.proofs.FieldLaws.{fill_count}
-use Rattle.forest.specs.Forest.{Forest, Tup, size, tuples_of as tuplesOfTree}
+use Rattle.forest.specs.Forest.{Forest, Tup, size, tuples_of as tuples_of_tree}
 use Rattle.forest.specs.Rule.{run_up_to, all_taken, tree_of}
 use Rattle.forest.proofs.TuplesLaws.{tuples_length}
 use Rattle.forest.proofs.TreeLaws.{tree_sound}
@@ -41,7 +41,7 @@ use Rattle.rules.proofs.CoordinateLaws.{coords_length}
 use Rattle.contents.specs.Fit.{fits, all_fit}
 use Rattle.contents.proofs.FitLaws.{five_fit}
 use Rattle.contents.proofs.TreeLaws.{tree_new_fits}
-use Rattle.listing.specs.Said.{whole, entries_of, entries_in, tuples_of, tuples_in, Passed, kind_for, record_in}
+use Rattle.listing.specs.Said.{whole, entries_of, entries_in, tuples_of, tuples_in, kind_for, record_in}
 use Rattle.listing.proofs.CountLaws.{entries_none}
 
 -- ---- the kind
@@ -98,8 +98,8 @@ attr_size : (b : List ℕ) (t : Forest) → fill (head_of AttrNew) (tuple_of Att
 unfolding attr_tree standing entries_of content head_of sizes
 attr_size b t e x =
     let ts : List Tup = each tup_of (many (tuple_of AttrNew) b) in
-    let s : tuplesOfTree t ≡ ts = (tree_sound ts t x).0 in
-    let a : length (tuplesOfTree t) ≡ size t = tuples_length t in
+    let s : tuples_of_tree t ≡ ts = (tree_sound ts t x).0 in
+    let a : length (tuples_of_tree t) ≡ size t = tuples_length t in
     let l : length ts ≡ length (many (tuple_of AttrNew) b) = each_length tup_of (many (tuple_of AttrNew) b) in
     ap (λ c. size (standing c)) x ∙ sym a ∙ ap length s ∙ l ∙ sym (ap whole (fill_count (head_of AttrNew) (tuple_of AttrNew) b e))
 

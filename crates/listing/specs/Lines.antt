@@ -2,7 +2,6 @@
 use Rattle.std.specs.Prelude.{ℕ, List, [], ◌∷◌}
 use Rattle.base.specs.Lists.{each}
 use Rattle.base.specs.Text.{ascii}
-use Rattle.base.specs.Walk.{Got}
 use Rattle.skeleton.specs.Digits.{in_fewest_digits}
 use Rattle.skeleton.specs.Emit.{tag_bytes}
 use Rattle.skeleton.specs.File.{records_from}

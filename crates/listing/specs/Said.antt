@@ -4,7 +4,6 @@ use Rattle.std.proofs.Math.Option.{Option, some, none}
 use Rattle.base.specs.Choice.{pick}
 use Rattle.base.specs.Check.{pass}
 use Rattle.base.specs.Lists.{Each}
-use Rattle.base.specs.Walk.{Got}
 use Rattle.skeleton.specs.File.{Field, records_from}
 use Rattle.fields.specs.Table.{head_of, tuple_of}
 use Rattle.fields.specs.Content.{tally_field}

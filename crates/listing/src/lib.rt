@@ -1,5 +1,6 @@
 // The listing of a dataset: a line for each of its records after the third.
 #![tactic(auto)]
+
 pub mod counts;
 pub mod lines;
 pub mod text;

@@ -5,7 +5,7 @@ ghost use Rattle.memory.specs.Wrote.{Wrote};
 ghost use Rattle.skeleton.specs.File.{records_from};
 ghost use Rattle.skeleton.specs.Place.{fields_at};
 ghost use Rattle.skeleton.specs.Shape.{Bounded};
-ghost use Rattle.rules.specs.Answers.{read as theAnswer};
+ghost use Rattle.rules.specs.Answers.{read as the_answer};
 ghost use Rattle.rules.specs.File.{read_dataset};
 ghost use Rattle.rules.specs.Listing.{record_line, printed, listing};
 ghost use Rattle.listing.specs.Said.{Passed, PassedFrom, record_in};
@@ -75,7 +75,7 @@ fn put_records(f: &[u8], start: usize, out: &mut [u8], at: usize) -> usize
 
 // The listing of a dataset that the reader has read, with its count of records.
 fn put_table(f: &[u8], count: usize, out: &mut [u8]) -> usize
-    requires { (length f.now ≤ 65536) × (count ≡ (theAnswer f.now).count) × (0 < count) }
+    requires { (length f.now ≤ 65536) × (count ≡ (the_answer f.now).count) × (0 < count) }
     ensures { Wrote 0 (printed (read_dataset f.now)) out.old result out.new × (result ≤ longest) }
 {
     match first_three(f) {

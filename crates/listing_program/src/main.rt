@@ -1,5 +1,6 @@
 // Prints the listing of standard input: one byte more than 65,536 is read, which shows that the input is too long.
 #![tactic(auto)]
+
 ghost use Rattle.std.specs.Prelude.{◌≡◌, ◌≤◌, length, IfOk};
 
 use std::io;

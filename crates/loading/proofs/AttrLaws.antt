@@ -7,14 +7,12 @@ use native.Mathlib.Omega.{arith}
 use lib.ListN.{length, take}
 use Rattle.base.specs.Check.{passed, pass}
 use Rattle.base.proofs.CheckLaws.{passed_inv}
-use Rattle.skeleton.specs.Emit.{size}
 use Rattle.skeleton.specs.Place.{between}
 use Rattle.skeleton.proofs.ReadLaws.{bytes_between}
 use Rattle.skeleton.proofs.BetweenLaws.{length_between}
 use Rattle.fields.specs.Table.{head_of, tuple_of}
 use Rattle.fields.specs.Content.{fill}
 use Rattle.fields.specs.declared.Format.TheVariants.{AttrNew}
-use Rattle.fields.proofs.WiderLaws.{spas}
 use Rattle.forest.specs.Forest.{Forest}
 use Rattle.forest.specs.Flat.{flat}
 use Rattle.rules.specs.Tags.{ATTR}

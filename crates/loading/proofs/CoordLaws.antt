@@ -15,7 +15,6 @@ use Rattle.fields.specs.Content.{many}
 use Rattle.fields.specs.declared.Format.TheVariants.{C2it, C2il}
 use Rattle.fields.proofs.FieldLaws.{head_length_lem}
 use Rattle.fields.proofs.EvenLaws.{fill_even}
-use Rattle.fields.proofs.WiderLaws.{spas}
 use Rattle.rules.specs.Tags.{C2IT, C2IL}
 use Rattle.rules.specs.Content.{format_of}
 use Rattle.rules.specs.Coordinates.{Coord, coords_in, is_coordinates}

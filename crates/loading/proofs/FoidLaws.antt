@@ -14,7 +14,6 @@ use Rattle.fields.specs.Table.{head_of, tuple_of}
 use Rattle.fields.specs.Content.{fill}
 use Rattle.fields.specs.declared.Format.TheVariants.{Foid}
 use Rattle.fields.proofs.FieldLaws.{head_length_lem}
-use Rattle.fields.proofs.WiderLaws.{spas}
 use Rattle.rules.specs.Tags.{FOID, ATTR, INAS, SPAS, C2IT, C2IL}
 use Rattle.rules.specs.Content.{format_of}
 use Rattle.rules.specs.Record.{Rec, foid_of}

@@ -15,7 +15,6 @@ use Rattle.skeleton.proofs.BetweenLaws.{length_between}
 use Rattle.fields.specs.Table.{head_of, tuple_of}
 use Rattle.fields.specs.Content.{fill}
 use Rattle.fields.specs.declared.Format.TheVariants.{InasNew}
-use Rattle.fields.proofs.WiderLaws.{spas}
 use Rattle.rules.specs.Tags.{INAS}
 use Rattle.rules.specs.Content.{inas_format, format_of}
 use Rattle.rules.specs.Trees.{inas_tree, tree_stands}

@@ -5,7 +5,6 @@ use mathlib.Core.List.{List}
 use native.Mathlib.Omega.{arith}
 use lib.ListN.{length, take, drop, length-take}
 use Rattle.base.specs.Lists.{each, Each}
-use Rattle.fields.proofs.WiderLaws.{spas}
 use Rattle.forest.specs.Flat.{flat}
 use Rattle.rules.specs.Coordinates.{coords_in}
 use Rattle.rules.specs.Record.{Rec, Parts, assoc_of}

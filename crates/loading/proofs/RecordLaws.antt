@@ -8,7 +8,6 @@ use native.Mathlib.Omega.{arith}
 use borrow.Author.Tests.{eq-eqb}
 use lib.ListN.{length, drop}
 use lib.Dec.{eqb}
-use Rattle.base.specs.Walk.{Got}
 use Rattle.base.specs.Lists.{each, gather, Each}
 use Rattle.base.proofs.CheckLaws.{refused}
 use Rattle.base.proofs.EachLaws.{each_map}

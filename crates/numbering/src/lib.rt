@@ -1,5 +1,6 @@
 // The working form of a record's attributes written back as the tuples of an ATTR field.
 #![tactic(auto)]
+
 pub mod back;
 pub mod block;
 pub mod emitting;

@@ -3,14 +3,14 @@ use mathlib.Core.Path.{◌≡◌, refl, sym, ◌∙◌, ap}
 use mathlib.Core.Bool.{Bool, true, false}
 use mathlib.Core.List.{List, [], ◌∷◌, ◌++◌}
 use mathlib.Core.Logic.{◌⊎◌, inl, inr, ⊎_elim}
-use Prim.Native.Nat.{ℕ, ◌+◌, ◌-◌, ◌≤◌, ◌<◌}
+use Prim.Native.Nat.{ℕ, ◌+◌, ◌≤◌, ◌<◌}
 use native.Mathlib.Omega.{arith}
 use borrow.Author.Tests.{ne_eqb, lt-ltb, le-leb, leb-true, leb-false}
 use lib.Dec.{leb, ltb}
 use lib.ListN.{length}
 use Rattle.base.specs.Choice.{pick, both}
 use Rattle.base.specs.Check.{Check, ok, no, bind, fault, Passed, pass}
-use Rattle.base.specs.Walk.{Got, before}
+use Rattle.base.specs.Walk.{before}
 use Rattle.base.proofs.ChoiceLaws.{both_false}
 use Rattle.skeleton.specs.File.{Field, records_from, records_of}
 use Rattle.skeleton.specs.Place.{between, fields_at}
@@ -24,7 +24,7 @@ use Rattle.rules.specs.Record.{Rec}
 use Rattle.rules.specs.General.{general_record}
 use Rattle.rules.specs.Outcome.{Outcome, done, refused, and_then, at}
 use Rattle.rules.specs.File.{adds_none, dataset_test, ending, taken}
-use Rattle.rules.specs.declared.Mode.TheVariants.{InDataset, InUpdate}
+use Rattle.rules.specs.declared.Mode.TheVariants.{InDataset}
 use Rattle.rules.proofs.FileLaws.{taken_over, taken_more}
 use Rattle.rules.proofs.OutcomeLaws.{and_then_assoc, and_then_inv, at_inv, done_inj}
 use Rattle.skeleton.specs.Leader.{leader_of}

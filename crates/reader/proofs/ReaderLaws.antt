@@ -16,7 +16,7 @@ use Rattle.rules.specs.Record.{Rec}
 use Rattle.rules.specs.General.{general_record}
 use Rattle.rules.specs.Written.{Dataset, count}
 use Rattle.rules.specs.Outcome.{Outcome, done, refused, and_then}
-use Rattle.rules.specs.File.{Stored, stored_as, dataset_of, references, read_dataset}
+use Rattle.rules.specs.File.{stored_as, dataset_of, references, read_dataset}
 use Rattle.rules.specs.Answers.{refusal, success, not_too_long, read_outcome, read_answer, read}
 use Rattle.rules.specs.declared.Mode.TheVariants.{InDataset}
 use Rattle.rules.proofs.OutcomeLaws.{and_then_inv}
@@ -27,7 +27,7 @@ use Rattle.opening.proofs.CarriedLaws.{behind_in, behind_is}
 use Rattle.opening.proofs.OpeningLaws.{carried_over, from_fourth, opened}
 use Rattle.keys.specs.Listed.{keys_from}
 use Rattle.keys.specs.Standing.{outcome_from, references_from}
-use Rattle.keys.proofs.ReferenceLaws.{Reads, taken_reads, unread_done, references_start}
+use Rattle.keys.proofs.ReferenceLaws.{taken_reads, unread_done, references_start}
 use Rattle.dataset.specs.Walk.{whole_from, walked_by}
 use Rattle.dataset.specs.declared.walk.Walked.{Walked}
 use Rattle.dataset.specs.declared.walk.Walked.TheVariants.{Over, Stopped}

@@ -1,8 +1,9 @@
 // The reader: it checks a dataset and says how many records it has.
 #![tactic(auto)]
+
 ghost use Rattle.std.specs.Prelude.{◌≡◌, ◌≤◌, length};
 ghost use Rattle.rules.specs.Outcome.{done};
-ghost use Rattle.rules.specs.Answers.{read as theAnswer};
+ghost use Rattle.rules.specs.Answers.{read as the_answer};
 ghost use Rattle.promises.specs.Promise.{Reads};
 ghost use Rattle.opening.specs.Carried.{first_three};
 
@@ -14,7 +15,7 @@ use rules::Answer;
 // The records behind the third, which begin at start: numbers 1 to 7 of each, and then the references between them.
 fn after_three(f: &[u8], start: usize) -> Answer
     requires { (length f.now ≤ 16777216) × (first_three f.now ≡ done start) }
-    ensures { result ≡ theAnswer f.now }
+    ensures { result ≡ the_answer f.now }
 {
     let mut map = [0u8; 32769];
     match later_records(f, start, &mut map) {

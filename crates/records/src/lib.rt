@@ -1,5 +1,6 @@
 // One record: its tests number by number.
 #![tactic(auto)]
+
 pub mod grammar;
 pub mod order;
 pub mod rows;

@@ -1,6 +1,6 @@
 -- Laws of what is answered of all records of a result. Assumes nothing.
 use Prim.Native.Nat.{ℕ, ◌+◌}
-use mathlib.Core.Path.{◌≡◌, refl, sym, ap, ◌∙◌}
+use mathlib.Core.Path.{◌≡◌, refl, sym, ap}
 use mathlib.Core.List.{List}
 use lib.ListN.{length}
 use Rattle.base.specs.Check.{fault}
@@ -8,11 +8,10 @@ use Rattle.base.specs.declared.Fault.{Fault}
 use Rattle.skeleton.specs.File.{Field}
 use Rattle.rules.specs.Record.{Rec}
 use Rattle.rules.specs.Outcome.{Outcome, done, refused, and_then}
-use Rattle.rules.proofs.OutcomeLaws.{refuses, and_then_inv, done_inj}
+use Rattle.rules.proofs.OutcomeLaws.{refuses, done_inj}
 use Rattle.updates.specs.Streamed.{result_records, result_references}
 use Rattle.result.specs.Rest.{rest_length}
 use Rattle.result.specs.Composed.{said_by, unplaced, composed_of}
-use Rattle.result.specs.declared.Composed.{Composed}
 use Rattle.result.specs.declared.Composed.TheVariants.{Loose, Whole}
 
 module _ (ds : List Rec) (us : List (List Field)) (at : ℕ) where

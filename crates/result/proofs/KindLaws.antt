@@ -6,11 +6,9 @@ use mathlib.Core.List.{List}
 use native.Mathlib.Omega.{arith}
 use native.Mathlib.Numerals.{add-one}
 use lib.ListN.{length}
-use Rattle.base.specs.Walk.{Got}
 use Rattle.memory.specs.Put.{put}
 use Rattle.skeleton.specs.File.{records_from}
 use Rattle.rules.specs.Record.{Rec}
-use Rattle.rules.specs.Outcome.{refused}
 use Rattle.updates.specs.Streamed.{result_records, result_references}
 use Rattle.stock.specs.Stock.{stock_from}
 use Rattle.composing.specs.Composing.{Complete}

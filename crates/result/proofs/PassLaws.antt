@@ -9,7 +9,6 @@ use lib.Dec.{leb}
 use lib.ListN.{length, drop, take, length-take, length-append}
 use lib.Seq.{drop_at}
 use Rattle.base.specs.Check.{Passed, ok, no, pass}
-use Rattle.base.specs.Walk.{Got}
 use Rattle.memory.specs.Wrote.{Wrote}
 use Rattle.memory.proofs.PutLaws.{length_put, put_is}
 use Rattle.skeleton.specs.File.{Field, records_from}

@@ -1,7 +1,6 @@
 -- All records of a result behind the third.
 use Rattle.std.specs.Prelude.{ℕ, ◌+◌, ◌≤◌, ◌<◌, ◌≡◌, List, length}
 use Rattle.base.specs.Check.{fault}
-use Rattle.base.specs.declared.Fault.{Fault}
 use Rattle.memory.specs.Put.{put}
 use Rattle.skeleton.specs.File.{Field}
 use Rattle.rules.specs.Record.{Rec}

@@ -1,7 +1,6 @@
 -- A part of the pass over a result's records: from where some of them are left to where fewer are.
 use Rattle.std.specs.Prelude.{ℕ, ◌+◌, ◌*◌, ◌≤◌, ◌<◌, ◌≡◌, true, List, length}
 use Rattle.base.specs.Check.{Passed}
-use Rattle.base.specs.Walk.{Got}
 use Rattle.base.specs.declared.Fault.{Fault}
 use Rattle.skeleton.specs.File.{records_from}
 use Rattle.rules.specs.Associations.{marks}

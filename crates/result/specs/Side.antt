@@ -1,6 +1,5 @@
 -- The two sides of a result: the dataset's records, which stay or are changed, and the update's, which insert some. A walk over either goes from record to record of its file.
 use Rattle.std.specs.Prelude.{ℕ, suc, ◌+◌, ◌-◌, ◌*◌, ◌/◌, ◌≤◌, ◌<◌, ◌≡◌, Bool, true, false, List, ◌++◌, ltb, length}
-use Rattle.base.specs.Walk.{Got}
 use Rattle.base.specs.Lists.{Each}
 use Rattle.skeleton.specs.File.{Field, records_from}
 use Rattle.skeleton.specs.Place.{between, fields_at}

@@ -1,5 +1,6 @@
 // The records of an update's result behind the third, straight from dataset and update into the output.
 #![tactic(auto)]
+
 ghost use Rattle.std.specs.Prelude.{◌≡◌, true, ◌≤◌, ◌<◌, length};
 ghost use Rattle.base.specs.Walk.{Got};
 ghost use Rattle.base.specs.Lists.{Each};

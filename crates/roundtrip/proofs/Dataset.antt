@@ -2,7 +2,7 @@
 use Prim.Native.Nat.{ℕ, ◌+◌, ◌≤◌, ◌<◌}
 use mathlib.Core.Path.{◌≡◌, refl, sym, ap, ◌∙◌}
 use mathlib.Core.Bool.{true, false, true≢false}
-use mathlib.Core.Option.{some, none}
+use mathlib.Core.Option.{none}
 use mathlib.Core.List.{List, [], ◌∷◌}
 use native.Mathlib.Omega.{arith}
 use borrow.Author.Tests.{lt-leb}
@@ -15,7 +15,7 @@ use Rattle.base.proofs.OptionLaws.{never}
 use Rattle.base.proofs.EachLaws.{each_zip, each_join}
 use Rattle.skeleton.specs.File.{Field, records_of}
 use Rattle.skeleton.specs.Writable.{TagFits, TagsFit, Widths, Writable, AllWritable}
-use Rattle.skeleton.proofs.EmitFileLaws.{writable as writable-fields, file_back}
+use Rattle.skeleton.proofs.EmitFileLaws.{writable as writable_fields, file_back}
 use Rattle.rules.specs.Tags.{FOID, ATTR, SPAS}
 use Rattle.rules.specs.Kind.{tag_of, rank}
 use Rattle.rules.specs.Associations.{marks, number11}
@@ -89,7 +89,7 @@ widths = record { a_some = omega arith; a_digit = omega arith; b_some = omega ar
 
 -- one record
 fields_fit : (fs : List Field) → 0 < length fs → TagsFit fs → number12 fs ≡ pass → Writable 5 5 fs
-fields_fit fs s t w = let l = short fs w in writable-fields 5 5 fs s t (omega arith) (omega arith) (omega arith)
+fields_fit fs s t w = let l = short fs w in writable_fields 5 5 fs s t (omega arith) (omega arith) (omega arith)
 
 -- the records of the four kinds
 records_fit : (rs : List Rec) → Each (λ r. number12 (written_fields r) ≡ pass) rs → AllWritable 5 5 (each written_fields rs)

@@ -14,11 +14,11 @@ use Rattle.rules.specs.Written.{written_fields, written_length, number12}
 use Rattle.rules.specs.Outcome.{Outcome, done, refused}
 use Rattle.rules.specs.Update.{step, steps, updated}
 use Rattle.rules.specs.Listing.{printed, listing}
-use Rattle.base.specs.Opened.{opened as baseOpened}
-use Rattle.skeleton.specs.Opened.{opened as skeletonOpened}
-use Rattle.fields.specs.Opened.{opened as fieldsOpened}
-use Rattle.forest.specs.Opened.{opened as forestOpened}
-use Rattle.rules.specs.Opened.{opened as rulesOpened}
+use Rattle.base.specs.Opened.{opened as base_opened}
+use Rattle.skeleton.specs.Opened.{opened as skeleton_opened}
+use Rattle.fields.specs.Opened.{opened as fields_opened}
+use Rattle.forest.specs.Opened.{opened as forest_opened}
+use Rattle.rules.specs.Opened.{opened as rules_opened}
 use Rattle.rules.proofs.Builders.{numbered, irid, prid, mrid, frid, foid, tuple, attr, inas, link, spas, cocc, coordinates, c2it, c2il, general, filler, point_sent, multi_sent, no_parts, only_coordinates, point, multi, three, many, feature, listed}
 use Rattle.rules.specs.declared.Mode.{Mode}
 use Rattle.rules.specs.declared.Mode.TheVariants.{InDataset, InUpdate}
@@ -98,5 +98,5 @@ Hold rows = each (λ r. answer r.what) rows ≡ each (λ r. r.expected) rows
 
 -- all that a sample computes with
 unfoldable pub samples_opened : Unit {0}
-unfolding baseOpened skeletonOpened fieldsOpened forestOpened rulesOpened numbered irid prid mrid frid foid tuple attr inas link spas cocc coordinates c2it c2il general filler point_sent multi_sent no_parts only_coordinates point multi three many feature listed of_check of_outcome alone of_only answer
+unfolding base_opened skeleton_opened fields_opened forest_opened rules_opened numbered irid prid mrid frid foid tuple attr inas link spas cocc coordinates c2it c2il general filler point_sent multi_sent no_parts only_coordinates point multi three many feature listed of_check of_outcome alone of_only answer
 samples_opened = tt

@@ -2,22 +2,21 @@
 use mathlib.Core.Path.{◌≡◌, refl, sym, ap, ◌∙◌, subst}
 use mathlib.Core.Bool.{Bool, true, false}
 use mathlib.Core.List.{List, ◌++◌, append-nil}
-use Prim.Native.Nat.{ℕ, ◌+◌, ◌-◌, ◌*◌, ◌/◌, ◌^◌, ◌≤◌, ◌<◌}
+use Prim.Native.Nat.{ℕ, ◌+◌, ◌-◌, ◌*◌, ◌/◌, ◌≤◌, ◌<◌}
 use native.Mathlib.Omega.{arith}
-use borrow.Author.Tests.{ltb-true, ltb-false, eqb-true}
+use borrow.Author.Tests.{ltb-true, ltb-false}
 use lib.ListN.{length, take, drop, length-take, length-drop}
 use lib.Seq.{drop_at, drop-length, drop-drop}
 use Rattle.memory.specs.Put.{part}
 use Rattle.memory.specs.Digits.{from_little_endian}
-use lib.Dec.{eqb, ltb}
+use lib.Dec.{ltb}
 use Rattle.keys.specs.Look.{look_at, Sound}
 use Rattle.keys.specs.declared.look.Look.{Look}
 use Rattle.keys.specs.declared.look.Look.TheVariants.{At, Nothing}
-use Rattle.keys.proofs.LookLaws.{Found}
 use Rattle.keys.proofs.SoundLaws.{Next as Follows, sound_nothing, sound-bounds}
 use Rattle.sorting.specs.Numbers.{number_at, Stored, Has, Mixed, Ascends, Parted}
 use Rattle.keys.specs.Places.{Leads, here, over, Names}
-use Rattle.sorting.specs.Places.{Skips, Next, Late, at_start, at_one, weight_of, Entry, Filled, Sorted, Indexed}
+use Rattle.sorting.specs.Places.{Skips, Next, Late, at_one, weight_of, Entry, Filled, Sorted, Indexed}
 use Rattle.sorting.proofs.NumberLaws.{weak}
 use Rattle.keys.proofs.PlaceLaws.{follows, same_look, leads_sound, leads_up, leads_then, leads_on, leads_end}
 use Rattle.sorting.proofs.PlaceLaws.{skips_none, skips_over, skips_to}

@@ -8,15 +8,12 @@ use borrow.Author.Tests.{ltb-true, ltb-false}
 use lib.ListN.{length, drop, length-append}
 use lib.Dec.{ltb}
 use Rattle.base.specs.Lists.{each}
-use Rattle.base.specs.Walk.{Got}
 use Rattle.skeleton.specs.File.{Field, records_from}
 use Rattle.keys.specs.Listed.{key_of, keys_from, listed, has_from}
 use Rattle.keys.specs.Look.{look_at, Sound}
 use Rattle.keys.specs.Places.{Leads, here, over, Names, site_of}
 use Rattle.keys.specs.declared.look.Look.TheVariants.{At}
 use Rattle.keys.proofs.ListLaws.{listed_none, listed_later, not_first, not_later}
-use Rattle.keys.proofs.LookLaws.{Found}
-use Rattle.keys.proofs.SoundLaws.{Next as Follows}
 use Rattle.keys.proofs.PlaceLaws.{follows, leads_up, leads_then, site_here, site_over, site_end, site_says}
 use Rattle.sorting.specs.Places.{Skips, Next}
 

@@ -1,7 +1,6 @@
 -- The places of a file's records, what lies between two of them, and an index of them by key.
 use Rattle.std.specs.Prelude.{ℕ, ◌+◌, ◌*◌, ◌≤◌, ◌<◌, ◌≡◌, false, List, ◌++◌, length}
 use Rattle.base.specs.Lists.{each}
-use Rattle.base.specs.Walk.{Got}
 use Rattle.skeleton.specs.File.{Field, records_from}
 use Rattle.keys.specs.Listed.{key_of, listed}
 use Rattle.keys.specs.Look.{Sound}

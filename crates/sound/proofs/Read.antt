@@ -35,7 +35,7 @@ use Rattle.updates.proofs.Results.{read_sorted}
 use Rattle.updates.proofs.Kept.{every_inv}
 use Rattle.sound.specs.Sound.{SoundRec, Named, Carried, Sound}
 use Rattle.sound.proofs.Marks.{eleven_each}
-use Rattle.sound.proofs.Records.{through as through-fields}
+use Rattle.sound.proofs.Records.{through as through_fields}
 use Rattle.sound.proofs.Parts.{record_sound, record_named}
 use Rattle.sound.proofs.FileBytes.{Bodies, file_carried}
 
@@ -54,7 +54,7 @@ record_good least earlier (f ∷ fs) r g e =
     let (k, a, b) = bind_inv (number4 InDataset least (f ∷ fs)) _ r e in
     let (x, c, d) = bind_inv (number5 InDataset k (f ∷ fs)) _ r b in
     let (y, h, i) = bind_inv (number6 InDataset k (f ∷ fs)) _ r d in
-    let t = through-fields InDataset least f fs k g a c h in
+    let t = through_fields InDataset least f fs k g a c h in
     by_bool (among (key_of (rec_of k (f ∷ fs))) earlier)
     (λ q. refused (rw q at i))
     (λ q.

@@ -9,14 +9,12 @@ use borrow.Author.Tests.{leb-true, eqb-true}
 use lib.Dec.{leb, eqb, ltb}
 use lib.ListN.{length, length-take, length-drop, drop, get_or}
 use Rattle.base.specs.Choice.{pick, both}
-use Rattle.base.specs.Walk.{Got}
 use Rattle.base.proofs.ChoiceLaws.{by_test, both_hold}
 use Rattle.base.proofs.WalkLaws.{by_measure}
 use Rattle.skeleton.specs.Digits.{is_digit, digits, digits_from, number_at, value_of, window}
 use Rattle.skeleton.specs.Leader.{within, stated_of}
 use Rattle.skeleton.specs.Directory.{entry_at, lies, ended, fields_from}
 use Rattle.skeleton.specs.Emit.{sizes}
-use Rattle.skeleton.specs.File.{Field}
 use Rattle.skeleton.specs.Place.{between, place_at, fields_at}
 use Rattle.skeleton.specs.Record.{record_at, stated_at}
 use Rattle.skeleton.specs.declared.digits.Number.{Number}
@@ -26,7 +24,6 @@ use Rattle.skeleton.specs.declared.directory.Entry.TheVariants.{Field as FieldAt
 use Rattle.skeleton.specs.declared.directory.Shape.{Shape}
 use Rattle.skeleton.specs.declared.leader.Head.{Head}
 use Rattle.skeleton.specs.declared.leader.Head.TheVariants.{Good, Refused}
-use Rattle.skeleton.specs.declared.place.Place.TheVariants.{At, Done}
 use Rattle.skeleton.proofs.DirectoryLaws.{lies_in, dir_more, dir_not, dir_end_not, dir_bad}
 use Rattle.skeleton.proofs.PlaceLaws.{fields_more, fields_done, place_there, place_end, place_falls}
 use Rattle.skeleton.proofs.RecordLaws.{right}

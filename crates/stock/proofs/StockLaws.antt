@@ -13,7 +13,7 @@ use Rattle.base.specs.Check.{ok, no, bind, fault}
 use Rattle.base.specs.Lists.{each, Each}
 use Rattle.base.specs.Keys.{among}
 use Rattle.base.specs.Walk.{Got}
-use Rattle.base.proofs.CheckLaws.{refused as not-passed, bind_inv, ok_inj}
+use Rattle.base.proofs.CheckLaws.{refused as not_passed, bind_inv, ok_inj}
 use Rattle.skeleton.specs.File.{Field, records_from}
 use Rattle.skeleton.specs.Place.{between, fields_at}
 use Rattle.skeleton.specs.Record.{record_at}
@@ -29,12 +29,11 @@ use Rattle.rules.specs.Trees.{number6}
 use Rattle.rules.specs.Associations.{number7}
 use Rattle.rules.specs.Record.{Rec, rec_of, key_of, dataset_record}
 use Rattle.rules.specs.Outcome.{done}
-use Rattle.rules.specs.File.{dataset_test, taken, ending}
+use Rattle.rules.specs.File.{dataset_test, taken}
 use Rattle.rules.specs.declared.Kind.{Kind}
 use Rattle.rules.specs.declared.Mode.TheVariants.{InDataset}
 use Rattle.rules.proofs.FileLaws.{taken_inv, through_each}
 use Rattle.updates.specs.Acts.{kind_in}
-use Rattle.stock.specs.Stored.{Stored}
 use Rattle.stock.specs.Stock.{rec_by, rec_in, AnyStored, stock_from, Stock}
 
 -- ---- one record
@@ -42,19 +41,19 @@ use Rattle.stock.specs.Stock.{rec_by, rec_in, AnyStored, stock_from, Stock}
 -- number 4 with no kind before it
 four_alone : (least : ℕ) (fs : List Field) (k : Kind) → number4 InDataset least fs ≡ ok k → (number4 InDataset 0 fs ≡ ok k) × (kind_in fs ≡ some k)
 unfolding number4 first_tag
-four_alone least [] k e = not-passed e
+four_alone least [] k e = not_passed e
 four_alone least (f ∷ fs) k e = by_kind (kind_of f.tag) e
   where
     by_rank : (j : Kind) (b : Bool) → pick b (no (fault 4 1 0)) (bind (fields_stand InDataset j f.body fs) (λ _. ok j)) ≡ ok k
         → (pick (ltb (rank j) 0) (no (fault 4 1 0)) (bind (fields_stand InDataset j f.body fs) (λ _. ok j)) ≡ ok k) × (some j ≡ some k)
-    by_rank j true x = not-passed x
+    by_rank j true x = not_passed x
     by_rank j false x =
         let r = bind_inv (fields_stand InDataset j f.body fs) (λ _. ok j) k x in
         (rw (le-ltb (rank j) 0 (omega arith)) x, ap (λ (i : Kind). some i) (ok_inj j k r.2))
 
     by_kind : (o : Option Kind) → on_kind o (λ j. pick (ltb (rank j) least) (no (fault 4 1 0)) (bind (fields_stand InDataset j f.body fs) (λ _. ok j))) ≡ ok k
         → (on_kind o (λ j. pick (ltb (rank j) 0) (no (fault 4 1 0)) (bind (fields_stand InDataset j f.body fs) (λ _. ok j))) ≡ ok k) × (o ≡ some k)
-    by_kind none x = not-passed x
+    by_kind none x = not_passed x
     by_kind (some j) x = by_rank j (ltb (rank j) least) x
 
 -- a record that passed is stored, and is what its fields say

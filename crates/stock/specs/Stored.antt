@@ -1,5 +1,5 @@
 -- A record as in a dataset: it stands in one, or an update inserts it.
-use Rattle.std.specs.Prelude.{ℕ, ◌≡◌, List}
+use Rattle.std.specs.Prelude.{◌≡◌, List}
 use Rattle.base.specs.Check.{ok, pass}
 use Rattle.skeleton.specs.File.{Field}
 use Rattle.rules.specs.ByTag.{front}

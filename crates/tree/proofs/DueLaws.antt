@@ -16,7 +16,7 @@ use Rattle.tree.specs.Known.{Whole, Reach, there, further}
 use Rattle.tree.specs.Due.{Due, AllDue, keyed, Tallied, Joins, Blocked}
 use Rattle.tree.specs.declared.due.Block.{Block}
 use Rattle.tree.proofs.CountLaws.{past_above, whole_past, whole_next, whole_within, reach_on, reach_next, hit_both, hit_code, hit_parent, count_none, count_next}
-use Rattle.tree.proofs.TestLaws.{asked as not-false, unasked}
+use Rattle.tree.proofs.TestLaws.{asked as not_false, unasked}
 
 -- ---- tuples that have their due index
 
@@ -170,7 +170,7 @@ before_end n at y l h = omega arith
 module _ (f b t : List ℕ) (x at on : ℕ) (asked v : Bool) (e : on ≡ past f at) (told : v ≡ true → Joins f b t at (asked ≡ true)) (yes : not v ≡ false) where
   -- what the code learns of a tuple
   joined : Joins f b t at (asked ≡ true)
-  joined = told (not-false v yes)
+  joined = told (not_false v yes)
 
   -- the tallies behind it
   pub held_tallied : Tallied f b t on

@@ -1,5 +1,6 @@
 // The tree rule over the tuples of ATTR and INAS: 0 where it holds, else the place of the first tuple that breaks it.
 #![tactic(auto)]
+
 pub mod due;
 pub mod siblings;
 pub mod tuple;

@@ -9,7 +9,6 @@ use lib.ListN.{length, length-append}
 use lib.Dec.{ltb}
 use Rattle.base.specs.Choice.{pick}
 use Rattle.base.specs.Check.{ok, fault}
-use Rattle.base.specs.Walk.{Got}
 use Rattle.base.specs.declared.Fault.{Fault}
 use Rattle.base.proofs.ListLaws.{each_length}
 use Rattle.memory.specs.Put.{put}
@@ -38,7 +37,7 @@ use Rattle.updates.proofs.Lengths.{length_result, length_head}
 use Rattle.updates.proofs.Streams.{streams, result_of, written_result}
 use Rattle.stock.specs.Stock.{stock_from}
 use Rattle.result.specs.Rest.{rest_bytes, rest_length}
-use Rattle.updater.specs.Stages.{sent_general, sent_from, Fits, Begun, Acted, Built}
+use Rattle.updater.specs.Stages.{sent_general, sent_from, Begun, Acted, Built}
 use Rattle.updater.proofs.StageLaws.{refusing, answer_refused, fits_on}
 
 -- ---- what is left behind the general records

@@ -5,7 +5,6 @@ use mathlib.Core.List.{List}
 use native.Mathlib.Omega.{arith}
 use lib.ListN.{length, replicate}
 use Rattle.base.specs.Check.{fault}
-use Rattle.base.specs.declared.Fault.{Fault}
 use Rattle.base.specs.Lists.{Each}
 use Rattle.rules.specs.Outcome.{Outcome, done, refused}
 use Rattle.rules.specs.declared.Answer.{Answer}
@@ -26,7 +25,7 @@ use Rattle.version.specs.Areas.{flag_area}
 use Rattle.sorting.specs.Indices.{Indices}
 use Rattle.sorting.specs.declared.limits.Limits.{Limits}
 use Rattle.composing.specs.Tied.{TiedFrom}
-use Rattle.history.specs.Ready.{Short, Ready}
+use Rattle.history.specs.Ready.{Ready}
 use Rattle.history.specs.Judged.{judged_by, AllJudged}
 use Rattle.history.specs.Flags.{Flags}
 use Rattle.history.specs.declared.judging.Judged.{Judged}
@@ -36,7 +35,7 @@ use Rattle.result.specs.Composed.{said_by, composed_of, ComposedBy}
 use Rattle.result.specs.declared.Composed.{Composed}
 use Rattle.result.specs.declared.Composed.TheVariants.{Loose, Whole}
 use Rattle.result.proofs.ComposedLaws.{loose_said, whole_linked, whole_long, whole_counted}
-use Rattle.updater.specs.Stages.{sent_from, Fits, Begun, Acted, Built}
+use Rattle.updater.specs.Stages.{sent_from, Begun, Acted, Built}
 use Rattle.updater.proofs.StageLaws.{refusing, built_as, little_work, long_dataset, long_update}
 use Rattle.updater.proofs.PlacedLaws.{begun_once, begun_writable}
 use Rattle.updater.proofs.ActLaws.{acted_as, verdict_file, behind_count, acted_wrong, acted_loose, acted_long, acted_short, acted_done}

@@ -1,5 +1,5 @@
 -- Where the first records of a dataset and of an update stand. Assumes nothing.
-use Prim.Native.Nat.{ℕ, ◌+◌, ◌-◌, ◌≤◌, ◌<◌}
+use Prim.Native.Nat.{ℕ, ◌+◌, ◌≤◌, ◌<◌}
 use mathlib.Core.Path.{◌≡◌, refl, sym, ap, ◌∙◌}
 use mathlib.Core.List.{List, [], ◌∷◌}
 use native.Mathlib.Omega.{arith}
@@ -9,12 +9,10 @@ use Rattle.skeleton.specs.File.{Field, records_from, records_of}
 use Rattle.skeleton.specs.Place.{between, fields_at}
 use Rattle.skeleton.specs.Record.{record_at}
 use Rattle.skeleton.specs.declared.directory.Shape.{Shape}
-use Rattle.skeleton.specs.declared.leader.Head.{Head}
-use Rattle.skeleton.specs.declared.leader.Head.TheVariants.{Good, Refused}
+use Rattle.skeleton.specs.declared.leader.Head.TheVariants.{Good}
 use Rattle.skeleton.proofs.FileLaws.{records_all}
 use Rattle.skeleton.proofs.RecordLaws.{right}
 use Rattle.rules.specs.General.{general_record}
-use Rattle.rules.specs.Record.{Rec}
 use Rattle.rules.specs.Written.{Dataset}
 use Rattle.rules.specs.Outcome.{done, and_then}
 use Rattle.rules.specs.File.{Stored, stored_as, dataset_test, taken, dataset_of, references, read_dataset}

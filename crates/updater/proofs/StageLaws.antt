@@ -6,7 +6,6 @@ use native.Mathlib.Omega.{arith}
 use borrow.Author.Tests.{lt-ltb, le-ltb}
 use lib.ListN.{length}
 use Rattle.base.specs.Check.{Check, ok, no, fault}
-use Rattle.base.specs.Walk.{Got}
 use Rattle.base.specs.declared.Fault.{Fault}
 use Rattle.base.proofs.CheckLaws.{bind_inv, ok_inj}
 use Rattle.skeleton.specs.File.{Field, records_of}
@@ -14,7 +13,7 @@ use Rattle.fields.specs.Valid.{Bytes}
 use Rattle.rules.specs.General.{number8, merged}
 use Rattle.rules.specs.Written.{Dataset, written, written_length, number12}
 use Rattle.rules.specs.Outcome.{Outcome, done, refused, and_then, at}
-use Rattle.rules.specs.File.{Sent, sent_as, read_dataset, writable, read_update}
+use Rattle.rules.specs.File.{sent_as, read_dataset, writable, read_update}
 use Rattle.rules.specs.Update.{general}
 use Rattle.rules.specs.Answers.{Written, refusal, success, not_too_long, enough_work, read_outcome, read_answer, read, output_of, update}
 use Rattle.rules.specs.declared.Answer.{Answer}

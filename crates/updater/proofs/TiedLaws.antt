@@ -4,7 +4,6 @@ use mathlib.Core.Path.{◌≡◌, sym, subst, ◌∙◌}
 use mathlib.Core.List.{List}
 use lib.ListN.{take}
 use Rattle.base.specs.Lists.{each, gather, Each}
-use Rattle.base.specs.Walk.{Got}
 use Rattle.base.proofs.EachLaws.{each_map}
 use Rattle.skeleton.specs.File.{records_from}
 use Rattle.rules.specs.Associations.{field_keys, marks, number11}

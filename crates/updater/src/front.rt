@@ -5,7 +5,7 @@ ghost use Rattle.memory.specs.Wrote.{Wrote};
 ghost use Rattle.skeleton.specs.Emit.{emit};
 ghost use Rattle.rules.specs.General.{general_record, merged};
 ghost use Rattle.rules.specs.Written.{field_width, written_length};
-ghost use Rattle.rules.specs.Update.{general as theGeneral};
+ghost use Rattle.rules.specs.Update.{general as the_general};
 ghost use Rattle.rules.specs.declared.Mode.TheVariants.{InDataset, InUpdate};
 ghost use Rattle.updater.specs.Pieces.{There, Cut, Lies, fields_in};
 ghost use Rattle.updater.specs.Told.{general_by};
@@ -60,7 +60,7 @@ pub fn found(f: &[u8], p: usize) -> Piece
 pub fn general(f: &[u8], old: Piece, u: &[u8], new: Piece) -> Follows
     requires lies { Lies f.now old × Lies u.now new }
     requires value { (general_record InDataset (fields_in f.now old) ≡ pass) × (general_record InUpdate (fields_in u.now new) ≡ pass) }
-    ensures { result ≡ general_by (theGeneral (fields_in f.now old) (fields_in u.now new)) }
+    ensures { result ≡ general_by (the_general (fields_in f.now old) (fields_in u.now new)) }
 {
     let i = old.start;
     let j = old.end;

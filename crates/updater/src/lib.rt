@@ -1,5 +1,6 @@
 // The updater: it builds the result of a dataset and an update in a third slice.
 #![tactic(auto)]
+
 pub mod front;
 
 ghost use Rattle.std.specs.Prelude.{◌≡◌, ◌≤◌, length};

@@ -6,7 +6,6 @@ use native.Mathlib.Omega.{arith}
 use lib.ListN.{length, get_or, drop}
 use lib.Dec.{eqb}
 use Rattle.base.specs.Check.{ok, pass, passed}
-use Rattle.base.specs.declared.Fault.{Fault}
 use Rattle.base.specs.Walk.{Got}
 use Rattle.base.proofs.CheckLaws.{bind_inv, ok_inj}
 use Rattle.skeleton.specs.File.{Field, records_of}
@@ -14,7 +13,7 @@ use Rattle.rules.specs.Record.{Rec, update_record}
 use Rattle.rules.specs.General.{general_record}
 use Rattle.rules.specs.Written.{Dataset}
 use Rattle.rules.specs.Outcome.{done, at}
-use Rattle.rules.specs.File.{dataset_test, update_test, through, ending, taken, Stored, stored_as, dataset_of, references, read_dataset, Sent, sent_as, update_of, read_update}
+use Rattle.rules.specs.File.{dataset_test, update_test, through, taken, Stored, stored_as, dataset_of, references, read_dataset, Sent, sent_as, update_of, read_update}
 use Rattle.rules.specs.declared.Mode.TheVariants.{InUpdate}
 use Rattle.rules.proofs.OutcomeLaws.{and_then_inv, at_inv, done_inj}
 use Rattle.rules.proofs.FileLaws.{ending_inv}

@@ -21,7 +21,7 @@ use Rattle.rules.specs.Trees.{number6}
 use Rattle.rules.specs.Associations.{number7}
 use Rattle.rules.specs.Record.{Rec, key_of, rec_of, dataset_record}
 use Rattle.rules.specs.General.{general_record}
-use Rattle.rules.specs.Outcome.{done, refused, at}
+use Rattle.rules.specs.Outcome.{done, at}
 use Rattle.rules.specs.File.{last_rank, dataset_test, through}
 use Rattle.rules.specs.declared.Kind.{Kind}
 use Rattle.rules.specs.declared.Mode.TheVariants.{InDataset}

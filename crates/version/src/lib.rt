@@ -1,5 +1,6 @@
 // The present version of one record in the workspace.
 #![tactic(auto)]
+
 use rules::Kind;
 
 pub mod areas;

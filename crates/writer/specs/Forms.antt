@@ -1,6 +1,5 @@
 -- The records of a file as they are written.
 use Rattle.std.specs.Prelude.{ℕ, ◌+◌, List, [], ◌∷◌, ltb}
-use Rattle.base.specs.Walk.{Got}
 use Rattle.skeleton.specs.File.{Field, records_from}
 use Rattle.rules.specs.Written.{written_length}
 use Rattle.writing.specs.House.{in_house_form}

@@ -1,5 +1,6 @@
 // The writer: it puts a dataset into its written form.
 #![tactic(auto)]
+
 ghost use Rattle.std.specs.Prelude.{◌≡◌, true, ◌≤◌, length};
 ghost use Rattle.memory.specs.Hold.{zeros};
 ghost use Rattle.memory.specs.Wrote.{Wrote};

@@ -21,7 +21,7 @@ use Rattle.forest.specs.Forest.{Forest, tuples_of, tuples_from}
 use Rattle.forest.specs.Rule.{tree_of, run_up_to, all_taken}
 use Rattle.rules.specs.Tags.{FOID, ATTR, INAS, SPAS, C2IT, C2IL}
 use Rattle.rules.specs.ByTag.{body_of}
-use Rattle.rules.specs.Content.{format_of, inas_format, filled, stands, all_stand}
+use Rattle.rules.specs.Content.{format_of, inas_format, stands, all_stand}
 use Rattle.rules.specs.Trees.{attr_tree, inas_tree, tree_stands, trees_stand}
 use Rattle.rules.specs.Record.{foid_of, standing, assoc_of}
 use Rattle.rules.specs.Written.{field_as, list_field, nums, tree_bytes, assoc_field}

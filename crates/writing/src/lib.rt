@@ -1,5 +1,6 @@
 // One record written in the house form, straight from the bytes of a record in any encoding.
 #![tactic(auto)]
+
 pub mod joining;
 pub mod measuring;
 pub mod parts;

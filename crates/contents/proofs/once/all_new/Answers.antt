@@ -15,12 +15,12 @@ returns-then-not-join c = λ z. absurd (true≢false (sym z))
 
 pub loop-y-preserved : goal.loop-y-preserved
 loop-y-preserved c = let l = c.loop-y.invariant in (
-      search rules,
-      omega arith,
-      search hold-turn,
-      hold_met _ _ _ _ _ l.2 _ c.advance.ensures _ _ c.in-Next.is _ _ _ _ _ c.join.ensures (ap not c.if-not-join.false) l.3,
-      hold_apart _ _ _ _ _ l.2 _ c.advance.ensures _ _ c.in-Next.is _ _ _ _ _ c.join.ensures (ap not c.if-not-join.false) l.3 _ refl c.requires.3 l.4,
-    )
+  search rules,
+  omega arith,
+  search hold-turn,
+  hold_met _ _ _ _ _ l.2 _ c.advance.ensures _ _ c.in-Next.is _ _ _ _ _ c.join.ensures (ap not c.if-not-join.false) l.3,
+  hold_apart _ _ _ _ _ l.2 _ c.advance.ensures _ _ c.in-Next.is _ _ _ _ _ c.join.ensures (ap not c.if-not-join.false) l.3 _ refl c.requires.3 l.4,
+)
 
 pub returns-in-Over : goal.returns-in-Over
 returns-in-Over c = λ z. absurd (true≢false (sym z))

@@ -5,8 +5,6 @@ use Rattle.items.proofs.TupleLaws.{tuples_past, tuples_next}
 use Rattle.edits.proofs.ReadLaws.{valued_text}
 use Rattle.edits.proofs.TurnLaws.{act_refused, act_gone, act_led, act_lead, acts_start, acts_end, acts_other, acts_no, acts_past, acts_turn}
 use native.Mathlib.Omega.{arith}
-use borrow.Fn.PlainCycle.{is}
-use Rattle.edits.proofs.acting.acts.Reads as acts
 use Rattle.edits.proofs.acting.+act_acts.Goals as goal
 
 pub act-behind-first-requires : goal.act-behind-first-requires
@@ -16,7 +14,7 @@ pub act-overflow_add-full : goal.act-overflow_add-full
 act-overflow_add-full t c = omega (arith, c.requires)
 
 pub act-perform-deed-requires : goal.act-perform-deed-requires
-act-perform-deed-requires t c =     let p = c.requires in
+act-perform-deed-requires t c = let p = c.requires in
     let f = tuples_past _ _ _ p.0 p.1 in
     let g = past_above c.args.u.now c.args.at in
     (rw c.behind-first.ensures (sym (valued_text _ _)), omega arith, omega arith, omega arith, p.8, p.5, p.6)
@@ -28,14 +26,14 @@ pub act-overflow_add-place : goal.act-overflow_add-place
 act-overflow_add-place t c = omega (arith, c.requires)
 
 pub act-overflow_add-i : goal.act-overflow_add-i
-act-overflow_add-i t c =     let l = act_led _ c.args.end _ c.args.place _ _ _ _ _ [] _ _ _ _ (c.perform-deed.ensures [] _) c.in-Lead.is in
+act-overflow_add-i t c = let l = act_led _ c.args.end _ c.args.place _ _ _ _ _ [] _ _ _ _ (c.perform-deed.ensures [] _) c.in-Lead.is in
     omega (arith, c.requires)
 
 pub act-overflow_add-depth : goal.act-overflow_add-depth
 act-overflow_add-depth t c = omega (arith, c.requires)
 
 pub act-acts-requires : goal.act-acts-requires
-act-acts-requires t c =     let p = c.requires in
+act-acts-requires t c = let p = c.requires in
     let l = act_led _ c.args.end _ c.args.place _ _ _ _ _ [] _ _ _ _ (c.perform-deed.ensures [] _) c.in-Lead.is in
     let f = tuples_past _ _ _ p.0 p.1 in
     let g = past_above c.args.u.now c.args.at in
@@ -60,7 +58,7 @@ pub act-shape_of-w-in-Lead : goal.act-shape_of-w-in-Lead
 act-shape_of-w-in-Lead t c = c.acts.auto.w ∙ c.perform-deed.auto.w
 
 pub act-returns-in-Lead : goal.act-returns-in-Lead
-act-returns-in-Lead t c =     let p = c.requires in
+act-returns-in-Lead t c = let p = c.requires in
     λ s. act_lead _ _ _ _ _ _ _ _ _ s _ _ _ _ _ _ _ (act_led _ c.args.end _ c.args.place _ _ _ _ _ s _ _ _ _ (c.perform-deed.ensures s _) c.in-Lead.is) c.behind-first.ensures (tuples_past _ _ _ p.0 p.1) refl (c.acts.ensures s)
 
 pub acts-loop-a-init : goal.acts-loop-a-init
@@ -88,13 +86,13 @@ pub acts-shape_of-w-in-No : goal.acts-shape_of-w-in-No
 acts-shape_of-w-in-No t c = c.act-one.auto.w ∙ c.loop-a.invariant.long
 
 pub acts-returns-in-No : goal.acts-returns-in-No
-acts-returns-in-No t c =         λ s. acts_no _ _ _ _ _ _ _ _ _ _ _ _ _ _ c.loop-a.invariant c.loop-a-test.true (sym c.number.ensures.0 ∙ c.if-number-parent.false) _ _ c.act-one.ensures s _ _ c.in-No.is
+acts-returns-in-No t c = λ s. acts_no _ _ _ _ _ _ _ _ _ _ _ _ _ _ c.loop-a.invariant c.loop-a-test.true (sym c.number.ensures.0 ∙ c.if-number-parent.false) _ _ c.act-one.ensures s _ _ c.in-No.is
 
 pub acts-loop-a-smaller : goal.acts-loop-a-smaller
-acts-loop-a-smaller t c =         omega (arith, acts_past _ _ _ _ _ _ _ _ _ _ _ _ _ _ c.loop-a.invariant c.loop-a-test.true (sym c.number.ensures.0 ∙ c.if-number-parent.false) _ _ c.act-one.ensures _ _ _ c.in-Upto.is)
+acts-loop-a-smaller t c = omega (arith, acts_past _ _ _ _ _ _ _ _ _ _ _ _ _ _ c.loop-a.invariant c.loop-a-test.true (sym c.number.ensures.0 ∙ c.if-number-parent.false) _ _ c.act-one.ensures _ _ _ c.in-Upto.is)
 
 pub acts-loop-a-preserved : goal.acts-loop-a-preserved
-acts-loop-a-preserved t c =         acts_turn _ _ _ _ _ _ _ _ _ _ _ _ _ _ c.loop-a.invariant c.loop-a-test.true (sym c.number.ensures.0 ∙ c.if-number-parent.false) _ _ c.act-one.ensures _ _ _ c.in-Upto.is c.act-one.auto.w
+acts-loop-a-preserved t c = acts_turn _ _ _ _ _ _ _ _ _ _ _ _ _ _ c.loop-a.invariant c.loop-a-test.true (sym c.number.ensures.0 ∙ c.if-number-parent.false) _ _ c.act-one.ensures _ _ _ c.in-Upto.is c.act-one.auto.w
 
 pub acts-shape_of-w : goal.acts-shape_of-w
 acts-shape_of-w t c = c.loop-a.invariant.long

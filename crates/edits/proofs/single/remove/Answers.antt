@@ -1,4 +1,4 @@
-use Prim.Native.Nat.{◌+◌, ◌≤◌}
+use Prim.Native.Nat.{◌+◌}
 use Rattle.edits.specs.Search.{gone_count, gone_out}
 use Rattle.edits.proofs.SearchLaws.{end_bound}
 use native.Mathlib.Omega.{arith}

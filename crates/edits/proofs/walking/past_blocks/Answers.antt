@@ -37,8 +37,8 @@ loop-at-preserved c = let a = c.args in
     let block = passed_block 64 a.w.now a.n a.depth a.code l.at (omega arith) (omega (arith, t.ensures.0)) in
     let over : Passed a.w.now a.n a.depth a.code l.at (l.at + 64) t.result = rw t.ensures.0 block in
     elim c.if-t-gt0.branch [
-      then-t-gt0 w ↦ rw (w.mark-is, w.nth-is) (going_mark (l.at + 64) t.result l.invariant over w.if-t-gt0.true less)
-    | else-t-gt0 w ↦ rw (w.mark-is, w.nth-is) (going_same (l.at + 64) t.result l.invariant over w.if-t-gt0.false)
+      | then-t-gt0 w ↦ rw (w.mark-is, w.nth-is) (going_mark (l.at + 64) t.result l.invariant over w.if-t-gt0.true less)
+      | else-t-gt0 w ↦ rw (w.mark-is, w.nth-is) (going_same (l.at + 64) t.result l.invariant over w.if-t-gt0.false)
     ]
 
 pub returns : goal.returns

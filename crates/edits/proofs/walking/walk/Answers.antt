@@ -57,8 +57,8 @@ loop-at-preserved c = let a = c.args in
     let over : Passed a.w.now a.n a.depth a.code l.at (l.at + 1) t.result = rw t.ensures.0 item in
     let less : l.count + t.result < a.k = omega (arith, c.if-count-t.false, t.ensures.1, l.invariant.less) in
     elim c.if-t-gt0.branch [
-      then-t-gt0 w ↦ rw (w.mark-is, w.nth-is) (going_mark (l.at + 1) t.result l.invariant over w.if-t-gt0.true less)
-    | else-t-gt0 w ↦ rw (w.mark-is, w.nth-is) (going_same (l.at + 1) t.result l.invariant over w.if-t-gt0.false)
+      | then-t-gt0 w ↦ rw (w.mark-is, w.nth-is) (going_mark (l.at + 1) t.result l.invariant over w.if-t-gt0.true less)
+      | else-t-gt0 w ↦ rw (w.mark-is, w.nth-is) (going_same (l.at + 1) t.result l.invariant over w.if-t-gt0.false)
     ]
 
 pub returns : goal.returns

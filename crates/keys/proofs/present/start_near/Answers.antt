@@ -18,7 +18,7 @@ pub loop-lo-smaller : goal.loop-lo-smaller
 loop-lo-smaller c = search half-turn
 
 pub loop-lo-preserved : goal.loop-lo-preserved
-loop-lo-preserved c =         halving_down _ _ _ _ _ _ _ _ c.loop-lo.invariant c.loop-lo-test.true _ c.wide-q.ensures _ c.look_at.ensures _ _ c.in-At.is (search rules)
+loop-lo-preserved c = halving_down _ _ _ _ _ _ _ _ c.loop-lo.invariant c.loop-lo-test.true _ c.wide-q.ensures _ c.look_at.ensures _ _ c.in-At.is (search rules)
 
 pub returns-in-Nothing : goal.returns-in-Nothing
 returns-in-Nothing c = search half-turn

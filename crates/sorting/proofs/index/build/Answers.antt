@@ -1,6 +1,5 @@
 use mathlib.Core.Path.{◌≡◌}
 use Prim.Native.Nat.{ℕ}
-use borrow.Author.Tests.{not-false}
 use Rattle.sorting.proofs.NumberLaws.{rises_ascends}
 use Rattle.sorting.proofs.IndexLaws.{built, built_mixed}
 use native.Mathlib.Omega.{arith}

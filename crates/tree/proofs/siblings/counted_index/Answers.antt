@@ -19,4 +19,4 @@ pub returns-then-top-code : goal.returns-then-top-code
 returns-then-top-code c = let w = asked _ (ap not c.if-not-whole.false) in due_asked _ _ w _ (due_top _ _ _ _ _ _ (c.requires.5 w) c.if-top-code.true)
 
 pub returns : goal.returns
-returns c =     due_asked _ _ (asked _ (ap not c.if-not-whole.false)) _ (due_counted _ _ _ _ _ _ c.twins.ensures.0 c.requires.1 c.requires.2 c.requires.4)
+returns c = due_asked _ _ (asked _ (ap not c.if-not-whole.false)) _ (due_counted _ _ _ _ _ _ c.twins.ensures.0 c.requires.1 c.requires.2 c.requires.4)

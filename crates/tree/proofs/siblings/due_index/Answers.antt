@@ -7,7 +7,7 @@ pub number-requires : goal.number-requires
 number-requires c = omega (arith, tuple_within c.args.b.now c.args.at c.requires.whole_2.0 c.requires.whole.3)
 
 pub returns-then-sure : goal.returns-then-sure
-returns-then-sure c =     let sure = c.if-sure.true in
+returns-then-sure c = let sure = c.if-sure.true in
     due_sure _ _ _ sure _ (own_due _ _ _ _ c.requires.whole_2.1 c.requires.whole.3 c.requires.whole_2.2 (c.requires.whole_2.3 sure) c.number.ensures)
 
 pub number-code-requires : goal.number-code-requires

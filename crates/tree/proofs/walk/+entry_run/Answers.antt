@@ -44,9 +44,9 @@ run-number-code-requires t c = let b = c.args.b.now in let a = c.loop-a.a in ome
 
 pub run-due_index-due-requires : goal.run-due_index-due-requires
 run-due_index-due-requires t c = let l = c.loop-a in record {
-      whole = (c.requires.0.whole, c.requires.0.reached, reach_on _ _ _ l.invariant.reached, c.loop-a-test.true, c.requires.1, l.invariant.seen);
-      whole_2 = (l.invariant.known.whole, l.invariant.known.reached, sym c.number.ensures ∙ c.if-number-parent.false, c.requires.2);
-    }
+  whole = (c.requires.0.whole, c.requires.0.reached, reach_on _ _ _ l.invariant.reached, c.loop-a-test.true, c.requires.1, l.invariant.seen);
+  whole_2 = (l.invariant.known.whole, l.invariant.known.reached, sym c.number.ensures ∙ c.if-number-parent.false, c.requires.2);
+}
 
 pub run-entry-head-requires : goal.run-entry-head-requires
 run-entry-head-requires t c = let l = c.loop-a in let a = turn_asks l.invariant _ _ _ _ c.loop-a-test.true c.number.ensures c.if-number-parent.false c.number-code.ensures c.due_index-due.ensures in (omega (arith, reach_on c.args.b.now c.args.at l.a l.invariant.reached, c.loop-a-test.true), (a.0, a.1, a.2, c.requires.2))

@@ -1,0 +1,12 @@
+-- `cocc_part` meets its contract. Assumes nothing.
+use mathlib.Core.Path.{sym, ap}
+use Rattle.acting.specs.Acted.{cocc_part}
+use Rattle.acting.proofs.part.cocc_part.Goals as goal
+
+pub returns-in-Refused : goal.returns-in-Refused
+unfolding cocc_part
+returns-in-Refused c = sym (ap (cocc_part c.args.v) c.in-Refused.is)
+
+pub returns-in-Now : goal.returns-in-Now
+unfolding cocc_part
+returns-in-Now c = sym (ap (cocc_part c.args.v) c.in-Now.is)

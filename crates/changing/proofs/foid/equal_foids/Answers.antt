@@ -1,0 +1,31 @@
+-- `equal_foids` meets its contract. Assumes nothing.
+use Rattle.changing.proofs.FoidLaws.{equal_room_a, equal_room_b, same_fids, other_fidn, other_agen}
+use native.Mathlib.Omega.{arith}
+use Rattle.changing.proofs.foid.equal_foids.Goals as goal
+
+pub le16-requires : goal.le16-requires
+le16-requires c = omega (arith, equal_room_a _ _ c.requires)
+
+pub le16-requires-2 : goal.le16-requires-2
+le16-requires-2 c = omega (arith, equal_room_b _ _ c.requires)
+
+pub le32-requires : goal.le32-requires
+le32-requires c = omega (arith, equal_room_a _ _ c.requires)
+
+pub le32-requires-then-le16 : goal.le32-requires-then-le16
+le32-requires-then-le16 c = omega (arith, equal_room_b _ _ c.requires)
+
+pub le16-requires-then-le32 : goal.le16-requires-then-le32
+le16-requires-then-le32 c = omega (arith, equal_room_a _ _ c.requires)
+
+pub le16-requires-then-le32-2 : goal.le16-requires-then-le32-2
+le16-requires-then-le32-2 c = omega (arith, equal_room_b _ _ c.requires)
+
+pub returns-then-le32 : goal.returns-then-le32
+returns-then-le32 c = same_fids _ _ c.requires _ _ c.le16.ensures c.le16-2.ensures c.if-le16.true _ _ c.le32.ensures c.le32-then-le16.ensures c.if-le32.true _ _ c.le16-then-le32.ensures c.le16-then-le32-2.ensures
+
+pub returns-else-le32 : goal.returns-else-le32
+returns-else-le32 c = other_fidn _ _ c.requires _ _ c.le16.ensures c.le16-2.ensures c.if-le16.true _ _ c.le32.ensures c.le32-then-le16.ensures c.if-le32.false
+
+pub returns-else-le16 : goal.returns-else-le16
+returns-else-le16 c = other_agen _ _ c.requires _ _ c.le16.ensures c.le16-2.ensures c.if-le16.false

@@ -1,0 +1,11 @@
+use Rattle.composing.proofs.ActsLaws.{names-ways}
+use Rattle.composing.proofs.acts.deletes.Goals as goal
+
+pub returns-then-before : goal.returns-then-before
+returns-then-before c = search names-ways
+
+pub returns-then-found-key : goal.returns-then-found-key
+returns-then-found-key c = search names-ways
+
+pub returns : goal.returns
+returns c = search names-ways

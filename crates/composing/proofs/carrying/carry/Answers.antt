@@ -1,0 +1,15 @@
+use Rattle.composing.proofs.EmittedLaws.{emitted-ways}
+use borrow.Author.Rules.{rules}
+use Rattle.composing.proofs.carrying.carry.Goals as goal
+
+pub overflow_add-n : goal.overflow_add-n
+overflow_add-n c = search emitted-ways
+
+pub returns-then-out-n : goal.returns-then-out-n
+returns-then-out-n c = search emitted-ways
+
+pub write_counted-requires : goal.write_counted-requires
+write_counted-requires c = record { bounded = search rules; h_in_bounds = search emitted-ways }
+
+pub returns : goal.returns
+returns c = search emitted-ways

@@ -1,0 +1,8 @@
+use Rattle.composing.proofs.HeldLaws.{cell-ways}
+use Rattle.composing.proofs.held.cell_key.Goals as goal
+
+pub returns-then-c-i-eq0 : goal.returns-then-c-i-eq0
+returns-then-c-i-eq0 c = search cell-ways
+
+pub returns : goal.returns
+returns c = search cell-ways

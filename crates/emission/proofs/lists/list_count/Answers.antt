@@ -1,0 +1,9 @@
+use Rattle.emission.proofs.ListLaws.{no_count, some_count}
+use native.Mathlib.Omega.{arith}
+use Rattle.emission.proofs.lists.list_count.Goals as goal
+
+pub returns-then-n-eq0 : goal.returns-then-n-eq0
+returns-then-n-eq0 c = (no_count _ c.if-n-eq0.true, omega arith)
+
+pub returns : goal.returns
+returns c = (some_count _ c.if-n-eq0.false, omega arith)

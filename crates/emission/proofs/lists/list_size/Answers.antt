@@ -1,0 +1,9 @@
+use Rattle.emission.proofs.ListLaws.{no_size, some_size}
+use native.Mathlib.Omega.{arith}
+use Rattle.emission.proofs.lists.list_size.Goals as goal
+
+pub returns-then-n-eq0 : goal.returns-then-n-eq0
+returns-then-n-eq0 c = (no_size _ c.if-n-eq0.true, omega arith)
+
+pub returns : goal.returns
+returns c = (some_size _ c.if-n-eq0.false, omega arith)

@@ -1,0 +1,11 @@
+use mathlib.Core.Path.{◌≡◌}
+use Prim.Native.Nat.{◌-◌, ◌≤◌}
+use lib.ListN.{length}
+use Rattle.fieldwise.specs.InFile.{field_from, field_in_file}
+use Rattle.fieldwise.proofs.file.field_of_record.Given as goal
+
+abbrev pub invariant-loop-left : goal.invariant-loop-left
+invariant-loop-left l = (l.at ≤ length l.file) × (field_from l.file l.at l.left l.n ≡ field_in_file l.file l.m l.n)
+
+abbrev pub decreases-loop-left : goal.decreases-loop-left
+decreases-loop-left l = length l.file - l.at

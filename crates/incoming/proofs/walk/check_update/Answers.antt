@@ -1,0 +1,11 @@
+use Rattle.incoming.proofs.ComingLaws.{came-ways}
+use Rattle.incoming.proofs.walk.check_update.Goals as goal
+
+pub later_records-requires : goal.later_records-requires
+later_records-requires c = search came-ways
+
+pub returns-in-Behind : goal.returns-in-Behind
+returns-in-Behind c = search came-ways
+
+pub returns-in-Stopped : goal.returns-in-Stopped
+returns-in-Stopped c = search came-ways

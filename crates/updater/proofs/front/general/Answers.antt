@@ -1,0 +1,11 @@
+use Rattle.updater.proofs.FrontLaws.{general-ways}
+use Rattle.updater.proofs.front.general.Goals as goal
+
+pub returns-then-not-follows : goal.returns-then-not-follows
+returns-then-not-follows c = search general-ways
+
+pub returns-then-n-gt99999 : goal.returns-then-n-gt99999
+returns-then-n-gt99999 c = search general-ways
+
+pub returns : goal.returns
+returns c = search general-ways
