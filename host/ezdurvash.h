@@ -1,4 +1,4 @@
-/* The proved library, for programs in C and for languages that call C. Link with libconsole.a (rt staticlib console); x86-64 Linux. */
+/* The proved library, for programs in C and for languages that call C. Link with libconsole.a (rt lib in crates/console); x86-64 Linux. */
 #ifndef EZDURVASH_H
 #define EZDURVASH_H
 

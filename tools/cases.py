@@ -3,7 +3,7 @@
 
     tools/cases.py CASES ANSWERS                       write the kept cases into crates/cases/proofs
     tools/cases.py CASES ANSWERS --all --scratch DIR   make DIR a repository with every case that is small enough, for a run by hand:
-                                                       cd DIR && rt dev cases
+                                                       cd DIR/crates/cases && rt check
 
     tools/cases.py CASES ANSWERS --back                write the kept cases and their answers back into files of these names, so that
                                                        the second program can be asked again
@@ -17,7 +17,7 @@
 The kept ones are made so:
 
     second generate --seed 1 --count 6000 --operations 1,2,3,4 CASES && second answer CASES > ANSWERS &&
-    tools/cases.py CASES ANSWERS && rt fmt
+    tools/cases.py CASES ANSWERS && cd crates/cases && rt fmt
 
 CASES is as `second generate` writes it, ANSWERS what `second answer CASES` prints: one line a case. A case becomes its bytes, each
 file one number, and its answer as numbers: number, file, record, length, count and the hash of the output slice. That the
@@ -26,6 +26,7 @@ workspace is zero is not computed (the definition says it of every call): an ans
 import argparse
 import pathlib
 import re
+import shutil
 import struct
 import sys
 
@@ -88,7 +89,7 @@ class Module:
     """The text of one module: byte strings, each once, and theorems."""
 
     def __init__(self, title):
-        self.title, self.files, self.theorems = title, {}, []
+        self.title, self.files, self.theorems, self.calls = title, {}, [], set()
 
     def file(self, data):
         """The name of a byte string."""
@@ -104,20 +105,22 @@ class Module:
             UPDATE: ["updates", self.file(c.dataset), self.file(c.update), str(c.room), str(c.work)],
             LISTING: ["lists", self.file(c.dataset)],
         }[c.operation]
+        self.calls.add(words[0])
         return " ".join(words) + f" ({want})"
 
     def theorem(self, cases):
-        name = f"cases-{cases[0].number}" if len(cases) == 1 else f"cases-{cases[0].number}-to-{cases[-1].number}"
+        name = f"cases_{cases[0].number}" if len(cases) == 1 else f"cases_{cases[0].number}_to_{cases[-1].number}"
         rows = "".join(f"    {self.case(c)}\n    ∷ " if c is cases[0] else f"{self.case(c)}\n    ∷ " for c in cases)
-        self.theorems.append(f"-- cases {cases[0].number} to {cases[-1].number}\n{name} : all (\n{rows}[]) ≡ true\nunfolding casesOpened\n{name} = refl\n")
+        self.theorems.append(f"-- cases {cases[0].number} to {cases[-1].number}\n{name} : all (\n{rows}[]) ≡ true\nunfolding cases_opened\n{name} = refl\n")
 
     def text(self):
         head = f"-- {self.title} Written by tools/cases.py. Assumes nothing.\n"
+        calls = [word for word in ("reads", "writes", "updates", "lists") if word in self.calls]
         uses = (
-            "use mathlib.Core.Path.{_≡_, refl}\nuse mathlib.Core.Bool.{true}\nuse mathlib.Core.List.{List, [], _∷_}\n"
+            "use mathlib.Core.Path.{◌≡◌, refl}\nuse mathlib.Core.Bool.{true}\nuse mathlib.Core.List.{List, [], ◌∷◌}\n"
             "use Prim.Native.Nat.{ℕ}\n"
-            "use Rattle·fields.specs.Bytes.{bytes}\n"
-            "use Rattle·cases·proofs.proofs.Case.{reads, writes, updates, lists, all, casesOpened}\n"
+            "use Rattle.fields.specs.Bytes.{bytes}\n"
+            f"use Rattle.cases.proofs.Case.{{{', '.join(calls)}, all, cases_opened}}\n"
         )
         files = "".join(
             f"\nabbrev {name} : List ℕ\n{name} = bytes {len(data)} {hex(int.from_bytes(data, 'little'))}\n" for data, name in self.files.items()
@@ -150,8 +153,8 @@ def scratch(folder):
         name = line.split(":")[0].strip()
         if name in ("base", "skeleton", "fields", "forest", "rules", "cases"):
             lines.append(line + "\n")
-            if name != "cases" and not (crates / name).exists():
-                (crates / name).symlink_to(ROOT / "crates" / name)
+            if name != "cases":
+                shutil.copytree(ROOT / "crates" / name, crates / name, ignore=shutil.ignore_patterns("out"), dirs_exist_ok=True)
     (folder / "crates.txt").write_text("".join(lines))
     for part in ("src", "proofs"):
         (crates / "cases" / part).mkdir(parents=True, exist_ok=True)

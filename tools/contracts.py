@@ -14,10 +14,10 @@ import sys
 
 ROOT = pathlib.Path(__file__).resolve().parent.parent
 PAGE = ROOT / "docs/PROMISES.md"
-OPENING, CLOSING = "([{⌜", ")]}⌝"
+OPENING, CLOSING = "([{", ")]}"
 
-# what the result is called in the conjuncts of every contract, whatever its own name is there
-RESULT = "RESULT"
+# what the result is called in every contract
+RESULT = "result"
 
 
 # ---- texts
@@ -68,14 +68,16 @@ class Function:
     def read(self, text, at):
         """Reads its head, whose parameters begin at a place."""
         end = closing(text, at)
-        self.outcomes = [f"now ({slice} .exit)" for slice in re.findall(r"(\w+): &(?:'\w+ )?mut\b", text[at:end])]
+        self.outcomes = [f"{slice}.new" for slice in re.findall(r"(\w+): &(?:'\w+ )?mut\b", text[at:end])]
         if given := re.compile(r"\s*->\s*([^\n{]+)").match(text, end):
             end, self.result = given.end(), given[1].strip()
-            self.outcomes.append(f"now {RESULT}" if self.result.startswith("&") else RESULT)
-        while clause := re.compile(r"\s*(requires|ensures) (?=\{)").match(text, end):
+            self.outcomes.append(f"{RESULT}.now" if self.result.startswith("&") else RESULT)
+        while clause := re.compile(r"\s*(requires|ensures)\*?(?: \w+)? (?=\{)").match(text, end):
             end = closing(text, clause.end())
             if clause[1] == "ensures":
-                self.conjuncts += conjuncts(text[clause.end() + 1:end - 1])
+                self.conjuncts += conjuncts_of(" ".join(text[clause.end() + 1:end - 1].split()))
+        if not re.compile(r"\s*\{").match(text, end):
+            sys.exit(f"{self.long}: no body behind its contract, but {text[end:end + 40]!r}")
         return self
 
 
@@ -88,17 +90,10 @@ def conjuncts_of(fact):
     return [one for part in found for one in conjuncts_of(part)]
 
 
-def conjuncts(contract):
-    """The conjuncts of one `ensures`."""
-    variable, fact = re.fullmatch(r"\s*λ (\w+)\. ⌜(.*)⌝\s*", contract, re.S).groups()
-    fact = " ".join(fact.split())
-    return conjuncts_of(fact if variable == "_" else re.sub(rf"(?<![\w·.]){variable}(?![\w·])", RESULT, fact))
-
-
 def relations_known(text):
     """The definitions of crates' specs that a source uses, by their names there, as crate/Module.name."""
     found = {}
-    for crate, module, names in re.findall(r"^ghost use Rattle·(\w+?)(?:·specs)?\.specs\.([\w.]+)\.\{([^}]*)\};", text, re.M):
+    for crate, module, names in re.findall(r"^ghost use Rattle\.(\w+)\.specs\.([\w.]+)\.\{([^}]*)\};", text, re.M):
         for name, _, alias in (one.strip().partition(" as ") for one in names.split(",")):
             found[alias or name] = f"{crate}/{module}.{name}"
     return found
@@ -131,7 +126,7 @@ def structs():
 
 def mentioned(text, outcomes):
     """The outcomes that a text speaks of."""
-    return {one for one in outcomes if re.search(rf"(?<![\w·.]){re.escape(one)}(?![\w·])", text)}
+    return {one for one in outcomes if re.search(rf"(?<![\w.'-]){re.escape(one)}(?![\w'-])", text)}
 
 
 def given_by_relation(fact, relations, known, open_ones):
@@ -158,7 +153,7 @@ def given_by(conjunct, relations, known, open_ones):
 def left_open(one, relations, fields):
     """The outcomes of a function that its contract does not give."""
     still, given = set(one.outcomes), set()
-    of_struct = {f"{RESULT} .{field}" for field in fields.get(re.sub(r"<.*>", "", one.result), [])}
+    of_struct = {f"{RESULT}.{field}" for field in fields.get(re.sub(r"<.*>", "", one.result), [])}
     while True:
         for conjunct in one.conjuncts:
             if len(parts(conjunct, "→")) == 1:
@@ -171,7 +166,7 @@ def left_open(one, relations, fields):
 
 
 def in_words(outcomes):
-    return ", ".join("its result" if RESULT in one else re.sub(r"now \((\w+) \.exit\)", r"`\1`", one) for one in outcomes)
+    return ", ".join("its result" if one in (RESULT, f"{RESULT}.now") else f"`{one.partition('.')[0]}`" for one in outcomes)
 
 
 # ---- the page

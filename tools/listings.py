@@ -19,7 +19,7 @@ def main(cases, answers, files):
         for name in files:
             with open(name, "rb") as file:
                 data = file.read()
-            run = subprocess.run(["host/launch", "target/bin/listing_program"], input=data, stdout=subprocess.PIPE, check=True)
+            run = subprocess.run(["host/launch", "crates/listing_program/out/listing_program"], input=data, stdout=subprocess.PIPE, check=True)
             framed.write(struct.pack("<BIIII", 4, len(data), 0, 0, 0) + data)
             said.write(f"listing {len(run.stdout)} {hashed(run.stdout):016x}\n")
 

@@ -30,11 +30,11 @@ def opened(crate, specs):
             continue
         items = []
         for name in definitions(specs / (module + ".antt")):
-            alias = name if name not in names else module.lower() + "-" + name
+            alias = name if name not in names else module.lower() + "_" + name
             items.append(name if alias == name else f"{name} as {alias}")
             names.append(alias)
         if items:
-            uses.append(f"use Rattle·{crate}·specs.specs.{module}.{{{', '.join(items)}}}\n")
+            uses.append(f"use Rattle.{crate}.specs.{module}.{{{', '.join(items)}}}\n")
     rest = "\n-- all of them\nunfoldable pub opened : Unit {0}\nunfolding " + " ".join(names) + "\nopened = tt\n"
     return HEAD + "".join(uses) + rest
 
