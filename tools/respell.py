@@ -15,6 +15,7 @@ import sys
 
 WORD = re.compile(r"""(?<![^\s(){}.;,@"«»\[\]`])--[^\n]*|"(?:[^"\\\n]|\\.)*"|[^\s(){}.;,@"«»\[\]`:]+""")
 DECLARED = re.compile(r"^( *)(?:(?:abbrev|unfoldable|opaque|pub|ruleset) )*([^\s:(){}]+) (?=[({:]|$)", re.M)
+RULESET = re.compile(r"^ *(?:pub )?ruleset ([^\s:(){}]+)", re.M)
 IMPORT = re.compile(r"^(?:ghost )?(?:pub )?use ([^\s{;]+?)\.?\{([^}]*)\}", re.M)
 TEXT = re.compile(r"`[^`\n]+`")
 # Names that Rattle makes, or that a proof of one function alone declares as its answers.
@@ -45,6 +46,9 @@ def renames():
     for path in sorted(glob.glob("crates/*/specs/**/*.antt", recursive=True) + glob.glob("crates/*/proofs/**/*.antt", recursive=True)):
         text = read(path)
         goals = answers(text)
+        for name in RULESET.findall(text):
+            if turns(name):
+                names[name] = snake(name)
         for indent, name in DECLARED.findall(text):
             if name in goals or name in ("mod", "unfolding"):
                 continue

@@ -30,7 +30,7 @@ module _ (b : List ℕ) (key j : ℕ) where
   unfolding bit_at
   bit_past l = simp (le-ltb j (length b) l)
 
-pub ruleset bit-ways = (bit_one, bit_none, bit_past, arith)
+pub ruleset bit_ways = (bit_one, bit_none, bit_past, arith)
 
 -- one bit more
 pub on : (b : List ℕ) (key left unit at r x : ℕ) → halves (suc left) b key unit at ≡ r → x ≡ bit_at b key (2 * unit * at + unit) → halves left b key (unit / 2) (2 * at + x) ≡ r
@@ -76,7 +76,7 @@ module _ (b : List ℕ) (key : ℕ)
   unfolding page_of
   page_none h = let e = bits in rw (← e) (simp (le-ltb all (length b) h))
 
-pub ruleset page-ways = (page_there, page_none, arith)
+pub ruleset page_ways = (page_there, page_none, arith)
 
 -- ---- `enter`
 
@@ -89,7 +89,7 @@ module _ (b : List ℕ) (t : List ℕ) (key j : ℕ) (e : j ≡ page_of b key) w
   unfolding entered written
   enter_not x = simp (← e, ne_eqb (get_or b j 0) key x)
 
-pub ruleset enter-ways = (enter_written, enter_not, arith)
+pub ruleset enter_ways = (enter_written, enter_not, arith)
 
 -- ---- the flags of a book
 

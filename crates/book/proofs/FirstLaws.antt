@@ -341,18 +341,18 @@ module _ (r : List ℕ) (h : Shape) (e : Place) (en : e ≡ place_at r h 24) whe
 
 -- ---- the ways of the code
 
-pub ruleset first-key-ways = (first_there, first_none, place_runs, place_in_lem, arith)
+pub ruleset first_key_ways = (first_there, first_none, place_runs, place_in_lem, arith)
 
-pub ruleset reach-turn = (reach_over, reach_refused, reach_keyless, reach_more, reach_word, reach_count, record_in_lem, record_falls, record_bounded, arith)
+pub ruleset reach_turn = (reach_over, reach_refused, reach_keyless, reach_more, reach_word, reach_count, record_in_lem, record_falls, record_bounded, arith)
 
-pub ruleset gather-turn = (gather_nothing, gather_over, going_in, going_word, going_count, going_more, unmet_zeros, unmet_sifted, arith)
+pub ruleset gather_turn = (gather_nothing, gather_over, going_in, going_word, going_count, going_more, unmet_zeros, unmet_sifted, arith)
 
-pub ruleset mark-turn = (mark_nothing, mark_over, going_in, going_word, going_count, going_more, going_met, arith)
+pub ruleset mark_turn = (mark_nothing, mark_over, going_in, going_word, going_count, going_more, going_met, arith)
 
-pub ruleset met-ways = (met_flag, arith)
+pub ruleset met_ways = (met_flag, arith)
 
-pub ruleset until-turn = (going_known, until_nothing, going_in, going_word, going_count, going_more, going_met, going_fresh, going_again, until_end, arith)
+pub ruleset until_turn = (going_known, until_nothing, going_in, going_word, going_count, going_more, going_met, going_fresh, going_again, until_end, arith)
 
-pub ruleset repeat-turn = (repeat_found, repeat_none, repeat_over, met_start, arith)
+pub ruleset repeat_turn = (repeat_found, repeat_none, repeat_over, met_start, arith)
 
-pub ruleset stood-by-ways = (by_foreseen, by_ahead, ahead_sees, sees_not, sees_now, few_foreseen, arith)
+pub ruleset stood_by_ways = (by_foreseen, by_ahead, ahead_sees, sees_not, sees_now, few_foreseen, arith)

@@ -40,7 +40,7 @@ module _ (b : List ℕ) (key : ℕ)
       let p6 = on b key 7 128 _ _ x6 p5 e6 in
       p6
 
-pub ruleset bough-ways = (bough_is, arith)
+pub ruleset bough_ways = (bough_is, arith)
 
 -- the others
 module _ (b : List ℕ) (key a : ℕ) (p6 : halves 7 b key 64 a ≡ halves 12 b key 2048 (bit_at b key 4096))
@@ -74,7 +74,7 @@ module _ (b : List ℕ) (key a : ℕ) (p6 : halves 7 b key 64 a ≡ halves 12 b 
   unfolding leaf_of
   leaf_none h = let e = bits in rw (← e) (simp (le-ltb all (length b) h))
 
-pub ruleset leaf-ways = (leaf_there, leaf_none, arith)
+pub ruleset leaf_ways = (leaf_there, leaf_none, arith)
 
 -- ---- the sieve
 
@@ -106,7 +106,7 @@ module _ (n : ℕ) where
   base_some : 0 < base_of n
   base_some = let h = mesh_below 0 in omega arith
 
-pub ruleset mesh-ways = (base_few, base_many, mesh_few, mesh_many, arith)
+pub ruleset mesh_ways = (base_few, base_many, mesh_few, mesh_many, arith)
 
 module _ (v : List ℕ) (j rcid : ℕ) (e : j ≡ mesh_of (length v) rcid) where
   pub sifted_past : length v ≤ j / 8 → false ≡ flag_of v (mesh_of (length v) rcid)
@@ -118,7 +118,7 @@ module _ (v : List ℕ) (j rcid : ℕ) (e : j ≡ mesh_of (length v) rcid) where
   pub sift_is : (v' : List ℕ) → v' ≡ raised v j → v' ≡ raised v (mesh_of (length v) rcid)
   sift_is v' x = rw (← e) x
 
-pub ruleset sieve-ways = (sifted_past, sifted_flag, sift_is, arith)
+pub ruleset sieve_ways = (sifted_past, sifted_flag, sift_is, arith)
 
 -- ---- `spot`
 
@@ -150,7 +150,7 @@ module _ (b v : List ℕ) (key rcid : ℕ) (s : Bool) (e : s ≡ flag_of v (mesh
       unfolding spot_of held_in mark_of
       spot_not y = simp (let_through, lt-ltb (kind_in key) 5 kind_small, ← at_leaf, ne_eqb (get_or b j 0) (rcid_in key) (λ z. y (z ∙ sym er)))
 
-pub ruleset spot-ways = (spot_sifted, spot_kindless, spot_there, spot_not, arith)
+pub ruleset spot_ways = (spot_sifted, spot_kindless, spot_there, spot_not, arith)
 
 -- ---- a key that has a flag is one that the book has
 
@@ -183,7 +183,7 @@ module _ (b v : List ℕ) (key j : ℕ) (e : j ≡ spot_of b v key) where
           absurd (let s = base_some (length v) in omega arith)
       go false x = refl
 
-pub ruleset enter-ways = (enter_there, enter_not, arith)
+pub ruleset enter_ways = (enter_there, enter_not, arith)
 
 -- ---- the flags of a book
 

@@ -47,7 +47,7 @@ pub full_over : (t : List ℕ) (i : ℕ) → Full t i → length t ≤ i → Ful
 unfolding Full
 full_over t i u l j h = u j (omega arith)
 
-pub ruleset full-turn = (full_more, full_over, arith)
+pub ruleset full_turn = (full_more, full_over, arith)
 
 -- ---- `stood_by` and `stood`
 
@@ -58,7 +58,7 @@ pub spared_full : (t t' : List ℕ) → Full t' (length t') → length t' ≡ le
 unfolding Full
 spared_full t t' u e = record { long = e; kept = λ j h x. u j (omega arith) }
 
-pub ruleset spared-ways = (spared_same, spared_full, arith)
+pub ruleset spared_ways = (spared_same, spared_full, arith)
 
 -- ---- `repeats`
 
@@ -82,4 +82,4 @@ module _ (f : List ℕ) (start m top k : ℕ) (t t' : List ℕ) (s : Spared t t'
       let w = told_false f start m top k t' (once_spared f start m top t t' o s) c h b eb x u rn u' e in
       record { told = w.told; long = w.long ∙ s.long; once = w.once }
 
-pub ruleset repeats-turn = (repeats_true, repeats_false, arith)
+pub ruleset repeats_turn = (repeats_true, repeats_false, arith)

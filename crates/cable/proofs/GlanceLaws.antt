@@ -103,7 +103,7 @@ pub second_refused : (f : List ℕ) (p : ℕ) (s : Head) → s ≡ stated_at f p
 unfolding second_by
 second_refused f p s es n x = rw (← es, x) refl
 
-pub ruleset second-ways = (stated_in, stated_word, stated_runs, wide_a, wide_b, stated_bounded, second_none, start_word, end_word, second_there, second_refused, arith)
+pub ruleset second_ways = (stated_in, stated_word, stated_runs, wide_a, wide_b, stated_bounded, second_none, start_word, end_word, second_there, second_refused, arith)
 
 -- ---- `glance`
 
@@ -119,7 +119,7 @@ module _ (f : List ℕ) (s : Head) (es : s ≡ stated_at f 0) where
   unfolding glance_of glance_by
   glance_refused n x = rw (← es, x) refl
 
-pub ruleset glance-ways = (glance_in, glance_there, glance_refused, arith)
+pub ruleset glance_ways = (glance_in, glance_there, glance_refused, arith)
 
 -- ---- what a glance sees lies in the file
 

@@ -138,7 +138,7 @@ module _ (h b : List ℕ) where
               (simp (le-leb 13 (length b) l, eq-eqb n (m + 1) e, le-leb (length h - 10) (length b - 13) w)
               (x ∙ ap (same (between b (length b - 13 - (length h - 10)) (length b - 13))) (rest_is h 10)))
 
-pub ruleset next-ways = (next_short, next_other, next_long, next_named)
+pub ruleset next_ways = (next_short, next_other, next_long, next_named)
 
 -- a DSID that follows ends so
 ends_so : (h b : List ℕ) → Identified b → dsid_follows h b ≡ true → ends_next h b ≡ true
@@ -170,7 +170,7 @@ module _ (h f : List ℕ) (g : Glance) (eg : g ≡ glance_of f) where
   unfolding may_follow may_follow_by
   may_not x = rw (← eg, x) refl
 
-pub ruleset may-ways = (seen_runs, seen_inside, may_so, may_not, arith)
+pub ruleset may_ways = (seen_runs, seen_inside, may_so, may_not, arith)
 
 -- ---- `follows`
 
@@ -214,4 +214,4 @@ passes_over h f e = go (general_in InUpdate f) refl
 pub passed_over : (h f : List ℕ) (t : Bool) → t ≡ may_follow h f → not t ≡ true → false ≡ follows h f
 passed_over h f t e x = passes_over h f (sym e ∙ not-true t x)
 
-pub ruleset follows-ways = (passed_over, follows_runs, follows_in, follows_filled, follows_so, follows_not, arith)
+pub ruleset follows_ways = (passed_over, follows_runs, follows_in, follows_filled, follows_so, follows_not, arith)

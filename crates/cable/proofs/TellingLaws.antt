@@ -98,9 +98,9 @@ module _ (b : List ℕ) (g : Identified b) (p : ℕ) (ep : StopAt p ≡ head_pla
         let x : o' ≡ hold room (holding_of b) = wrote_hold w eo h in
         rw (m, x) (record { said = rw (le-ltb room (length (holding_of b)) h) refl; left = rw (le-ltb room (length (holding_of b)) h) refl })
 
-pub ruleset put-ways = (name_room, put_all, arith)
+pub ruleset put_ways = (name_room, put_all, arith)
 
-pub ruleset dsid-ways = (name_in, name_runs, name_ends, name_fits, tell_short, tell_long, arith)
+pub ruleset dsid_ways = (name_in, name_runs, name_ends, name_fits, tell_short, tell_long, arith)
 
 -- ---- `tell`
 
@@ -147,4 +147,4 @@ module _ (f : List ℕ) (q : Front) (eq : FrontIn InDataset f q) where
           fills = eo ∙ sym (ap (λ (w : Output). w.out) s);
         }
 
-pub ruleset tell-ways = (tell_runs, tell_in, tell_filled, tell_small, tells_holding_lem, tells_refusal, arith)
+pub ruleset tell_ways = (tell_runs, tell_in, tell_filled, tell_small, tells_holding_lem, tells_refusal, arith)

@@ -90,6 +90,6 @@ pub no_total : (d u c : List ℕ) (most k j : ℕ) → Totals d u c most (Unfit 
 unfolding Totals
 no_total d u c most k j = tt
 
-pub ruleset act-ways = (join_refused, join_done, leave_refused, leave_done, arith)
+pub ruleset act_ways = (join_refused, join_done, leave_refused, leave_done, arith)
 
-pub ruleset total-ways = (no_total, join_total, leave_part, leave_total, arith)
+pub ruleset total_ways = (no_total, join_total, leave_part, leave_total, arith)

@@ -163,4 +163,4 @@ pub u24_is : (c : List ℕ) (i low high : ℕ) → i + 3 ≤ length c → low �
 unfolding u24
 u24_is c i low high h x y = omega (arith, le2 c i (omega arith), le1 c (i + 2) (omega arith))
 
-pub ruleset number-ways = (u24_is, arith)
+pub ruleset number_ways = (u24_is, arith)

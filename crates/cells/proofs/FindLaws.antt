@@ -84,7 +84,7 @@ module _ (d u c : List ℕ) (i start : ℕ) (inas : Bool) (es : start ≡ u24 c 
     pub update_key : (slice_of c i ≡ 0 → ⊥) → r ≡ same (key_in inas (drop start u)) k → r ≡ same (key_in inas (body_at d u c i)) k
     update_key n x = x ∙ ap (λ (y : List ℕ). same y k) (sym (key_there ∙ rw (in_update_lem n)))
 
-pub ruleset cell-ways = (dataset_room, update_room, dataset_key, update_key)
+pub ruleset cell_ways = (dataset_room, update_room, dataset_key, update_key)
 
 -- ---- the first with a key
 
@@ -131,7 +131,7 @@ search_start d u c n key k = rw (zero-add, sub-zero)
 pub search_reads : (k : ℕ) (d u c : List ℕ) (n i : ℕ) → Each (Long k) (bodies_from d u c 0 n) → i < n → k ≤ length (body_at d u c i)
 search_reads k d u c n i e h = every_at (Long k) d u c n 0 i e (omega arith) (omega arith)
 
-pub ruleset search-turn = (search_start, search_here, search_on, search_over, search_reads, arith)
+pub ruleset search_turn = (search_start, search_here, search_on, search_over, search_reads, arith)
 
 -- ---- joining and leaving
 

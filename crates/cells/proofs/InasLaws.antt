@@ -135,4 +135,4 @@ module _ (d u c : List ℕ) (at end n : ℕ) (g : at ≤ end) (l : end ≤ lengt
         answered body (bodies_of d u c n) d u e n n (omega arith) r
         (leaves_by (key_in true) inas_key 0 body (bodies_of d u c n) key_is (stored_keys (bodies_of d u c n) right) d u e n r _ (ne_eqb (get_or body 9 0) 1 (λ y. x (sym tenth ∙ y))) a)
 
-pub ruleset inas-ways = (inas_inside, inas_read, inas_joins, inas_leaves, stored_long, arith)
+pub ruleset inas_ways = (inas_inside, inas_read, inas_joins, inas_leaves, stored_long, arith)

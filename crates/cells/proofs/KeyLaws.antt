@@ -94,7 +94,7 @@ module _ (inas : Bool) (i n : ℕ) (h : i + key_size inas ≤ n) where
   pub fourth_there : not inas ≡ false → i + 7 + 2 ≤ n
   fourth_there e = omega (arith, long_size inas e)
 
-pub ruleset key-ways = (
+pub ruleset key_ways = (
   first_differs,
   second_differs,
   short_same,

@@ -26,7 +26,7 @@ inside_all b start n h = (omega (arith, between_long b start n), omega arith)
 pub inside_some : (b : List ℕ) (start n : ℕ) → length b - start < n → (length b - start ≡ length (between b start (start + n))) × (length b - start ≤ n)
 inside_some b start n h = (omega (arith, between_long b start n), omega arith)
 
-pub ruleset inside-ways = (inside_none, inside_all, inside_some)
+pub ruleset inside_ways = (inside_none, inside_all, inside_some)
 
 -- ---- the body of one cell
 

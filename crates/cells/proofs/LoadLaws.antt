@@ -142,4 +142,4 @@ module _ (at end x : ℕ) (c₀ : List ℕ) (n : ℕ) (c : List ℕ) (p m : ℕ)
           right = λ e l q. rw is (each_join SpasBody old (tuple_bodies src at k) q (tuples_right src end l k at ends (listed (tuple_of SpasNew) (between src at end) e)));
         }
 
-pub ruleset load-turns = (load_start, load_inside, load_room, load_turn, load_count, load_done, arith)
+pub ruleset load_turns = (load_start, load_inside, load_room, load_turn, load_count, load_done, arith)

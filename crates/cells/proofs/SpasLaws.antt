@@ -126,7 +126,7 @@ module _ (d u c : List ℕ) (p j n : ℕ) (l : p + 15 ≤ length u) (filled : fi
       answered j body (bodies_of d u c n) d u e n n (omega arith) right stored r
       (leaves_by (key_in false) tuple_key j body (bodies_of d u c n) (tuple_key_lem body size filled) (stored_keys (bodies_of d u c n) right) d u e n r _ (ne_eqb _ 1 (λ y. x (sym last ∙ y))) a)
 
-pub ruleset tuple-ways = (tuple_joins, tuple_leaves, stored_long, arith)
+pub ruleset tuple_ways = (tuple_joins, tuple_leaves, stored_long, arith)
 
 -- ---- the tuples from p to end of u, number j the first, act on the m bodies of c; of the n of c₀ the whole SPAS makes `whole`
 
@@ -214,4 +214,4 @@ module _ (d u : List ℕ) (at end : ℕ) (c₀ : List ℕ) (n : ℕ) (c : List �
           same = rw y.is at more;
         }
 
-pub ruleset spas-turns = (spas_start, spas_done, spas_inside, spas_read, spas_small, spas_room, spas_fill, spas_refused, spas_turn, arith)
+pub ruleset spas_turns = (spas_start, spas_done, spas_inside, spas_read, spas_small, spas_room, spas_fill, spas_refused, spas_turn, arith)

@@ -53,7 +53,7 @@ module _ (r : List ℕ) (h : Shape) (key : ℕ) (e : Place) (en : e ≡ place_at
   unfolding ruin_with front
   ruin_there tag start end next x k ek n y = rw (fields_more r h 24 e en tag start end next x, ← ek) y
 
-pub ruleset ruin-ways = (ruin_none, ruin_there, place_runs, place_in_lem)
+pub ruleset ruin_ways = (ruin_none, ruin_there, place_runs, place_in_lem)
 
 -- by whether it names the key, where n is its RUIN
 module _ (found key m : ℕ) where
@@ -164,4 +164,4 @@ module _ (f : List ℕ) (p key : ℕ) (h : length f ≤ p) (w : Bool) where
 pub ruleset acts_turn =
     (turn_not, turn_bounded, turn_in, turn_runs, turn_word, turn_key, turn_place, sound_in, sound_small, arith)
 
-pub ruleset names-ways = (leaves_named, leaves_other, deletes_before, deletes_named, deletes_other)
+pub ruleset names_ways = (leaves_named, leaves_other, deletes_before, deletes_named, deletes_other)

@@ -35,7 +35,7 @@ module _ (fs : List Field) (to : ℕ) (before : List ℕ) (l : ℕ) (el : l ≡ 
   pub emitted_word : to ≤ 4611686018427387904 → written_length fs ≤ 99999 → to + l < 2 ^ 64
   emitted_word h g = omega arith
 
-pub ruleset emitted-ways = (length_told, emitted_not, emitted_room, emitted_there, emitted_word)
+pub ruleset emitted_ways = (length_told, emitted_not, emitted_room, emitted_there, emitted_word)
 
 -- ---- as one more record of the result
 

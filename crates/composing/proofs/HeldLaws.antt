@@ -52,7 +52,7 @@ module _ (d u c : List ℕ) (i at : ℕ) (ea : at ≡ u24 c (7 * i)) (k : ℕ) w
   unfolding body_at source
   cell_new x e = rw (← ea, ne_eqb (get_or c (7 * i + 3) 0) 0 x) (part_key u at (at + u24 c (7 * i + 4) - at) k e)
 
-pub ruleset cell-ways = (cell_old, cell_new)
+pub ruleset cell_ways = (cell_old, cell_new)
 
 -- ---- the loop over the cells: those from i on are left of m
 
@@ -111,7 +111,7 @@ module _ (d : List ℕ) (ds : ℕ) (u : List ℕ) (us : ℕ) (flags c : List ℕ
           first_loose d ds u us flags (f (body_at d u c i)) (each f (bodies_from d u c (i + 1) (m - (i + 1)))) (each f (bodies_of d u c m)) (split f a) k x t
           (here f a).0.ranged (number f (here f a).0) (not-true x y)
 
-pub ruleset cells-turn = (left_start, left_over, left_more, left_loose, arith)
+pub ruleset cells_turn = (left_start, left_over, left_more, left_loose, arith)
 
 -- ---- an area of the workspace
 
@@ -128,7 +128,7 @@ module _ (w : List ℕ) (long : 400000 ≤ length w) (from to : ℕ) (runs : fro
   pub area_in : to ≤ length w
   area_in = omega arith
 
-pub ruleset area-ways = (area_room, area_small, area_in)
+pub ruleset area_ways = (area_room, area_small, area_in)
 
 -- ---- a record in the workspace
 

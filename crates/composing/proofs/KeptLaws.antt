@@ -50,8 +50,8 @@ module _ (d u w : List ℕ) (v : Version) where
     unfolding MadeHeld EmitsHeld
     kept_next y n e r h s = held_made_next d ds u us flags sure to before out w v x t r h s y n (e r h)
 
-pub ruleset lasts-ways = (kept_held, lasts_is)
+pub ruleset lasts_ways = (kept_held, lasts_is)
 
-pub ruleset emits-ways = (kept_held, kept_word, kept_not, kept_room, kept_there)
+pub ruleset emits_ways = (kept_held, kept_word, kept_not, kept_room, kept_there)
 
-pub ruleset made-ways = (kept_loose, kept_next)
+pub ruleset made_ways = (kept_loose, kept_next)

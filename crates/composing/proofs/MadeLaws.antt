@@ -104,4 +104,4 @@ module _ (u : List ℕ) (us : ℕ) (flags : List ℕ) (sure : Bool) (to : ℕ) (
   unfolding CarriesTied
   tied_next y n w d ds i = carries_next d ds u us flags sure to before out fs x (stays_in d ds i) y n w
 
-pub ruleset carries-ways = (tied_loose, tied_next)
+pub ruleset carries_ways = (tied_loose, tied_next)

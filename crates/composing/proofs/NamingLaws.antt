@@ -27,7 +27,7 @@ use Rattle.rules.specs.Associations.{inas_key, spas_key, field_keys, spas_keys}
 use Rattle.rules.specs.Record.{Rec}
 use Rattle.sequence.specs.Stream.{standing}
 use Rattle.updates.specs.Acts.{chart}
-use Rattle.contents.proofs.StepLaws.{step-bounds}
+use Rattle.contents.proofs.StepLaws.{step_bounds}
 use Rattle.contents.proofs.SpatialLaws.{spas_next, spas_ends}
 use Rattle.keys.specs.Key.{key_at, KeyFits}
 use Rattle.keys.specs.Listed.{has_from}
@@ -203,10 +203,10 @@ module _ (u : List ℕ) (us : ℕ) (flags : List ℕ) where
       pub fields_loose : not v ≡ true → StaysAll u us flags whole false
       fields_loose y = rest_loose (field_keys (record { tag = tag; body = between r from end })) (gather field_keys (fields_at r h next)) whole parted v s (not-true v y)
 
-pub ruleset inas-ways = (inas_told, arith)
+pub ruleset inas_ways = (inas_told, arith)
 
-pub ruleset tuples-turn = (remain_start, tuples_over, tuples_more, tuples_loose, tuples_end, tuples_in_lem, tuples_falls, tuples_word, spas_ends, arith)
+pub ruleset tuples_turn = (remain_start, tuples_over, tuples_more, tuples_loose, tuples_end, tuples_in_lem, tuples_falls, tuples_word, spas_ends, arith)
 
-pub ruleset field-ways = (field_inas, field_spas, field_other, inas_readable, spas_readable)
+pub ruleset field_ways = (field_inas, field_spas, field_other, inas_readable, spas_readable)
 
-pub ruleset fields_turn = (remain_start, fields_over, fields_on, fields_loose, part_small, readable_here, readable_next, step-bounds)
+pub ruleset fields_turn = (remain_start, fields_over, fields_on, fields_loose, part_small, readable_here, readable_next, step_bounds)

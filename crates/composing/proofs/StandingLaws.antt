@@ -82,6 +82,6 @@ module _ (d : List ℕ) (ds : ℕ) (t : List ℕ) (n : ℕ) (map u : List ℕ) (
   pub asks_old : (s : List ℕ) → s ≡ between out lim.old lim.new → Laid d ds t n map × Indexed d ds s
   asks_old s e = (a.laid, subst (Indexed d ds) (sym e) a.indices.old)
 
-pub ruleset stands-ways = (stands_raised, stands_clear)
+pub ruleset stands_ways = (stands_raised, stands_clear)
 
-pub ruleset stays-ways = (stays_raised, stays_clear)
+pub ruleset stays_ways = (stays_raised, stays_clear)

@@ -29,7 +29,7 @@ module _ (r : Reply) (old new : List ℕ) where
   unfolding reply_numbers
   put_parcel p n x e = rw x e
 
-pub ruleset put-ways = (put_refused, put_silence, put_parcel)
+pub ruleset put_ways = (put_refused, put_silence, put_parcel)
 
 -- ---- the calls
 

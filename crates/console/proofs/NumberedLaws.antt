@@ -49,4 +49,4 @@ three_put t s e (u ∷ []) h = absurd (omega arith)
 three_put t s e (u ∷ v ∷ []) h = absurd (omega arith)
 three_put t s e (u ∷ v ∷ w ∷ l) h = rw (le-ltb (length (u ∷ v ∷ w ∷ l)) 3 h)
 
-pub ruleset numbers-ways = (numbers_left, numbers_put)
+pub ruleset numbers_ways = (numbers_left, numbers_put)

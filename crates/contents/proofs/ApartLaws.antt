@@ -130,7 +130,7 @@ module _ (r : List ℕ) (h : Shape) (w v : Walk) (k : ℕ) (rest : codes_from r 
       pub gather_next : codes_from r h on ≡ drop (k + 1) (codes_from r h w)
       gather_next = sym (split_drop (codes_from r h w) k code (codes_from r h on) (sym rest ∙ (rw x at s).0))
 
-pub ruleset gather-turn = (gather_full, gather_over, gather_walks, gather_next, arith)
+pub ruleset gather_turn = (gather_full, gather_over, gather_walks, gather_next, arith)
 
 -- ---- `join`
 
@@ -144,7 +144,7 @@ module _ (b t : List ℕ) (code j : ℕ) (e : j ≡ page_of b code) (new : Bool)
     fresh = λ _ seen ms. sym (met_says b seen t code j ms e x l) ∙ sym ef ∙ z;
   }
 
-pub ruleset join-ways = (join_out, join_in, arith)
+pub ruleset join_ways = (join_out, join_in, arith)
 
 -- ---- `hold`
 
@@ -179,7 +179,7 @@ pub hold_end : (l : List ℕ) (y e : ℕ) → Apart l y → e ≤ y → Apart l 
 unfolding Apart
 hold_end l y e a g i h = a i (omega arith)
 
-pub ruleset hold-turn = (behind_none, behind_more, hold_clear, apart_none, arith)
+pub ruleset hold_turn = (behind_none, behind_more, hold_clear, apart_none, arith)
 
 -- ---- `all_once`
 
@@ -198,4 +198,4 @@ module _ (r : List ℕ) (h : Shape) (p x : ℕ) (w : Walk) (b : Behind r h p x w
 pub all_held : (l : List ℕ) (e : ℕ) (v : Bool) → (v ≡ true → Apart l e) → not v ≡ false → Apart l e
 all_held l e v a z = by_yes v a z
 
-pub ruleset all-turn = (all_over, behind_none, behind_gathered, all_held, apart_none, arith)
+pub ruleset all_turn = (all_over, behind_none, behind_gathered, all_held, apart_none, arith)

@@ -56,7 +56,7 @@ pub code_spas : (b : List ℕ) (at x y c : ℕ) → x ≡ le 1 (drop at b) → y
     → c ≡ code_of (le 1 (drop at b) ∷ le 4 (drop (at + 1) b) ∷ [])
 code_spas b at x y c ex ey ec = rw (← ex, ← ey) ec
 
-pub ruleset code-ways = (code_four, code_two, code_inas, code_spas)
+pub ruleset code_ways = (code_four, code_two, code_inas, code_spas)
 
 -- ---- a walk at a tuple
 
@@ -98,7 +98,7 @@ module _ (r : List ℕ) (h : Shape) (w : Walk) (k : Walks r h w) where
   unfolding codes_from each
   past_tuples l = let e = long in rw (no_keys body w.at (omega arith)) refl
 
-pub ruleset tuple-ways = (tuple_in, tuple_word, tuple_steps, arith)
+pub ruleset tuple_ways = (tuple_in, tuple_word, tuple_steps, arith)
 
 -- ---- a walk at an entry
 
@@ -177,11 +177,11 @@ pub inas_here : (r : List ℕ) (h : Shape) (q : ℕ) (e : Place) → e ≡ place
     → fill (head_of (inas_format false (between r start end))) (tuple_of (inas_format false (between r start end))) (between r start end) ≡ true
 inas_here r h q e en tag start end next x f t = inas_filled (between r start end) tag (fit_here r h q e en tag start end next x false f) t
 
-pub ruleset first-turn = (first_done, first_inas, first_walks, first_tuple, first_empty, first_other, inas_here, fit_next, place_falls, place_runs, place_in_lem, arith)
+pub ruleset first_turn = (first_done, first_inas, first_walks, first_tuple, first_empty, first_other, inas_here, fit_next, place_falls, place_runs, place_in_lem, arith)
 
 -- ---- one step
 
 pub advance_first : (r : List ℕ) (h : Shape) (w : Walk) → Walks r h w → w.end - w.start ≤ w.at → (e : Step) → Steps r h (walk_from w.next) e → Steps r h w e
 advance_first r h w k l e s = steps_same r h (walk_from w.next) w (from_codes r h w.next ∙ sym (past_tuples r h w k l)) e s
 
-pub ruleset advance-ways = (advance_first, arith)
+pub ruleset advance_ways = (advance_first, arith)

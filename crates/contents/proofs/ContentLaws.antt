@@ -24,7 +24,7 @@ use Rattle.rules.proofs.FilledLaws.{stands_fill}
 use Rattle.contents.specs.Fit.{fits, all_fit}
 use Rattle.contents.specs.Answers.{stand_from, counted_from, trees_from, since, rest_right}
 use Rattle.contents.proofs.VerdictLaws.{says_pass, answered_pass, says_no}
-use Rattle.contents.proofs.StepLaws.{step-bounds}
+use Rattle.contents.proofs.StepLaws.{step_bounds}
 use Rattle.contents.proofs.SinceLaws.{again_whole}
 use Rattle.contents.proofs.FitLaws.{all_fit_lem, all_any}
 use Rattle.contents.proofs.CountLaws.{counted_done}
@@ -116,7 +116,7 @@ module _ (r : List ℕ) (h : Shape) (new : Bool) (p q i : ℕ) (inv : stand_from
           let trees = again_whole (trees_from r h new p 2) (trees_from r h new q i) w d kd (λ k. trees_done r h new q i (trees_from r h new p 2) k e en x) ew in
           rw (stood, says_pass (counted (length (sent fs)) 2 fs) (sym counts_are ∙ z)) trees
 
-pub ruleset rest-turn = (rest_not, rest_fit, rest_any, rest_miscounts, rest_trees, stand_fit, step-bounds)
+pub ruleset rest_turn = (rest_not, rest_fit, rest_any, rest_miscounts, rest_trees, stand_fit, step_bounds)
 
 -- ---- the record
 
@@ -142,4 +142,4 @@ module _ (r : List ℕ) (h : Shape) (m : Mode) (k : Kind) (e : Place) (en : e �
     five_rest z new eb w y =
         rw (fields_more r h 24 e en tag start end next x) (rw (says_pass (stands 1 (ident_format (insert_only m) k) (between r start end)) (sym ev ∙ z)) (rw eb at y))
 
-pub ruleset five-ways = (five_none, five_not, five_rest)
+pub ruleset five_ways = (five_none, five_not, five_rest)

@@ -32,7 +32,7 @@ use Rattle.rules.specs.Content.{format_of, miscounts, counted}
 use Rattle.rules.proofs.CoordinateLaws.{coords_length}
 use Rattle.contents.specs.Fit.{fits}
 use Rattle.contents.specs.Answers.{sent_in, send_from, counted_from, since}
-use Rattle.contents.proofs.StepLaws.{step-bounds}
+use Rattle.contents.proofs.StepLaws.{step_bounds}
 use Rattle.contents.proofs.SinceLaws.{since_by}
 use Rattle.contents.proofs.FitLaws.{fit_here, fit_next}
 use Rattle.contents.proofs.FormatLaws.{of_cocc}
@@ -80,7 +80,7 @@ module _ (r : List ℕ) (h : Shape) (q left : ℕ) (B : Bool) (inv : send_from r
     unfolding send_from
     send_more l = take_off left here (length (sent (fields_at r h next))) l ∙ turn
 
-pub ruleset send-turn = (send_done, send_over, send_more, step-bounds)
+pub ruleset send_turn = (send_done, send_over, send_more, step_bounds)
 
 -- ---- one COCC
 
@@ -92,7 +92,7 @@ pub sent_other : (t n : ℕ) → (t ≡ 0x4332494c → ⊥) → 0 ≡ sent_in t 
 unfolding sent_in
 sent_other t n e = simp (ne_eqb t 0x4332494c e)
 
-pub ruleset sent-in-ways = (sent_list, sent_other)
+pub ruleset sent_in_ways = (sent_list, sent_other)
 
 module _ (r : List ℕ) (h : Shape) (p tag : ℕ) (b : List ℕ) where
   -- how many are sent
@@ -134,7 +134,7 @@ module _ (r : List ℕ) (h : Shape) (p tag : ℕ) (b : List ℕ) where
           let c : (place_in b).count ≡ w = (head_number (head_of Cocc) (tuple_of Cocc) b cocc_fill 2 3 2 refl refl).1 ∙ sym ew in
           simp (eq-eqb tag 0x434f4343 z, coui, ne_eqb v 2 y, c, ← et)
 
-pub ruleset miscount-ways = (miscount_other, cocc_first, cocc_last, miscount_delete, miscount_by)
+pub ruleset miscount_ways = (miscount_other, cocc_first, cocc_last, miscount_delete, miscount_by)
 
 -- ---- the loop over the fields: at place q, field i, where the whole comes to A
 
@@ -153,7 +153,7 @@ module _ (r : List ℕ) (h : Shape) (p q i : ℕ) (A : Verdict) (inv : counted_f
     unfolding counted_from counted
     counted_more z = simp (← et, z) at (rw (fields_more r h q e en tag start end next x) at inv)
 
-pub ruleset counted-turn = (counted_done, counted_wrong, counted_more, fit_here, fit_next, step-bounds)
+pub ruleset counted_turn = (counted_done, counted_wrong, counted_more, fit_here, fit_next, step_bounds)
 
 -- ---- COCC noticed on the way: at place q, field i
 

@@ -31,7 +31,7 @@ use Rattle.contents.specs.Fit.{fits}
 use Rattle.contents.specs.Keys.{list_of, inas_key_at, keys_in, has_from, seen_from}
 use Rattle.contents.specs.declared.earlier.Key.{Key}
 use Rattle.contents.specs.declared.earlier.Key.TheVariants.{Information, Spatial}
-use Rattle.contents.proofs.StepLaws.{step-bounds}
+use Rattle.contents.proofs.StepLaws.{step_bounds}
 use Rattle.contents.proofs.FormatLaws.{of_inas, of_spas}
 use Rattle.contents.proofs.FitLaws.{fit_here, fit_next}
 use Rattle.contents.proofs.KeyLaws.{among_append, four_new}
@@ -113,13 +113,13 @@ module _ (b : List ℕ) (f : fill (head_of (inas_format false b)) (tuple_of (ina
             rw ((inas_four b f).1, ← em, ← en, ← eo, ← ep)
             (simp (eq-eqb x m (sym am), eq-eqb y n (sym an), eq-eqb z o (sym ao)) (eqb_alone p w))
 
-pub ruleset inas-is-ways = (inas_first, inas_second, inas_third, inas_fourth, differs_first, differs_second, differs_third, differs_fourth)
+pub ruleset inas_is_ways = (inas_first, inas_second, inas_third, inas_fourth, differs_first, differs_second, differs_third, differs_fourth)
 
 -- what the reader of the key returns
 pub key_made : (b : List ℕ) (x y z w : ℕ) → x ≡ le 1 (drop 0 b) → y ≡ le 4 (drop 1 b) → z ≡ le 2 (drop 5 b) → w ≡ le 2 (drop 7 b) → Information x y z w ≡ inas_key_at b
 key_made b x y z w ex ey ez ew = rw (ex, ey, ez, ew)
 
-pub ruleset inas-key-ways = (inas_first, inas_second, inas_third, inas_fourth, key_made)
+pub ruleset inas_key_ways = (inas_first, inas_second, inas_third, inas_fourth, key_made)
 
 -- ---- one field
 
@@ -170,7 +170,7 @@ module _ (b : List ℕ) (tag : ℕ) (key : Key) (f : fits false (record { tag = 
         let n : tag ≡ 0x494e4153 → ⊥ = λ z. omega arith in
         rw ek (simp (ne_eqb tag 0x494e4153 n, eq-eqb tag 0x53504153 e) (et ∙ ap (among (x ∷ y ∷ [])) (spas_all b (spas_filled b tag f e))))
 
-pub ruleset field-has-ways = (inas_filled, spas_filled, other_inas, inas_has, other_spas, spas_has, spas_fits)
+pub ruleset field_has_ways = (inas_filled, spas_filled, other_inas, inas_has, other_spas, spas_has, spas_fits)
 
 -- ---- the loop over n fields: at place q, so many left, where the whole comes to A
 
@@ -201,4 +201,4 @@ module _ (r : List ℕ) (h : Shape) (q left : ℕ) (k : List ℕ) (A : Bool) (in
         pub seen_more : t ≡ false → seen_from r h next (left - 1) k ≡ A
         seen_more z = rw z at turn
 
-pub ruleset seen-turn = (seen_none, seen_done, seen_here, seen_more, fit_here, fit_next, step-bounds)
+pub ruleset seen_turn = (seen_none, seen_done, seen_here, seen_more, fit_here, fit_next, step_bounds)

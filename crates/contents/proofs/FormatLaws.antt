@@ -35,7 +35,7 @@ module _ (m : Mode) where
   unfolding insert_only
   only_update e = rw e
 
-pub ruleset insert-only-ways = (only_dataset, only_update)
+pub ruleset insert_only_ways = (only_dataset, only_update)
 
 module _ (new : Bool) (k : Kind) where
   module _ (t : new ≡ true) where
@@ -72,7 +72,7 @@ module _ (new : Bool) (k : Kind) where
     unfolding ident_format
     feature_any e = simp (e, t)
 
-pub ruleset ident-format-ways = (info_new, point_new, multi_new, feature_new, info_any, point_any, multi_any, feature_any)
+pub ruleset ident_format_ways = (info_new, point_new, multi_new, feature_new, info_any, point_any, multi_any, feature_any)
 
 -- ---- other fields
 
@@ -95,7 +95,7 @@ module _ (new : Bool) (b : List ℕ) where
       unfolding inas_format
       inas_there n = simp (t, ne_eqb (get_or b 9 0) 2 n)
 
-pub ruleset inas-format-ways = (inas_new, inas_short, inas_gone, inas_there)
+pub ruleset inas_format_ways = (inas_new, inas_short, inas_gone, inas_there)
 
 module _ (new : Bool) (t : ℕ) (b : List ℕ) where
   pub of_attr : t ≡ 0x41545452 → (f : Format) → f ≡ pick new AttrNew Attr → f ≡ format_of new t b
@@ -134,7 +134,7 @@ module _ (new : Bool) (t : ℕ) (b : List ℕ) where
             pub of_c2il : (t ≡ 0x43324954 → ⊥) → C2il ≡ format_of new t b
             of_c2il n = sym (others ∙ simp (ne_eqb t 0x43324954 n))
 
-pub ruleset format-ways = (of_attr, of_inas, of_spas, of_foid, of_cocc, of_c2it, of_c2il)
+pub ruleset format_ways = (of_attr, of_inas, of_spas, of_foid, of_cocc, of_c2it, of_c2il)
 
 -- ---- a field of a format
 
@@ -179,4 +179,4 @@ module _ (i : ℕ) (f : Format) (b : List ℕ) (y : Tally) (e : y ≡ tally_fiel
     unfolding verdict_of stands
     format_head z = simp (← e, x, ← et, z)
 
-pub ruleset has-format-ways = (format_whole, format_tuple, format_head)
+pub ruleset has_format_ways = (format_whole, format_tuple, format_head)

@@ -26,7 +26,7 @@ module _ (k : Kind) where
   unfolding coded
   coded_feature e = rw e
 
-pub ruleset coded-ways = (coded_info, coded_point, coded_multi, coded_feature)
+pub ruleset coded_ways = (coded_info, coded_point, coded_multi, coded_feature)
 
 -- one of two places, by whether there is a code
 module _ (k : Kind) (t : Bool) (e : t ≡ coded k) (m n : ℕ) where
@@ -36,4 +36,4 @@ module _ (k : Kind) (t : Bool) (e : t ≡ coded k) (m n : ℕ) where
   pub place_front : t ≡ false → n ≡ pick (coded k) m n
   place_front x = rw (← e, x)
 
-pub ruleset place-ways = (place_behind, place_front)
+pub ruleset place_ways = (place_behind, place_front)

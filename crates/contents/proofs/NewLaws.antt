@@ -60,7 +60,7 @@ module _ (r : List ℕ) (h : Shape) (p n : ℕ) (b : List ℕ) (j x y : ℕ) whe
         let w : among (x ∷ y ∷ []) (take j (spas_keys b)) ≡ false = sym et ∙ z in
         rw (before_among r h p n b j (x ∷ y ∷ []), w, either_false, ← es)
 
-pub ruleset new-ways = (new_above, new_tuple, new_field)
+pub ruleset new_ways = (new_above, new_tuple, new_field)
 
 -- ---- an INAS
 
@@ -107,7 +107,7 @@ module _ (r : List ℕ) (h : Shape) (p n : ℕ) (b : List ℕ) (top : ℕ) where
     pub inas_fresh : t ≡ false → said_by (n + 2) (Once top) ≡ inas_once r h p n b top
     inas_fresh z = inas_new (seen ∙ z)
 
-pub ruleset inas-once-ways = (inas_first_one, inas_twice, inas_fresh)
+pub ruleset inas_once_ways = (inas_first_one, inas_twice, inas_fresh)
 
 -- ---- an INAS noticed on the way
 

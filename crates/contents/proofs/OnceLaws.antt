@@ -31,7 +31,7 @@ use Rattle.contents.specs.Fit.{all_fit}
 use Rattle.contents.specs.Keys.{keys_in, seen_before, top_with, said_by, spas_from, inas_once, field_once, once_from}
 use Rattle.contents.specs.declared.associations.Keys.{Keys}
 use Rattle.contents.specs.declared.associations.Keys.TheVariants.{Once, Twice}
-use Rattle.contents.proofs.StepLaws.{step-bounds}
+use Rattle.contents.proofs.StepLaws.{step_bounds}
 use Rattle.contents.proofs.FitLaws.{fit_here, fit_next}
 use Rattle.contents.proofs.KeyLaws.{once_apart, top_append}
 use Rattle.contents.proofs.EarlierLaws.{inas_filled, spas_filled}
@@ -59,7 +59,7 @@ module _ (r : List ℕ) (h : Shape) (p n tag : ℕ) (b : List ℕ) (top : ℕ) w
     unfolding said_by bind field_once field_keys field_marks keys_once top_with
     once_other z = simp (ne_eqb tag 0x494e4153 m, ne_eqb tag 0x53504153 z)
 
-pub ruleset field-once-ways = (once_inas, once_spas, once_other, inas_filled, spas_filled)
+pub ruleset field_once_ways = (once_inas, once_spas, once_other, inas_filled, spas_filled)
 
 -- ---- the loop over the fields: behind n fields, at place q, where the whole comes to A
 
@@ -145,7 +145,7 @@ module _ (r : List ℕ) (h : Shape) (p n q tag top : ℕ) (et : tag ≡ tag_at r
 pub keys_before : (r : List ℕ) (h : Shape) (p n top : ℕ) (b : List ℕ) → top ≡ top_with 0 (keys_in (take n (fields_at r h p))) → top ≡ top_with 0 (seen_before r h p n b 0)
 keys_before r h p n top b e = rw (before_none r h p n b) e
 
-pub ruleset entry-ways = (once_other, entry_there, entry_not, keys_before, fit_here, step-bounds)
+pub ruleset entry_ways = (once_other, entry_there, entry_not, keys_before, fit_here, step_bounds)
 
 module _ (r : List ℕ) (h : Shape) (p n q : ℕ) (ed : drop n (fields_at r h p) ≡ fields_at r h q) (w : RightFrom r h q) where
   pub keys_end : (A : Verdict) → once_from r h p n ≡ A → get_or r q 0 ≡ 30 → Passes ≡ A
@@ -200,4 +200,4 @@ pub informed_start : (r : List ℕ) (h : Shape) (p : ℕ) → false ≡ has INAS
 unfolding has with_tag empty
 informed_start r h p = refl
 
-pub ruleset keys-turn = (keys_end, keys_counts, keys_word, keys_number, keys_fit, keys_place, keys_informed, keys_twice, keys_more, keys_top, right_in, right_tag, right_on, right_word, right_falls)
+pub ruleset keys_turn = (keys_end, keys_counts, keys_word, keys_number, keys_fit, keys_place, keys_informed, keys_twice, keys_more, keys_top, right_in, right_tag, right_on, right_word, right_falls)

@@ -110,7 +110,7 @@ module _ (k : Kind) (b : List ℕ) (f : identified k b ≡ true) where
     pub ruin_is : (v : ℕ) → v ≡ le 1 (drop at b) → v ≡ (ident_of k b).ruin
     ruin_is v e = e ∙ sym ruin_at.1
 
-pub ruleset reader-ways = (rcid_in_lem, rcid_is, code_in, code_is, code_zero, rver_in, rver_is, ruin_in, ruin_is)
+pub ruleset reader_ways = (rcid_in_lem, rcid_is, code_in, code_is, code_zero, rver_in, rver_is, ruin_in, ruin_is)
 
 -- ---- for callers: an identifier that number 5 passes
 

@@ -74,7 +74,7 @@ module _ (r : List ℕ) (h : Shape) (m : Mode) (k : Kind) (five : number5 m k (f
   pub seven_sure : (t : Bool) → (t ≡ true → once_from r h (28 + h.a + h.b) 0 ≡ Passes) → t ≡ true → Passes ≡ verdict_of (number7 (fields_at r h 24))
   seven_sure t sure e = seven_rest Passes (sym (sure e))
 
-pub ruleset seven-ways = (seven_right, seven_fit, seven_rest, seven_sure)
+pub ruleset seven_ways = (seven_right, seven_fit, seven_rest, seven_sure)
 
 -- ---- for callers
 

@@ -35,7 +35,7 @@ pub again_plain : (whole : Verdict) (c : Bool) → c ≡ false → Passed ≡ si
 unfolding since
 again_plain whole c z = rw z
 
-pub ruleset again-ways = (again_noticed, again_plain)
+pub ruleset again_ways = (again_noticed, again_plain)
 
 pub again_whole : (whole left v : Verdict) (c : Bool) → since c whole left ≡ whole → (left ≡ whole → Passed ≡ whole) → v ≡ since c whole Passed → v ≡ whole
 unfolding since

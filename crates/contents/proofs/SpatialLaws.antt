@@ -36,7 +36,7 @@ module _ (top x y n : ℕ) (e : n ≡ x * 4294967296 + y) where
   pub top_old : n ≤ top → top ≡ larger_of top (x * 4294967296 + y)
   top_old h = rw (← e) (larger_first top n h)
 
-pub ruleset top-ways = (top_new, top_old)
+pub ruleset top_ways = (top_new, top_old)
 
 -- ---- one tuple
 
@@ -56,7 +56,7 @@ module _ (b : List ℕ) (at x y u : ℕ) (eu : u ≡ le 1 (drop at b)) where
   unfolding tuple_is
   tuple_second z v ev = rw (← eu, ← ev) (simp (eq-eqb x u (sym z)) (eqb_swap v y))
 
-pub ruleset tuple-is-ways = (tuple_first, tuple_second)
+pub ruleset tuple_is_ways = (tuple_first, tuple_second)
 
 -- where a tuple stands: it has its bytes, and its key at the front
 module _ (b : List ℕ) (at : ℕ) (z : ending_at (tuple_of Spas) b at ≡ 0) (g : at < length b) where
@@ -121,7 +121,7 @@ module _ (b : List ℕ) (at left x y : ℕ) (A : Bool) (inv : has_from b at left
         pub has_more : t ≡ false → has_from b (at + 15) (left - 1) x y ≡ A
         has_more w = simp (← et, w) at turn
 
-pub ruleset has-turn = (has_none, has_room, has_left, has_ends, has_here, has_more, arith)
+pub ruleset has_turn = (has_none, has_room, has_left, has_ends, has_here, has_more, arith)
 
 -- ---- tuples by number
 

@@ -42,4 +42,4 @@ second_right r h some k =
     rw z at (right_on r h 24 k o)
 
 -- what such a loop wants besides the laws of its own definition
-pub ruleset step-bounds = (place_falls, place_runs, place_in_lem, step_counts, step_word, arith)
+pub ruleset step_bounds = (place_falls, place_runs, place_in_lem, step_counts, step_word, arith)

@@ -61,7 +61,7 @@ module _ (b : List ℕ) (f : fill (head_of Spas) (tuple_of Spas) b ≡ true) (j 
       let i = k z in
       (ec ∙ i.0, λ r h p n e. rw et (spas_over b f j at ea l m r h p n top _ (i.1 r h p n (sym et ∙ e)).1))
 
-pub ruleset spas-risen = (risen_none, risen_more, risen_over, spas_in, spas_number, spas_name, spas_further, spas_word, spas_falls, spas_counts, arith)
+pub ruleset spas_risen = (risen_none, risen_more, risen_over, spas_in, spas_number, spas_name, spas_further, spas_word, spas_falls, spas_counts, arith)
 
 -- ---- a field, at the entry q
 
@@ -100,7 +100,7 @@ pub spas_here : (r : List ℕ) (h : Shape) (q tag : ℕ) → tag ≡ tag_at r q 
 spas_here r h q tag et e en read start end next x f t =
     spas_filled (between r start end) read (fit_here r h q e en read start end next x false f) ((held r h q e en read start end next x).tag_is ∙ sym et ∙ t)
 
-pub ruleset field-rises = (rises_not, rises_first, rises_other, rises_spas, rises_never, spas_here, place_runs, place_in_lem, arith)
+pub ruleset field_rises = (rises_not, rises_first, rises_other, rises_spas, rises_never, spas_here, place_runs, place_in_lem, arith)
 
 -- ---- the fields, behind n of them at the entry q
 
@@ -122,4 +122,4 @@ module _ (r : List ℕ) (h : Shape) (p n q : ℕ) (ed : drop n (fields_at r h p)
   unfolding Level
   level_end y z = sym (keys_end r h p n q ed w _ (k z).1 y)
 
-pub ruleset level-turn = (level_none, level_more, informed_start, keys_counts, keys_word, keys_fit, keys_place, keys_informed, right_in, right_tag, right_on, right_word, right_falls)
+pub ruleset level_turn = (level_none, level_more, informed_start, keys_counts, keys_word, keys_fit, keys_place, keys_informed, right_in, right_tag, right_on, right_word, right_falls)

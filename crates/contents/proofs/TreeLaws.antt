@@ -28,7 +28,7 @@ use Rattle.tree.specs.Verdict.{faulty_tuple, verdict}
 use Rattle.tree.proofs.VerdictLaws.{attr_verdict, acts_verdict, inas_verdict}
 use Rattle.contents.specs.Fit.{fits}
 use Rattle.contents.specs.Answers.{trees_from, breaks, since}
-use Rattle.contents.proofs.StepLaws.{step-bounds}
+use Rattle.contents.proofs.StepLaws.{step_bounds}
 use Rattle.contents.proofs.SinceLaws.{since_by}
 use Rattle.contents.proofs.FormatLaws.{of_attr, of_inas}
 use Rattle.contents.proofs.FitLaws.{fit_here, fit_next, fit_any}
@@ -92,7 +92,7 @@ module _ (new : Bool) (t : ℕ) (b : List ℕ) (f : fits new (record { tag = t; 
     unfolding tree_stands faulty_tuple
     tree_other z = simp (ne_eqb t 0x41545452 y, ne_eqb t 0x494e4153 z)
 
-pub ruleset faulty-ways = (tree_new_fits, tree_any_fits, tree_new, tree_any, tree_inas_fits, tree_inas, tree_other)
+pub ruleset faulty_ways = (tree_new_fits, tree_any_fits, tree_new, tree_any, tree_inas_fits, tree_inas, tree_other)
 
 -- ---- the loop over the fields: at place q, field i, where the whole comes to A
 
@@ -122,7 +122,7 @@ module _ (r : List ℕ) (h : Shape) (new : Bool) (q i : ℕ) (A : Verdict) (inv 
     unfolding trees_from verdict in_field bind
     trees_more z = rw z at here
 
-pub ruleset trees-turn = (trees_done, trees_bad, trees_more, fit_here, fit_next, step-bounds)
+pub ruleset trees_turn = (trees_done, trees_bad, trees_more, fit_here, fit_next, step_bounds)
 
 -- ---- broken trees noticed on the way: at place q, field i
 
@@ -133,7 +133,7 @@ pub broken_now : (new : Bool) (f : Field) (c : Bool) → c ≡ false → (j : �
 unfolding breaks
 broken_now new f c e j ej = simp (e, ← ej)
 
-pub ruleset broken-ways = (broken_before, broken_now)
+pub ruleset broken_ways = (broken_before, broken_now)
 
 whole_tree : (new : Bool) (f : Field) → breaks new f ≡ false → faulty_tuple (tree_stands new f) ≡ 0
 unfolding breaks

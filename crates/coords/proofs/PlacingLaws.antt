@@ -137,7 +137,7 @@ module _ (r : List ℕ) (h : Shape) (p : ℕ) (e : Place) (en : e ≡ place_at r
             room = rw ev (omega (arith, roomy, body_long));
           }
 
-pub ruleset putting-ways = (putting_start, putting_done, putting_kept, putting_skip, putting_even, putting_room, putting_place, putting_word, putting_turn, place_falls, place_runs, place_in_lem, arith)
+pub ruleset putting_ways = (putting_start, putting_done, putting_kept, putting_skip, putting_even, putting_room, putting_place, putting_word, putting_turn, place_falls, place_runs, place_in_lem, arith)
 
 -- ---- COCC
 
@@ -211,4 +211,4 @@ module _ (instruction index count : ℕ) (new : List Coord) (l₀ : List ℕ) (n
         → PlacedAs (placed (record { instruction = instruction; index = index; count = count }) new old) l (Now m)
     cocc_modify i j l₁ m₁ m r ey e = modify instruction index count new old l i j p (rw many_old x) m r (tuples_of l₁ m₁) ey e
 
-pub ruleset cocc-ways = (cocc_far, cocc_insert, cocc_beyond, cocc_delete, cocc_modify, arith)
+pub ruleset cocc_ways = (cocc_far, cocc_insert, cocc_beyond, cocc_delete, cocc_modify, arith)

@@ -36,7 +36,7 @@ module _ (m : Mode) (k : Kind) (fs : List Field) (v : Verdict) (ev : v ≡ verdi
   five_six_passed x =
       rw (bind_after (number5 m k fs) (number6 m k fs) k) (rw (passed_is (bind (number5 m k fs) (λ _. number6 m k fs)) (sym x ∙ ev)))
 
-pub ruleset five-six-ways = (five_six_refused, five_six_passed)
+pub ruleset five_six_ways = (five_six_refused, five_six_passed)
 
 module _ (m : Mode) (least : ℕ) (fs : List Field) (t : Tags) (et : t ≡ graded (number4 m least fs)) where
   pub four_wrong : (n i j : ℕ) → t ≡ Wrong n i j → Wrong n i j ≡ graded (four_to_six_in m least fs)
@@ -48,4 +48,4 @@ module _ (m : Mode) (least : ℕ) (fs : List Field) (t : Tags) (et : t ≡ grade
   unfolding four_to_six_in bind
   four_right k x u e = rw (right_is (number4 m least fs) k (sym x ∙ et)) e
 
-pub ruleset four-ways = (four_wrong, four_right)
+pub ruleset four_ways = (four_wrong, four_right)

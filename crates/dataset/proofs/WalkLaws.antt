@@ -111,9 +111,9 @@ module _ (f : List ℕ) (start p len : ℕ) (h : Shape) (m top : ℕ) (hd : reco
     four_stopped t w n i j x =
         standing_before f start p m top _ s l (record_at f p) refl len h.base h.a h.b hd (fault n i j) (wrong_is _ n i j (sym x ∙ numbers))
 
-pub ruleset seventh-ways = (placed_five, placed_tag, at_bounded, at_right, at_in, at_word, base_word, base_small, key_comes, key_kind, key_twice, links_twice, record_right, arith)
+pub ruleset seventh_ways = (placed_five, placed_tag, at_bounded, at_right, at_in, at_word, base_word, base_small, key_comes, key_kind, key_twice, links_twice, record_right, arith)
 
-pub ruleset admit-ways = (at_bounded, at_right, at_in, at_word, four_passed, four_stopped, arith)
+pub ruleset admit_ways = (at_bounded, at_right, at_in, at_word, four_passed, four_stopped, arith)
 
 -- ---- record after record
 

@@ -5,6 +5,7 @@
 ghost use Rattle.std.specs.Prelude.{◌+◌, ◌*◌, ◌≤◌, ◌<◌, length};
 
 use std::io;
+use std::io::Write;
 
 // Tuple k, from 0: code 21, this index and parent, insert, no value.
 fn put_tuple(b: &mut [u8], k: usize, index: usize, parent: usize)
@@ -62,24 +63,25 @@ fn acts_of(b: &[u8]) -> usize {
 }
 
 // A line for the first n bytes: what the field is, what the whole rule says of it, and what the test of parents says.
-fn show<R: Print>(rt: &R, name: &str, b: &[u8], n: usize) -> io::Result<()>
+fn show<R: Print>(rt: &R, name: &[u8], b: &[u8], n: usize) -> io::Result<()>
     requires { n ≤ length b.now }
 {
     let whole = tree_of(&b[..n]);
     let parents = acts_of(&b[..n]);
-    println!(rt; "{name}{whole} {parents}")?;
+    io::writer(rt).write_all(name)?;
+    println!(rt; "{whole} {parents}")?;
     Ok(())
 }
 
 fn main(rt: HostRuntime) -> io::Result<()> {
     let mut b = [0u8; 100000];
     put_nested(&mut b, 12499);
-    show(&rt, "nested ", &b, 99992)?;
+    show(&rt, b"nested ", &b, 99992)?;
     put_tuple(&mut b, 12498, 2, 12498);
-    show(&rt, "nested, last index wrong ", &b, 99992)?;
+    show(&rt, b"nested, last index wrong ", &b, 99992)?;
     put_siblings(&mut b, 12499);
-    show(&rt, "siblings ", &b, 99992)?;
+    show(&rt, b"siblings ", &b, 99992)?;
     put_tuple(&mut b, 12498, 12498, 0);
-    show(&rt, "siblings, last index wrong ", &b, 99992)?;
+    show(&rt, b"siblings, last index wrong ", &b, 99992)?;
     Ok(())
 }

@@ -47,7 +47,7 @@ module _ (b : List ℕ) (start n k : ℕ) (e : (k ≡ length (between b start (s
           (λ g. let i : k ≡ m = omega arith in rw i)
           (λ g. take_all k l (omega arith) ∙ sym (take_all m l (omega arith)))
 
-pub ruleset put-ways = (put_none, put_inside, put_some)
+pub ruleset put_ways = (put_none, put_inside, put_some)
 
 -- ---- the body of one cell
 
@@ -67,7 +67,7 @@ module _ (d u c : List ℕ) (i start n : ℕ) (s : (start ≡ u24 c (7 * i)) × 
       pub wrote_new : (get_or c (7 * i + 3) 0 ≡ 0 → ⊥) → Wrote at (between u start (start + n)) out p out' → Wrote at (body_at d u c i) out p out'
       wrote_new z w = wrote_as (body_new d u c i start n s e z) w
 
-pub ruleset body-ways = (room_old, room_new, wrote_old, wrote_new)
+pub ruleset body_ways = (room_old, room_new, wrote_old, wrote_new)
 
 -- ---- the bodies of cells
 
@@ -113,7 +113,7 @@ module _ (d u c : List ℕ) (n : ℕ) (out₀ : List ℕ) (at : ℕ) (out : List
     pub bodies_turn : (p' : ℕ) (out' : List ℕ) → Wrote p (body_at d u c i) out p' out' → BodiesAt d u c n out₀ at out' p' (i + 1)
     bodies_turn p' out' w = record { inside = omega arith; left = left_more inv.left _ bodies_here w }
 
-pub ruleset bodies-ways = (bodies_start, bodies_end, bodies_cell, bodies_room, bodies_turn)
+pub ruleset bodies_ways = (bodies_start, bodies_end, bodies_cell, bodies_room, bodies_turn)
 
 -- ---- `put_inas_entries`
 
@@ -172,7 +172,7 @@ module _ (d u c : List ℕ) (n from : ℕ) (out₀ : List ℕ) (at : ℕ) (out :
             left = left_more inv.left _ entries_here w.1;
           }
 
-pub ruleset entries-ways = (entries_start, entries_end, entries_cell, entries_room, entries_size, entries_word, entries_turn)
+pub ruleset entries_ways = (entries_start, entries_end, entries_cell, entries_room, entries_size, entries_word, entries_turn)
 
 -- ---- `put_inas_fields`
 
@@ -216,4 +216,4 @@ module _ (d u c : List ℕ) (n : ℕ) (out₀ : List ℕ) (at : ℕ) (out : List
       pub fields_turn : (p' : ℕ) (out'' : List ℕ) → (p' ≡ q + 1) × Wrote q (30 ∷ []) out' p' out'' → FieldsAt d u c n out₀ at out'' p' (i + 1)
       fields_turn p' out'' m = record { inside = omega arith; left = left_more inv.left _ fields_here (then m.1 w) }
 
-pub ruleset fields-ways = (fields_start, fields_end, fields_cell, fields_room, fields_mark, fields_turn)
+pub ruleset fields_ways = (fields_start, fields_end, fields_cell, fields_room, fields_mark, fields_turn)

@@ -57,7 +57,7 @@ module _ (k : Kind) (b : Bool) (e : b ≡ coded k) where
     unfolding code_part
     code_none y = let q : coded k ≡ false = sym e ∙ y in rw q (wrote_none at d)
 
-pub ruleset code-ways = (code_room, code_some, code_none)
+pub ruleset code_ways = (code_room, code_some, code_none)
 
 -- ---- `put_ident`
 
@@ -105,4 +105,4 @@ module _ (v : Version) (at : ℕ) (d : List ℕ) (g : at + ident_size (coded v.k
     unfolding contents
     wrote_first q o m = (omega (arith, length_ident v, w.next, m.0), then m.1 w)
 
-pub ruleset ident-ways = (name_room, rcid_room, code_left, rver_room, ruin_room, wrote_ident, first_room, first_mark)
+pub ruleset ident_ways = (name_room, rcid_room, code_left, rver_room, ruin_room, wrote_ident, first_room, first_mark)

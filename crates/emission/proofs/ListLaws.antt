@@ -64,7 +64,7 @@ module _ (n : ℕ) (z : n ≡ 0 → ⊥) where
   unfolding list_count
   some_count = rw (ne_eqb n 0 z)
 
-pub ruleset list-numbers = (no_size, no_count, some_size, some_count)
+pub ruleset list_numbers = (no_size, no_count, some_size, some_count)
 
 -- bounds
 pub size_most : (n : ℕ) → list_size n ≤ n + 1
@@ -118,7 +118,7 @@ entry_some tag n pos at d p o z w =
 pub entry_room : (n at : ℕ) (d : List ℕ) → (n ≡ 0 → ⊥) → at + 14 * list_count n ≤ length d → at + 14 ≤ length d
 entry_room n at d z h = omega (arith, some_count n z)
 
-pub ruleset entry-ways = (entry_none, entry_some, entry_room)
+pub ruleset entry_ways = (entry_none, entry_some, entry_room)
 
 -- ---- the bytes of a list, and its 1E
 
@@ -154,7 +154,7 @@ module _ (s : List ℕ) (from n at : ℕ) (d : List ℕ) where
       λ tag. field_some tag (part from n s) (λ h. z (sym (length_part from n s g) ∙ h)) m.1 w.1,
     )
 
-pub ruleset list-ways = (list_nothing, list_room, list_mark, list_written)
+pub ruleset list_ways = (list_nothing, list_room, list_mark, list_written)
 
 -- ---- `put_attributes`
 
@@ -176,7 +176,7 @@ module _ (s u w : List ℕ) (n size at : ℕ) (d : List ℕ) (k : Sized s u w n 
       λ f h. field_some ATTR (tree_bytes f) (λ y. z (k.is f h ∙ y)) m.1 (w'.is f h),
     )
 
-pub ruleset attributes-ways = (attributes_none, attributes_room, attributes_mark, attributes_some)
+pub ruleset attributes_ways = (attributes_none, attributes_room, attributes_mark, attributes_some)
 
 -- ---- `put_spatial`
 
@@ -195,4 +195,4 @@ module _ (d u c : List ℕ) (n at : ℕ) (out : List ℕ) (k : length (joined (b
         → Wrote at (contents (list_field SPAS (joined (bodies_of d u c n)))) out q o
     spatial_some z q o m = field_some SPAS (joined (bodies_of d u c n)) (λ h. z (omega arith)) m.1 w
 
-pub ruleset spatial-ways = (spatial_none, spatial_room, spatial_mark, spatial_some)
+pub ruleset spatial_ways = (spatial_none, spatial_room, spatial_mark, spatial_some)

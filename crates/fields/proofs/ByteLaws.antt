@@ -71,7 +71,7 @@ module _ (l : List ℕ) (i e : ℕ) (inv : e ≡ i + run (drop i l)) where
       let r : run (drop i l) ≡ suc (run (drop (i + 1) l)) = run_at l i h ∙ simp (ne_eqb _ _ n, ne_eqb _ _ m) in
       omega arith
 
-pub ruleset text-turn = (run_none, run_30, run_31, run_more, arith)
+pub ruleset text_turn = (run_none, run_30, run_31, run_more, arith)
 
 -- ---- the bytes of a number
 

@@ -55,7 +55,7 @@ module _ (t : List Sub) (b : List ℕ) (p k : ℕ) (r : Stop) (W : Tally) (got :
 pub tally_in : (t : List Sub) (b : List ℕ) (p n : ℕ) (r : Stop) → p ≤ length b → r ≡ subfields_end t b p → r ≡ At n → n ≤ length b
 tally_in t b p n r h got e = subfields_bound t b p n h (sym got ∙ e)
 
-pub ruleset tally-turn = (tally_done, tally_bad, tally_stuck, tally_on, tally_in, arith)
+pub ruleset tally_turn = (tally_done, tally_bad, tally_stuck, tally_on, tally_in, arith)
 
 -- ---- lists of which the length alone is tested
 
@@ -167,4 +167,4 @@ module _ (t : List Sub) (b : List ℕ) (p : ℕ) (r : Stop) (got : r ≡ subfiel
   pub first_stuck : (n : ℕ) → r ≡ At n → n ≤ p → Short 1 ≡ tally_at t b p 0
   first_stuck n e q = tally_stuck t b p 0 r (tally_at t b p 0) got refl h n e q
 
-pub ruleset raw-turn = (first_bad, first_stuck, raw_whole, raw_short, arith)
+pub ruleset raw_turn = (first_bad, first_stuck, raw_whole, raw_short, arith)

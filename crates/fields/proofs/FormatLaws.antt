@@ -91,8 +91,8 @@ module _ (k : Format) (s : Shape) (e : s ≡ shape_of k) where
 pub raw_said : (t : List Sub) (u : Bool) → u ≡ all_raw t → u ≡ true → all_raw t ≡ true
 raw_said t u e q = sym e ∙ q
 
-pub ruleset tuple-turn = (tuple_end, rows_over, rows_until, tuple_second, tuple_in, arith)
+pub ruleset tuple_turn = (tuple_end, rows_over, rows_until, tuple_second, tuple_in, arith)
 
-pub ruleset place-turn = (place_before, place_in_lem, place_behind, head_first, head_in, arith)
+pub ruleset place_turn = (place_before, place_in_lem, place_behind, head_first, head_in, arith)
 
-pub ruleset field-turn = (head_first, tuple_second, head_in, tuple_in, head_inside, field_bad, field_on, raw_said, arith)
+pub ruleset field_turn = (head_first, tuple_second, head_in, tuple_in, head_inside, field_bad, field_on, raw_said, arith)

@@ -108,7 +108,7 @@ last_five l g₁ o₁ g₂ o₂ g₃ o₃ g₄ o₄ g₅ o₅ g = left_last (aft
 pub in_next : (n : ℕ) (r : Stop) → r ≡ At n → (d : Sub) (b : List ℕ) (p : ℕ) → r ≡ subfield_end d b p → p ≤ length b → n ≤ length b
 in_next n r o d b p g h = row_in d b p n r h g o
 
-pub ruleset often-in = (in_next)
+pub ruleset often_in = (in_next)
 
 -- ---- which they are
 
@@ -133,7 +133,7 @@ module _ {b : List ℕ} {at : ℕ} (h : at ≤ length b) where
   unfolding head_of
   association_left = record { inside = h; same = refl }
 
-pub ruleset often-turn = (attribute_left, spatial_left, feature_left, point_left, association_left, left_bad, bad_one, bad_two, bad_three, bad_four, bad_five, last_three, last_four_lem, last_five)
+pub ruleset often_turn = (attribute_left, spatial_left, feature_left, point_left, association_left, left_bad, bad_one, bad_two, bad_three, bad_four, bad_five, last_three, last_four_lem, last_five)
 
 -- ---- by their rows
 
@@ -156,4 +156,4 @@ module _ (from to : ℕ) (b : List ℕ) (at : ℕ) (r : Stop) where
   pub association_rows : from ≡ 63 → to ≡ 68 → r ≡ subfields_end (head_of InasNew) b at → r ≡ subfields_end (slice from to table) b at
   association_rows = named (its InasNew _ refl).head_is
 
-pub ruleset named-rows = (attribute_rows, spatial_rows, feature_rows, point_rows, association_rows)
+pub ruleset named_rows = (attribute_rows, spatial_rows, feature_rows, point_rows, association_rows)

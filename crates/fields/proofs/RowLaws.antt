@@ -120,7 +120,7 @@ row_end j to b p W g h inv =
     let e : j ≡ to = omega arith in
     sym (ap (λ (k : ℕ). subfields_end (slice k to table) b p) e ∙ ap (λ (ds : List Sub). subfields_end ds b p) (slice_empty to table) ∙ end_nil b p) ∙ inv
 
-pub ruleset rows-turn = (row_bad, row_on, row_in, row_end, arith)
+pub ruleset rows_turn = (row_bad, row_on, row_in, row_end, arith)
 
 -- ---- the same: whether they take any bytes
 
@@ -144,4 +144,4 @@ raw_end j to W g h inv =
     let e : j ≡ to = omega arith in
     sym (ap (λ (k : ℕ). all_raw (slice k to table)) e ∙ ap all_raw (slice_empty to table)) ∙ inv
 
-pub ruleset raw-turn = (raw_not, raw_on, raw_end, arith)
+pub ruleset raw_turn = (raw_not, raw_on, raw_end, arith)

@@ -38,7 +38,7 @@ module _ (f : List ℕ) (start end n : ℕ) (e : Found) (x : e ≡ field_numbere
       pub end_word : start + t < 2 ^ 64
       end_word = omega (arith, found_inside (take (end - start) (drop start f)) n e x tag s t y, length-take (end - start) (drop start f), length-drop start f)
 
-pub ruleset within-ways = (within_none, within_there, start_word, end_word)
+pub ruleset within_ways = (within_none, within_there, start_word, end_word)
 
 -- ---- the records
 
@@ -99,4 +99,4 @@ module _ (f : List ℕ) (at m n : ℕ) (r : Found) (inv : field_from f at m n �
       unfolding field_from
       search_on z o = sym (ap (within_lot f n) (numbered_later m (record { start = at; end = at + len }) (lots_from f (at + len)) (omega arith))) ∙ cons
 
-pub ruleset search-turn = (search_none, search_over, search_refused, search_found, search_on, record_in_lem, record_falls, record_word, arith)
+pub ruleset search_turn = (search_none, search_over, search_refused, search_found, search_on, record_in_lem, record_falls, record_word, arith)

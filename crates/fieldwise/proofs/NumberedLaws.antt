@@ -31,7 +31,7 @@ module _ (p : Place) (n tag start end next : ℕ) (x : p ≡ At tag start end ne
   pub found_other : (n ≡ 1 → ⊥) → Nothing ≡ found_here p n
   found_other e = simp (x, ne_eqb n 1 e)
 
-pub ruleset found-ways = (found_one, found_other)
+pub ruleset found_ways = (found_one, found_other)
 
 -- ---- the n-th of a list that begins with x
 

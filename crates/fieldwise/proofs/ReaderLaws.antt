@@ -38,7 +38,7 @@ module _ (r : List ℕ) (h : Head) (e : h ≡ leader_of r true) where
   unfolding led_by
   led_other n x g y = simp (← e, x, y)
 
-pub ruleset led-ways = (led_first, led_other)
+pub ruleset led_ways = (led_first, led_other)
 
 fitting_else : (r : List ℕ) (h g : Head) → Fitting r h → Fitting r g → Fitting r (or_else h g)
 fitting_else r (Good len base a b) g x y = x
@@ -66,7 +66,7 @@ module _ (r : List ℕ) (at : ℕ) (h : Head) (e : h ≡ led_by r) where
     unfolding field_here
     field_place p y = simp (← e, x, y)
 
-pub ruleset field-ways = (field_none, field_shape, field_place)
+pub ruleset field_ways = (field_none, field_shape, field_place)
 
 -- where there is a field, the reader's next place is further on, and the field lies in the record
 pub record Stands (r : List ℕ) (at start end next : ℕ) : Type 0 where
@@ -124,9 +124,9 @@ module _ (r : List ℕ) (at : ℕ) (p : Place) (e : p ≡ field_here r at) where
     unfolding body_here
     body_there = simp (← e, x)
 
-pub ruleset next-ways = (next_done, next_more)
+pub ruleset next_ways = (next_done, next_more)
 
-pub ruleset body-ways = (body_done, body_runs, body_inside, body_there)
+pub ruleset body_ways = (body_done, body_runs, body_inside, body_there)
 
 -- ---- the fields that a reader passes
 

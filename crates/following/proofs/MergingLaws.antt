@@ -41,7 +41,7 @@ pub if_one : (n : ℕ) → (n ≡ 0 → ⊥) → 1 ≡ one_if n
 unfolding one_if
 if_one n e = simp (ne_eqb n 0 e)
 
-pub ruleset if-ways = (if_none, if_one)
+pub ruleset if_ways = (if_none, if_one)
 
 module _ (t n pos : ℕ) where
   pub entry_none : n ≡ 0 → (at : ℕ) (o : List ℕ) → Wrote at (entry_if t n pos) o at o
@@ -56,7 +56,7 @@ module _ (t n pos : ℕ) where
     unfolding entry_if
     entry_some at p o o' w = simp (ne_eqb n 0 e) w
 
-pub ruleset entry-ways = (entry_none, entry_room, entry_some)
+pub ruleset entry_ways = (entry_none, entry_room, entry_some)
 
 -- ---- a field, and those behind it
 
@@ -192,7 +192,7 @@ module _ (old : List ℕ) (ho : Shape) (new : List ℕ) (hn : Shape) where
             let f = s.few in let w = s.small in let v = m.small in let o = one_or_none in
             record { count = omega (arith, s.count); size = omega (arith, s.size); few = omega arith; small = omega arith; last = omega arith }
 
-pub ruleset count-ways = (
+pub ruleset count_ways = (
   old_once,
   new_once,
   pass_old_bounded,
@@ -253,7 +253,7 @@ module _ (old : List ℕ) (ho : Shape) (new : List ℕ) (hn : Shape) where
                 ∙ s.left;
           }
 
-pub ruleset directory-ways = (
+pub ruleset directory_ways = (
   old_once,
   new_once,
   pass_old_bounded,
@@ -311,7 +311,7 @@ module _ (old : List ℕ) (ho : Shape) (new : List ℕ) (hn : Shape) where
                 ∙ s.left;
           }
 
-pub ruleset fields-ways = (
+pub ruleset fields_ways = (
   old_once,
   new_once,
   pass_old_bounded,

@@ -65,7 +65,7 @@ module _ (a b : List ℕ) where
       pub same_more : get_or a i 0 ≡ get_or b i 0 → same_from a b (i + 1) ≡ same a b
       same_more e = simp (eq-eqb (get_or a i 0) (get_or b i 0) e) at step
 
-pub ruleset same-ways = (same_short, same_start, same_over, same_differ, same_more, arith)
+pub ruleset same_ways = (same_short, same_start, same_over, same_differ, same_more, arith)
 
 -- ---- where the subfields of DSID stand
 
@@ -96,9 +96,9 @@ module _ (b : List ℕ) (j : ℕ) (g : Identified b) where
     pub number_is : 8 ≤ j → j ≤ 9 → (n : ℕ) → n ≡ le 2 (drop p b) → n ≡ num_at (values (head_of Dsid) b) j
     number_is l m n e = e ∙ sym (number_there l m).1
 
-pub ruleset place-ways = (found_place, found_none)
+pub ruleset place_ways = (found_place, found_none)
 
-pub ruleset number-ways = (number_room, number_is, arith)
+pub ruleset number_ways = (number_room, number_is, arith)
 
 module _ (b : List ℕ) (g : Identified b) (p : ℕ) (ep : At p ≡ head_place (head_of Dsid) 7 b) where
   text_there : (p + run (drop p b) < length b) × (text_at (values (head_of Dsid) b) 7 ≡ take (run (drop p b)) (drop p b))
@@ -123,7 +123,7 @@ pub names_same : (a b : List ℕ) (ga : Identified a) (gb : Identified b) (p q :
     → r ≡ same (text_at (values (head_of Dsid) a) 7) (text_at (values (head_of Dsid) b) 7)
 names_same a b ga gb p q ep eq m n em en r e = e ∙ ap₂ same (name_is a ga p ep m em) (name_is b gb q eq n en)
 
-pub ruleset name-ways = (name_in, name_runs, name_ends, names_same, arith)
+pub ruleset name_ways = (name_in, name_runs, name_ends, names_same, arith)
 
 -- ---- `dsid_follows`
 
@@ -141,7 +141,7 @@ module _ (a b : List ℕ) (t : Bool) (et : t ≡ same (text_at (values (head_of 
     unfolding dsid_follows
     number_next e m n em en = rw (← et, not-false t x, ← ey, ← ez, ← em, ← en) (simp (eq-eqb y z e))
 
-pub ruleset dsid-ways = (other_name, other_edition, number_next, arith)
+pub ruleset dsid_ways = (other_name, other_edition, number_next, arith)
 
 -- ---- `follows`
 
@@ -167,4 +167,4 @@ module _ (old : List ℕ) (ho : Shape) (new : List ℕ) (hn : Shape) (go : gener
         unfolding number8 name_of edition_of number_of dsid_of front dsid_follows
         eight r er = rw (fields_more old ho 24 d ed tag i j next x, fields_more new hn 24 e ee tag' k l next' y, er)
 
-pub ruleset follows-ways = (old_none, old_dsid, new_none, new_dsid, eight, place_runs, place_in_lem)
+pub ruleset follows_ways = (old_none, old_dsid, new_none, new_dsid, eight, place_runs, place_in_lem)

@@ -69,7 +69,7 @@ module _ (old : List ℕ) (ho : Shape) (new : List ℕ) (hn : Shape) (t : ℕ) (
     unfolding Sourced newer empty
     source_neither y = rw (absent new hn t e en x) (absent old ho t d ed y)
 
-pub ruleset source-ways = (source_sent, source_kept, source_neither)
+pub ruleset source_ways = (source_sent, source_kept, source_neither)
 
 -- ---- one field of a slice r
 
@@ -173,7 +173,7 @@ module _ (old : List ℕ) (ho : Shape) (new : List ℕ) (hn : Shape) (t : ℕ) (
         pub kept_wrote : (q : ℕ) (o'' : List ℕ) → Wrote p (30 ∷ []) o' q o'' → Wrote at (contents (newer_at old ho new hn t)) o q o''
         kept_wrote = one_wrote kept at o room p o' w
 
-pub ruleset size-ways = (none_measured, sent_runs, sent_word, sent_measured, kept_runs, kept_word, kept_measured)
+pub ruleset size_ways = (none_measured, sent_runs, sent_word, sent_measured, kept_runs, kept_word, kept_measured)
 
-pub ruleset body-ways =
+pub ruleset body_ways =
     (none_wrote, sent_runs, sent_in_lem, sent_room, sent_mark, sent_wrote, kept_runs, kept_in, kept_room, kept_mark, kept_wrote)

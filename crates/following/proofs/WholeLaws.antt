@@ -57,4 +57,4 @@ module _ (old : List ℕ) (ho : Shape) (new : List ℕ) (hn : Shape) (gn : gener
       × Wrote at (emit field_width field_width false (merged (fields_at old ho 24) (fields_at new hn 24))) o p₄ o₄
   merged_wrote s e w₁ w₂ w₃ w₄ = rw all at (wrote_record (parts_from old ho new hn 0) s e false w₁ w₂ w₃ w₄)
 
-pub ruleset whole-ways = (merged_long, merged_small, merged_leader, merged_directory, merged_mark, merged_fields)
+pub ruleset whole_ways = (merged_long, merged_small, merged_leader, merged_directory, merged_mark, merged_fields)

@@ -71,4 +71,4 @@ module _ (u : List ℕ) (at : ℕ) (s : Rest u at) (h : at < length u) (q : Head
 pub act_short : (d u : List ℕ) → Short d u → length u ≤ 16777216
 act_short d u s = s.new
 
-pub ruleset act-ways = (here_word, here_fits, act_short, arith)
+pub ruleset act_ways = (here_word, here_fits, act_short, arith)

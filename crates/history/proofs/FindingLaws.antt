@@ -207,4 +207,4 @@ module _ (d : List ℕ) (at : ℕ) (s : Stock d at) (h : at < length d) (q : Hea
 pub flags_stay : (w v : List ℕ) → drop 386000 v ≡ drop 386000 w → FlagsKept w v
 flags_stay w v e = e
 
-pub ruleset load-ways = (here_word, here_fits, arith)
+pub ruleset load_ways = (here_word, here_fits, arith)

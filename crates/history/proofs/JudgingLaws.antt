@@ -140,7 +140,7 @@ module _ (c : Course) (s : Stop) where
   unfolding earlier_by
   earlier_none p e = rw e refl
 
-pub ruleset earlier-ways = (earlier_new, earlier_old, earlier_none, arith)
+pub ruleset earlier_ways = (earlier_new, earlier_old, earlier_none, arith)
 
 -- ---- up to a place of the update
 

@@ -110,7 +110,7 @@ module _ (u : List ℕ) (start p n : ℕ) (s : ThirdAt u start p n) where
             let d = third_falls in
             record { same = z; least = omega arith; few = omega arith; inside = third_in }
 
-pub ruleset third-ways =
+pub ruleset third_ways =
     (third_start, third_over, third_refused, third_in, third_word, third_falls, third_bounded, third_right, number_word, third_stopped, third_more)
 
 -- ---- the first two records, and then the others
@@ -212,4 +212,4 @@ module _ (u : List ℕ) (q : Opened) (eq : q ≡ opened_by (first_two 1 InUpdate
       let z = shut_is 2 (first_two 2 InUpdate u) (file_two 2 InUpdate u) k n i j (sym x ∙ eq ∙ same_two 1 2 InUpdate u) in
       rw (whole u) (rw z)
 
-pub ruleset came-ways = (two_in, came_later, came_shut)
+pub ruleset came_ways = (two_in, came_later, came_shut)

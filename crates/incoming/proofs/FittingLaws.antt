@@ -145,4 +145,4 @@ module _ (u : List ℕ) (p : ℕ) (s : Rest u p) (l : p < length u) (q : Head) (
       singles = let z = rw (records_more u p l q eq len base a b x) at s.singles in z.1;
     }
 
-pub ruleset rest-ways = (rest_good, rest_here, rest_more)
+pub ruleset rest_ways = (rest_good, rest_here, rest_more)

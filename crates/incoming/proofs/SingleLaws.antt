@@ -50,7 +50,7 @@ module _ (r : List ℕ) (h : Shape) (k : Kind) (e : Place) (en : e ≡ place_at 
     unfolding front as_stored
     inserted_there b eb = rw (fields_more r h 24 e en tag start end next x) eb
 
-pub ruleset inserted-ways = (inserted_none, inserted_there, place_runs, place_in_lem)
+pub ruleset inserted_ways = (inserted_none, inserted_there, place_runs, place_in_lem)
 
 -- ---- number by number
 
@@ -105,4 +105,4 @@ module _ (fs : List Field) (t : Tags) (et : t ≡ graded (four_to_six_in InUpdat
           go (ok tt) z = z
           go (no y) z = z
 
-pub ruleset single-ways = (single_wrong, single_five, single_tag, single_kept, single_once)
+pub ruleset single_ways = (single_wrong, single_five, single_tag, single_kept, single_once)

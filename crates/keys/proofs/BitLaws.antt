@@ -21,7 +21,7 @@ unfolding bit_of
 bit_shifted zero b = omega arith
 bit_shifted (suc i) b = ap (λ (n : ℕ). b / n % 2) (pow-succ' 2 i) ∙ ap (λ (n : ℕ). n % 2) (sym (div-div-eq-div-mul b 2 (2 ^ i))) ∙ bit_shifted i (b / 2)
 
-pub ruleset bit-ways = (bit_shifted, arith)
+pub ruleset bit_ways = (bit_shifted, arith)
 
 -- ---- `flag`
 
@@ -92,7 +92,7 @@ with_bit_fits i b w e h g x = rw x (bit_fits 8 i b e h g)
 pub with_bit_is : (i b w : ℕ) → w ≡ 2 ^ i → b + w ≡ b + 2 ^ i
 with_bit_is i b w x = ap (λ (n : ℕ). b + n) x
 
-pub ruleset with-bit-ways = (with_bit_fits, with_bit_is, arith)
+pub ruleset with_bit_ways = (with_bit_fits, with_bit_is, arith)
 
 -- ---- `raise`
 
@@ -123,7 +123,7 @@ module _ (t : List ℕ) (j r : ℕ) (e : r ≡ bit_of (j % 8) (get_or t (j / 8) 
 pub raise_index : (j : ℕ) → j % 8 < 8
 raise_index j = omega arith
 
-pub ruleset raise-ways = (raise_past, raise_again, raise_not, raise_there, raise_index, arith)
+pub ruleset raise_ways = (raise_past, raise_again, raise_not, raise_there, raise_index, arith)
 
 -- ---- the flags afterwards
 

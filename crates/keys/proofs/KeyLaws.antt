@@ -41,7 +41,7 @@ module _ (c : ℕ) where
         unfolding rank_of
         rank_none q = simp (ne_eqb c 150 n, ne_eqb c 110 o, ne_eqb c 115 p, ne_eqb c 100 q)
 
-pub ruleset rank-ways = (rank_150, rank_110, rank_115, rank_100, rank_none, arith)
+pub ruleset rank_ways = (rank_150, rank_110, rank_115, rank_100, rank_none, arith)
 
 module _ (f : List ℕ) (q : ℕ) where
   pub key_past : length f < q + 5 → 0 ≡ key_at f q
@@ -60,7 +60,7 @@ module _ (f : List ℕ) (q : ℕ) where
   unfolding KeyFits
   key_fits_past h g = absurd (omega arith)
 
-pub ruleset key-ways = (key_past, key_there, key_fits, key_fits_past, arith)
+pub ruleset key_ways = (key_past, key_there, key_fits, key_fits_past, arith)
 
 -- ---- a key in a part of some bytes
 
@@ -130,7 +130,7 @@ module _ (r : ℕ) where
       unfolding kind_ranked
       kind_4 p = simp (ne_eqb r 1 n, ne_eqb r 2 o, ne_eqb r 3 p)
 
-pub ruleset kind-ways = (kind_1, kind_2, kind_3, kind_4, arith)
+pub ruleset kind_ways = (kind_1, kind_2, kind_3, kind_4, arith)
 
 -- the kind with the rank of a kind
 pub kind_ranked_lem : (k : Kind) → kind_ranked (rank k) ≡ k

@@ -129,4 +129,4 @@ look_word f p h eh len base a b x i s = omega (arith, stated_base f p h eh len b
 pub look_fits : (f : List ℕ) (p : ℕ) (h : Head) → h ≡ stated_at f p → (len base a b : ℕ) → h ≡ Good len base a b → p ≤ length f → length f ≤ 16777216 → p + base < 2 ^ 64
 look_fits f p h eh len base a b x i s = omega (arith, stated_base f p h eh len base a b x)
 
-pub ruleset look-ways = (look_nothing, look_good, look_word, look_fits, arith)
+pub ruleset look_ways = (look_nothing, look_good, look_word, look_fits, arith)

@@ -42,7 +42,7 @@ above_more top up k (x ∷ xs) h g e =
     simp (le-leb x up (omega arith)) (above_more top up k xs h g b.1)
 
 -- what `larger` returns
-pub ruleset larger-ways = (larger_first, larger_second)
+pub ruleset larger_ways = (larger_first, larger_second)
 
 -- the larger of two is not below either, and of the kind of the second, where that is not before the first's
 pub larger_least : (a b : ℕ) → (a ≤ larger_of a b) × (b ≤ larger_of a b) × (kind_in a ≤ kind_in b → kind_in (larger_of a b) ≡ kind_in b)
@@ -70,7 +70,7 @@ module _ (f : List ℕ) (start m top k : ℕ) (t : List ℕ) (o : Once f start m
   pub stood_known : Known f start m
   stood_known = o.known
 
-pub ruleset stood-ways = (stood_above, stood_clear, stood_known, arith)
+pub ruleset stood_ways = (stood_above, stood_clear, stood_known, arith)
 
 -- ---- `renew`
 
@@ -81,7 +81,7 @@ pub renew_empty : (kind kind' : ℕ) (t t' : List ℕ) → (kind ≡ kind' → �
 renew_empty kind kind' t t' n e =
     record { long = rw e (length_zeros (length t)); same = λ x. absurd (n x); empty = λ _ i. rw e (zeros_all (length t) i) }
 
-pub ruleset renew-ways = (renew_same, renew_empty)
+pub ruleset renew_ways = (renew_same, renew_empty)
 
 -- ---- the map
 
@@ -160,4 +160,4 @@ module _ (f : List ℕ) (start m top k : ℕ) (t : List ℕ) (o : Once f start m
   pub told_false : (t'' : List ℕ) → t'' ≡ raised t' (k % 262144) → Told f start m top k t t'' false
   told_false t'' e = record { told = sym x ∙ eb; long = rw e (raised_long t' (k % 262144) ∙ rn.long); once = λ _. rw e once_more }
 
-pub ruleset repeats-ways = (told_true, told_false, arith)
+pub ruleset repeats_ways = (told_true, told_false, arith)

@@ -65,7 +65,7 @@ module _ (last key : ℕ) where
   unfolding ascended_to
   ascended_still so e = both_hold so (ltb last key) e
 
-pub ruleset ascended-ways = (ascended_so, ascended_not)
+pub ruleset ascended_ways = (ascended_so, ascended_not)
 
 -- ---- `seal`
 
@@ -82,7 +82,7 @@ module _ (t : List ℕ) (so : Bool) where
   unfolding sealed
   sealed_long = by_test (λ (u : List ℕ). length u ≡ length t) so _ _ (λ _. raised_long t 262144) (λ _. refl)
 
-pub ruleset seal-ways = (seal_so, seal_not)
+pub ruleset seal_ways = (seal_so, seal_not)
 
 -- no key has the flag that says that they ascend
 apart : (k : ℕ) → has_slot k ≡ true → slot_of k ≡ 262144 → ⊥
@@ -118,4 +118,4 @@ sealed_so t false e h = absurd (true≢false (sym h ∙ e))
 pub ordered_past : (t : List ℕ) → length t ≤ 32768 → false ≡ flag_of t 262144
 ordered_past t h = sym (flag_none t 262144 (get_or-eq_default t 0 (omega arith)))
 
-pub ruleset ordered-ways = (ordered_past, arith)
+pub ruleset ordered_ways = (ordered_past, arith)

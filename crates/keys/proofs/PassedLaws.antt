@@ -92,7 +92,7 @@ module _ (least : ℕ) (fs : List Field) (k : Kind) (e : four_to_six least fs �
   pub placed_tag : first_tag fs ≡ tag_of k
   placed_tag = (placed least fs k e).tag
 
-pub ruleset placed-ways = (placed_five, placed_tag)
+pub ruleset placed_ways = (placed_five, placed_tag)
 
 -- ---- all numbers
 

@@ -48,7 +48,7 @@ near_in f start p l = (tail_sound f start p l).inside
 pub near_small : (f : List ℕ) (start p : ℕ) → Tail f start p → length f ≤ 16777216
 near_small f start p l = l.sound.small
 
-pub ruleset near-turn = (near_on, near_word, near_found, near_not, near_in, near_small, arith)
+pub ruleset near_turn = (near_on, near_word, near_found, near_not, near_in, near_small, arith)
 
 -- ---- `start_near`
 
@@ -137,7 +137,7 @@ module _ (f : List ℕ) (start : ℕ) (t : List ℕ) (n key lo hi p : ℕ) (s : 
             let y : half_by key (half lo hi p) (lo + (hi - lo) / 2) q e ≡ half hi hi p = rw x refl in
             ap (λ (z : Half). z.place) (sym (halved_over j f t key hi hi p (omega arith)) ∙ ap (halved j f t key) (sym y) ∙ sym (halved_one j)) ∙ b
 
-pub ruleset half-turn = (
+pub ruleset half_turn = (
   halving_start,
   halving_over,
   halving_in,
@@ -197,4 +197,4 @@ has_near b h f e = sym (f e)
 pub has_ordered : (f : List ℕ) (start : ℕ) (t : List ℕ) (n : ℕ) (map : List ℕ) → Laid f start t n map → (k r : ℕ) → r ≡ site_of f start k → ltb r (length f) ≡ has_from f start k
 has_ordered f start t n map l k r e = rw e (site_says f start k l.sound)
 
-pub ruleset has-ways = (has_flag, has_near, has_ordered, close_near, close_tail, laid_small, laid_sound, laid_ascends, arith)
+pub ruleset has_ways = (has_flag, has_near, has_ordered, close_near, close_tail, laid_small, laid_sound, laid_ascends, arith)

@@ -133,4 +133,4 @@ module _ (recs : List Rec) (f : List ℕ) (p m : ℕ) (x : Outcome (Unit {0})) (
         let i : m + 1 + 4 ≡ m + 4 + 1 = omega arith in
         rw i (rw e at turn)
 
-pub ruleset references-turn = (references_over, references_loose, references_more, fine_here, fine_more)
+pub ruleset references_turn = (references_over, references_loose, references_more, fine_here, fine_more)

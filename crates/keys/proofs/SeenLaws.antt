@@ -59,4 +59,4 @@ unfolding seen_from
 seen_over f p zero j r inv h = sym (listed_none j) ∙ inv
 seen_over f p (suc m) j r inv h = absurd (omega arith)
 
-pub ruleset seen-turn = (seen_here, seen_later, seen_nothing, seen_over, seen_in, seen_word, seen_known, arith)
+pub ruleset seen_turn = (seen_here, seen_later, seen_nothing, seen_over, seen_in, seen_word, seen_known, arith)

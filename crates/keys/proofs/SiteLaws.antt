@@ -65,7 +65,7 @@ near_names f start p l e en len key x k y h = record { leads = l.leads; len = le
 pub near_none : (f : List ℕ) (start k : ℕ) → length f < length f → Names f start k (length f)
 near_none f start k h = absurd (omega arith)
 
-pub ruleset near-site = (near_names, near_none, near_on, near_word, near_in, near_small, arith)
+pub ruleset near_site = (near_names, near_none, near_on, near_word, near_in, near_small, arith)
 
 -- ---- `site_ordered`
 
@@ -109,7 +109,7 @@ module _ (f : List ℕ) (start k p : ℕ) (c : Close f start k p) where
   pub close_small : length f ≤ 16777216
   close_small = c.tail.sound.small
 
-pub ruleset ordered-turn =
+pub ruleset ordered_turn =
     (ordered_here, ordered_passed, close_on, close_word, close_falls, ordered_nothing, ordered_over, close_in, close_small, arith)
 
 -- ---- `site`
@@ -121,6 +121,6 @@ module _ (f : List ℕ) (start : ℕ) (t : List ℕ) (n : ℕ) (map : List ℕ) 
   pub site_found : EachOnce (keys_from f start) → (k q : ℕ) → (q < length f → Names f start k q) → q < length f → q ≡ site_of f start k
   site_found o k q g h = let m = g h in sym (site_once r.sound m.leads o m.len k m.look)
 
-pub ruleset site-ways = (site_found, close_near, close_tail, laid_small, laid_sound, laid_ascends, arith)
+pub ruleset site_ways = (site_found, close_near, close_tail, laid_small, laid_sound, laid_ascends, arith)
 
-pub ruleset flag-site = (site_flag, arith)
+pub ruleset flag_site = (site_flag, arith)

@@ -28,7 +28,7 @@ module _ (first room rcid : ℕ) where
   unfolding slot_within
   within_none h = simp (le-ltb rcid room h)
 
-pub ruleset within-ways = (within_room, within_none, arith)
+pub ruleset within_ways = (within_room, within_none, arith)
 
 module _ (k : ℕ) where
   pub slot_info : (r : ℕ) → k / 4294967296 ≡ 1 → r ≡ slot_within 0 65536 (k % 4294967296) → r ≡ slot_of k
@@ -49,7 +49,7 @@ module _ (k : ℕ) where
       unfolding slot_of
       slot_none p = simp (ne_eqb (kind_in k) 1 n, ne_eqb (kind_in k) 2 o, ne_eqb (kind_in k) 3 p)
 
-pub ruleset slot-ways = (slot_info, slot_point, slot_multi, slot_none, arith)
+pub ruleset slot_ways = (slot_info, slot_point, slot_multi, slot_none, arith)
 
 module _ (t : List ℕ) (k s : ℕ) (e : s ≡ slot_of k) where
   pub note_raised : s < 262144 → (t' : List ℕ) → t' ≡ raised t s → t' ≡ noted t k
@@ -60,7 +60,7 @@ module _ (t : List ℕ) (k s : ℕ) (e : s ≡ slot_of k) where
   unfolding noted has_slot
   note_not h = simp (← e, le-ltb s 262144 h)
 
-pub ruleset note-ways = (note_raised, note_not)
+pub ruleset note_ways = (note_raised, note_not)
 
 -- ---- from its place a key can be told
 

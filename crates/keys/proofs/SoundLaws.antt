@@ -113,6 +113,6 @@ pub has_over : (f : List ℕ) (p j : ℕ) (b : Bool) → has_from f p j ≡ b �
 unfolding has_from
 has_over f p j b inv h = sym (listed_none j) ∙ rw (keys_past f p h) at inv
 
-pub ruleset sound-bounds = (sound_more, sound_word, sound_falls, sound_in, sound_small, arith)
+pub ruleset sound_bounds = (sound_more, sound_word, sound_falls, sound_in, sound_small, arith)
 
-pub ruleset has-turn = (has_here, has_more, has_nothing, has_over, sound-bounds)
+pub ruleset has_turn = (has_here, has_more, has_nothing, has_over, sound_bounds)

@@ -67,7 +67,7 @@ module _ (f : List ℕ) (start m top k : ℕ) (t t' : List ℕ) (b : Bool) (w : 
   pub told_once : b ≡ false → (up : ℕ) → up ≡ larger_of top k → Once f start (m + 1) up t'
   told_once x up e = rw e (w.once x)
 
-pub ruleset told-ways = (told_seen, told_long, told_once)
+pub ruleset told_ways = (told_seen, told_long, told_once)
 
 -- ---- the record at hand
 
@@ -213,5 +213,5 @@ module _ (f : List ℕ) (start m top k up : ℕ) (e : up ≡ larger_of top k) wh
   pub once_up : (t : List ℕ) → Once f start m (larger_of top k) t → Once f start m up t
   once_up t o = rw e o
 
-pub ruleset standing-turn =
+pub ruleset standing_turn =
     (standing_over, standing_count, standing_refused, standing_before, standing_comes, standing_kind, standing_seven, standing_within, standing_more, standing_up, once_up)

@@ -21,7 +21,7 @@ use Rattle.keys.specs.declared.look.Look.{Look}
 use Rattle.keys.specs.declared.look.Look.TheVariants.{At, Nothing}
 use Rattle.keys.proofs.ListLaws.{split_take, split_drop}
 use Rattle.keys.proofs.LookLaws.{keys_past}
-use Rattle.keys.proofs.SoundLaws.{Next, sound_next, sound_nothing, sound_word, sound_falls, sound-bounds}
+use Rattle.keys.proofs.SoundLaws.{Next, sound_next, sound_nothing, sound_word, sound_falls, sound_bounds}
 use Rattle.keys.proofs.PlaceLaws.{leads_sound, leads_then}
 use Rattle.keys.proofs.SlotLaws.{slots_none, slots_more, noted_long}
 use Rattle.keys.proofs.OrderLaws.{ascended_still, sealed_long, slots_sealed, unsealed_none, unsealed_more, sealed_so}
@@ -155,7 +155,7 @@ laid_done f start i p last so t map map' n s c g ts h em r =
       ordered = λ z. climbed f start p last so c h (sealed_so map so s.unsealed (rw em at z));
     }
 
-pub ruleset spread-turn = (
+pub ruleset spread_turn = (
   passed_none,
   passed_sound,
   passed_tail,
@@ -174,5 +174,5 @@ pub ruleset spread-turn = (
   noted_long,
   sealed_length,
   length_zeros,
-  sound-bounds,
+  sound_bounds,
 )

@@ -38,7 +38,7 @@ pub step_one : (m : Made) (n : ℕ) → m ≡ Next n → One n ≡ step_by m
 unfolding step_by
 step_one m n e = rw e
 
-pub ruleset step-ways = (step_loose, step_one)
+pub ruleset step_ways = (step_loose, step_one)
 
 -- ---- a record that can be written
 
@@ -104,7 +104,7 @@ module _ (d u w : List ℕ) (c : Changed) where
     unfolding LastStep
     last_refused n i j e r o x = stays_not n i j e r x
 
-pub ruleset last-ways = (stays_kept, last_held, last_absent, last_refused)
+pub ruleset last_ways = (stays_kept, last_held, last_absent, last_refused)
 
 -- a version that can be written has room
 pub kept_inas : (d u w : List ℕ) (v : Version) → Kept d u w v → 7 * v.inas ≤ 92000

@@ -40,7 +40,7 @@ module _ (b : List ℕ) (t : Tally) (et : t ≡ tally_field (head_of AttrNew) (t
   unfolding entries_of
   entries_short j x = rw (sym et ∙ x) refl
 
-pub ruleset entries-of-ways = (entries_whole, entries_short)
+pub ruleset entries_of_ways = (entries_whole, entries_short)
 
 -- of none there are none
 pub entries_none : entries_of [] ≡ 0
@@ -68,7 +68,7 @@ module _ (r : List ℕ) (h : Shape) (e : Place) (en : e ≡ find_from r h 0x4154
     unfolding entries_in each
     entries_there n y = rw (first_body ATTR (fields_at r h 24), found_first r h ATTR 24 e en tag start end next x) y
 
-pub ruleset entries-ways = (entries_lack, entries_there, found_runs, found_in)
+pub ruleset entries_ways = (entries_lack, entries_there, found_runs, found_in)
 
 -- ---- coordinate tuples
 
@@ -85,7 +85,7 @@ module _ (t n : ℕ) where
   unfolding tuples_of is_coordinates
   tuples_other m e = simp (ne_eqb t 0x43324954 m, ne_eqb t 0x4332494c e)
 
-pub ruleset tuples-of-ways = (tuples_point, tuples_list, tuples_other)
+pub ruleset tuples_of_ways = (tuples_point, tuples_list, tuples_other)
 
 tuples_most : (t n : ℕ) → tuples_of t n ≤ n
 unfolding tuples_of
@@ -132,4 +132,4 @@ module _ (r : List ℕ) (h : Shape) (q n : ℕ) (inv : CountedTo r h q n) (e : P
         let a = most in let b = inv.small in
         record { sum = omega (arith, inv.sum); small = omega (arith, k.next_is); inside = omega (arith, k.next_in) }
 
-pub ruleset tuples-turn = (counted_first, counted_over, counted_word, counted_next, place_falls, place_runs, place_in_lem, arith)
+pub ruleset tuples_turn = (counted_first, counted_over, counted_word, counted_next, place_falls, place_runs, place_in_lem, arith)

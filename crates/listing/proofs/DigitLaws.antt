@@ -74,4 +74,4 @@ module _ (x rest w : ℕ) (inv : Counted x rest w) where
       let k = fewest_within 19 x (omega arith) in
       (omega arith, omega arith)
 
-pub ruleset digits-turn = (counted_start, counted_word, counted_more, counted_falls, counted_done, arith)
+pub ruleset digits_turn = (counted_start, counted_word, counted_more, counted_falls, counted_done, arith)

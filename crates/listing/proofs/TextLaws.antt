@@ -28,7 +28,7 @@ module _ (at : ℕ) (text d₀ : List ℕ) (k : ℕ) (d : List ℕ) (inv : Store
   pub text_done : length text ≤ k → Wrote at text d₀ (at + length text) d
   text_done h = record { next = refl; is = stored_all inv (omega arith) h }
 
-pub ruleset text-turn = (text_start, text_more, text_long, text_done, arith)
+pub ruleset text_turn = (text_start, text_more, text_long, text_done, arith)
 
 -- ---- `put_number`: the digits d of a number, made in a place of their own, are written
 
@@ -54,7 +54,7 @@ module _ (x w r : ℕ) (e : List ℕ) (ew : w ≡ fewest_digits x) (small : w �
   pub number_wrote : (at q : ℕ) (o o₁ : List ℕ) → Wrote at (take w e) o q o₁ → Wrote at (in_fewest_digits x) o q o₁ × (q ≤ at + 20)
   number_wrote at q o o₁ v = (wrote_as digits_are v, omega (arith, v.next, digits_long))
 
-pub ruleset number-ways = (number_long, number_room, number_wrote)
+pub ruleset number_ways = (number_long, number_room, number_wrote)
 
 -- ---- `put_spaced`
 

@@ -141,5 +141,5 @@ module _ (f : List ℕ) (start at : ℕ) (d : List ℕ) (p n q : ℕ) (e : List 
             left = left_more at (lines_from f start 4) d q (record_line n (record_in fields)) (lines_from f (p + len) (n + 1)) e r e' (rw lines_on at s.left) w.0;
           }
 
-pub ruleset rows-turn =
+pub ruleset rows_turn =
     (reached_start, reached_in, reached_long, reached_over, record_word, record_runs, record_in_lem, record_bounded, record_small, record_passed, record_room, record_counts, record_falls)

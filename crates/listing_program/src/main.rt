@@ -6,9 +6,10 @@ ghost use Rattle.std.specs.Prelude.{◌≡◌, ◌≤◌, length, IfOk};
 use std::io;
 use std::io::{Read, Write};
 
-// Reads until the buffer is full or the input ends; how many bytes it read.
+// Reads until the buffer is full or the input ends; how many bytes it read. A failed read leaves the buffer as long as it was.
 fn read_full<I: Read>(input: &mut I, buf: &mut [u8]) -> io::Result<usize>
-    ensures { IfOk result (λ n. n ≤ length buf.new) }
+    ensures counted { IfOk result (λ n. n ≤ length buf.new) }
+    ensures as_long { length buf.new ≡ length buf.old }
 {
     let mut n = 0;
     while n < buf.len() {

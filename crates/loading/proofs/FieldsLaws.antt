@@ -127,4 +127,4 @@ module _ (b : List ℕ) (at len : ℕ) (h : Shape) (x p : ℕ) (w₀ : List ℕ)
             others = t.others ∙ s.others;
           }
 
-pub ruleset fields-ways = (load_start, load_inside, load_word, load_done, load_falls, load_from, load_to, load_ready, load_turn, arith)
+pub ruleset fields_ways = (load_start, load_inside, load_word, load_done, load_falls, load_from, load_to, load_ready, load_turn, arith)

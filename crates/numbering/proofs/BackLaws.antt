@@ -72,7 +72,7 @@ parent_on w i d (suc j) x inv h e l =
     let e' : x ≡ depth_of w j = rw k at e in
     rw k (sym (parent_over w d j (omega arith)) ∙ inv)
 
-pub ruleset parent-ways = (parent_none, parent_here, parent_on, arith)
+pub ruleset parent_ways = (parent_none, parent_here, parent_on, arith)
 
 -- t of them were counted
 pub twins_none : (w : List ℕ) (i d c j t : ℕ) → t + twins_before w d c j ≡ twins_before w d c i → j ≤ 0 → t ≡ twins_before w d c i
@@ -95,7 +95,7 @@ twins_on w i d c (suc j) t x y inv h e l f =
     let f' : y ≡ twin_at w j d c = rw k at f in
     rw k (omega (arith, twins_over w d c j (omega arith)))
 
-pub ruleset twins-ways = (twins_none, twins_here, twins_on, arith)
+pub ruleset twins_ways = (twins_none, twins_here, twins_on, arith)
 
 -- ---- the tuples of items
 

@@ -85,7 +85,7 @@ module _ (s u w : List ℕ) (n t i : ℕ) (inv : SizeAt s u w n t i) where
       let same : i ≡ n = omega (arith, inv.inside) in
       record { sum = e; is = λ f x. e ∙ sym (forest_size s u w n f x); least = omega (arith, inv.least); most = rw same at inv.most }
 
-pub ruleset size-ways = (size_start, size_turn, size_done, arith)
+pub ruleset size_ways = (size_start, size_turn, size_done, arith)
 
 -- ---- the bytes of some of the items
 
@@ -230,4 +230,4 @@ module _ (s u w : List ℕ) (n at : ℕ) (d : List ℕ) (b : Part) (e : List ℕ
       let all = block_turn s u w 0 n d at e b.behind b.count begun_state n begun.few (omega arith) r f q in
       emit_done s u w n at d r f all.is
 
-pub ruleset emit-ways = (first_room, rest_room, emit_whole, emit_rest, arith)
+pub ruleset emit_ways = (first_room, rest_room, emit_whole, emit_rest, arith)

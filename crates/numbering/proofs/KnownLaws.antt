@@ -137,7 +137,7 @@ module _ (k₀ : List ℕ) (i e : ℕ) (k : List ℕ) (d : ℕ) (inv : RunsAt k�
   pub runs_done : 8 ≤ d → (w : List ℕ) → depth_of w i < e → KnownTo e w (i + 1) k₀ → Known w (i + 1) k
   runs_done h w l r = let a = inv.right w l r in record { size = a.size; right = λ x y z. a.right x (omega arith) z }
 
-pub ruleset runs-ways = (runs_start, runs_turn, runs_done, length-set, arith)
+pub ruleset runs_ways = (runs_start, runs_turn, runs_done, length-set, arith)
 
 -- ---- `remember`
 

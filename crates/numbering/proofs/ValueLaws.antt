@@ -52,7 +52,7 @@ module _ (b : List ℕ) (o : ℕ) where
         none [] h = refl
         none (x ∷ l) h = absurd (omega arith)
 
-pub ruleset text-ways = (text_beyond, text_there, text_later, arith)
+pub ruleset text_ways = (text_beyond, text_there, text_later, arith)
 
 -- ---- the offset of a value: two bytes and a third
 
@@ -93,6 +93,6 @@ module _ (s u w : List ℕ) (i o : ℕ) (eo : o ≡ offset_of w i) where
     pub wrote_update : (source_of w i ≡ 0 → ⊥) → Wrote at (text_from u o ++ (31 ∷ [])) d r e → Wrote at (value_of s u w i ++ (31 ∷ [])) d r e
     wrote_update x p = rw (value_update x) p
 
-pub ruleset value-ways = (length_dataset, length_update, room_dataset, room_update, wrote_dataset, wrote_update, arith)
+pub ruleset value_ways = (length_dataset, length_update, room_dataset, room_update, wrote_dataset, wrote_update, arith)
 
-pub ruleset text-writes = (text_room, text_written, text_empty, arith)
+pub ruleset text_writes = (text_room, text_written, text_empty, arith)

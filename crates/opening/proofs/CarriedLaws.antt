@@ -51,7 +51,7 @@ module _ (f : List ℕ) (n p : ℕ) where
     unfolding head_at
     head_there l h = simp (lt-ltb 1 n l, lt-leb (length f) p h) eq
 
-pub ruleset head-ways = (head_missing, head_first, head_there)
+pub ruleset head_ways = (head_missing, head_first, head_there)
 
 -- a record that is there is one that the skeleton found
 pub there : (f : List ℕ) (n p : ℕ) (q : Head) → q ≡ head_at f n p → (len base a b : ℕ) → q ≡ Good len base a b → q ≡ record_at f p
@@ -101,9 +101,9 @@ module _ (f : List ℕ) (q : Head) (eq : q ≡ head_at f 1 0) where
   pub unread_stopped : (k : ℕ) → q ≡ Refused k → Stopped k 1 0 0 ≡ opened_by (carried 1 1 unread f 0)
   unread_stopped = carried_refused 1 1 unread f 0 q eq
 
-pub ruleset carried-ways = (carried_refused, carried_passed, carried_stopped, carried_in, carried_word, carried_bounded, carried_right, arith)
+pub ruleset carried_ways = (carried_refused, carried_passed, carried_stopped, carried_in, carried_word, carried_bounded, carried_right, arith)
 
-pub ruleset unread-ways = (unread_behind, unread_stopped)
+pub ruleset unread_ways = (unread_behind, unread_stopped)
 
 -- ---- CSID
 
@@ -121,7 +121,7 @@ module _ (r : List ℕ) (h : Shape) (e : Place) (en : e ≡ place_at r h 24) whe
     unfolding begins_csid first_tag verdict_of
     csid_other y = rw (fields_more r h 24 e en tag start end next x) (simp (ne_eqb tag 0x43534944 y))
 
-pub ruleset csid-ways = (csid_none, csid_first, csid_other)
+pub ruleset csid_ways = (csid_none, csid_first, csid_other)
 
 -- ---- one after the other
 

@@ -39,7 +39,7 @@ module _ (m : Mode) where
   unfolding general_format
   format_update e = simp e
 
-pub ruleset format-ways = (format_dataset, format_update)
+pub ruleset format_ways = (format_dataset, format_update)
 
 -- the tags that code hands over are those of the general record, and none is shut out
 pub unread_order : (r : List ℕ) (h : Shape) (p : ℕ) (m : Mode) (n : ℕ)
@@ -87,4 +87,4 @@ module _ (r : List ℕ) (h : Shape) (m : Mode) (e : Place) (en : e ≡ place_at 
           rw (fields_more r h 24 e en tag start end next x)
           (simp (eq-eqb tag 0x44534944 d) (rw (pass_of (in_order (λ t. false) general_rows 2 (fields_at r h next)) says (sym ei ∙ z)) (rw ek at ev)))
 
-pub ruleset general-ways = (general_none, general_after, general_right, general_runs, general_in_lem, general_other, general_out, general_dsid, arith)
+pub ruleset general_ways = (general_none, general_after, general_right, general_runs, general_in_lem, general_other, general_out, general_dsid, arith)

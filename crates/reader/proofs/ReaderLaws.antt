@@ -155,6 +155,6 @@ module _ (f : List ℕ) where
               let c = said ∙ ap said_by y in
               read_refused n (fault 11 i j) (dataset_is ∙ rw c)
 
-pub ruleset read-ways = (read_long, read_shut, read_behind)
+pub ruleset read_ways = (read_long, read_shut, read_behind)
 
-pub ruleset after-ways = (after_stopped, after_passed, after_word, after_all_lem, after_loose, three_in)
+pub ruleset after_ways = (after_stopped, after_passed, after_word, after_all_lem, after_loose, three_in)

@@ -64,7 +64,7 @@ module _ (t : ℕ) where
         unfolding kind_of
         kind_none e = simp (ne_eqb t 0x49524944 a, ne_eqb t 0x50524944 b, ne_eqb t 0x4d524944 c, ne_eqb t 0x46524944 e)
 
-pub ruleset kind-ways = (kind_info, kind_point, kind_multi, kind_feature, kind_none)
+pub ruleset kind_ways = (kind_info, kind_point, kind_multi, kind_feature, kind_none)
 
 module _ (k : Kind) where
   pub rank_info : k ≡ Info → 1 ≡ rank k
@@ -99,9 +99,9 @@ module _ (k : Kind) where
   unfolding ruin_place coded
   ruin_feature e = simp e
 
-pub ruleset rank-ways = (rank_info, rank_point, rank_multi, rank_feature)
+pub ruleset rank_ways = (rank_info, rank_point, rank_multi, rank_feature)
 
-pub ruleset ruin-places = (ruin_info, ruin_point, ruin_multi, ruin_feature)
+pub ruleset ruin_places = (ruin_info, ruin_point, ruin_multi, ruin_feature)
 
 -- ---- RUIN
 
@@ -121,7 +121,7 @@ module _ (k : Kind) (r : List ℕ) (start end at : ℕ) (e : at ≡ ruin_place k
   pub ruin_past : end - start ≤ at → 0 ≡ ruin_byte k (between r start end)
   ruin_past h = sym (ruin_is ∙ part_past r start end at h)
 
-pub ruleset ruin-ways = (ruin_there, ruin_past)
+pub ruleset ruin_ways = (ruin_there, ruin_past)
 
 -- ---- as in a dataset
 
@@ -134,7 +134,7 @@ module _ (m : Mode) (ruin : ℕ) where
   unfolding as_stored
   stored_update e = simp e
 
-pub ruleset stored-ways = (stored_dataset, stored_update)
+pub ruleset stored_ways = (stored_dataset, stored_update)
 
 -- ---- fields that are needed
 
@@ -155,7 +155,7 @@ module _ (k : Kind) (fs : List Field) where
   unfolding complete rows_of
   complete_feature e b x = simp (e, ← x) (sym (both_true b))
 
-pub ruleset complete-ways = (complete_info, complete_multi, complete_point, complete_feature)
+pub ruleset complete_ways = (complete_info, complete_multi, complete_point, complete_feature)
 
 -- ---- the order of a kind's fields
 
@@ -179,7 +179,7 @@ module _ (r : List ℕ) (h : Shape) (p : ℕ) (s : Instructions) (k : Kind) (n :
       → n ≡ faulty_field (in_order (shut_out s) (rows_of k) 2 (fields_at r h p))
   order_feature x e = order_kind (rw x e)
 
-pub ruleset order-kinds = (order_info, order_point, order_multi, order_feature)
+pub ruleset order_kinds = (order_info, order_point, order_multi, order_feature)
 
 -- a refusal of the order is number 4 at a field, never at field 0
 abbrev pub Said : Passed → Type 0
@@ -220,7 +220,7 @@ module _ (m : Mode) (ruin : ℕ) (fs : List Field) where
   unfolding instructions_of
   instructions_update e coui x controlled y = simp (e, ← x, ← y)
 
-pub ruleset instructions-ways = (instructions_dataset, instructions_update)
+pub ruleset instructions_ways = (instructions_dataset, instructions_update)
 
 -- what is not looked for decides nothing
 shut_as_forbidden : (m : Mode) (ruin : ℕ) (fs : List Field) → shut_out (instructions_of m ruin fs) ≡ forbidden m ruin (coui_byte fs) (has COCC fs)
@@ -266,7 +266,7 @@ module _ (m : Mode) (k : Kind) (b : List ℕ) (fs : List Field) (ruin : ℕ) (s 
       unfolding fields_stand graded bind
       fields_lack x = rw stood (simp (← same_mode, not-false t n, ← ew, x))
 
-pub ruleset fields-ways = (fields_out, fields_free, fields_whole, fields_lack)
+pub ruleset fields_ways = (fields_out, fields_free, fields_whole, fields_lack)
 
 -- ---- the record
 
@@ -315,4 +315,4 @@ module _ (r : List ℕ) (h : Shape) (m : Mode) (least : ℕ) (e : Place) (en : e
             rw (fields_more r h 24 e en tag start end next x)
             (rw (found_some (kind_of tag) k (sym y ∙ eq)) (simp (← ek, le-ltb n least l) z))
 
-pub ruleset tags-ways = (tags_none, tags_after, tags_right, tags_runs, tags_in, tags_unknown, tags_early, tags_turn)
+pub ruleset tags_ways = (tags_none, tags_after, tags_right, tags_runs, tags_in, tags_unknown, tags_early, tags_turn)

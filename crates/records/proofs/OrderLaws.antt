@@ -65,7 +65,7 @@ module _ (ruin coui : ℕ) (controlled : Bool) (t : ℕ) where
           unfolding forbidden
           shut_modify i = simp (ne_eqb ruin 2 n, ne_eqb t 0x434f4343 o, eq-eqb t 0x4332494c l, both_false, ne_eqb coui 2 d, eq-eqb ruin 3 i)
 
-pub ruleset not-taken-ways = (shut_delete, shut_cocc, shut_other, shut_list, shut_insert, shut_modify)
+pub ruleset not_taken_ways = (shut_delete, shut_cocc, shut_other, shut_list, shut_insert, shut_modify)
 
 module _ (s : Instructions) (t : ℕ) where
   pub shut_general : s.general ≡ true → false ≡ shut_out s t
@@ -81,7 +81,7 @@ module _ (s : Instructions) (t : ℕ) where
     unfolding shut_out
     shut_update e b x = simp (n, e) x
 
-pub ruleset shut-out-ways = (shut_general, shut_dataset, shut_update)
+pub ruleset shut_out_ways = (shut_general, shut_dataset, shut_update)
 
 -- ---- the loop over the fields: at directory place p, row place j, field i, where the whole comes to n
 
@@ -149,4 +149,4 @@ module _ (r : List ℕ) (h : Shape) (tags : List ℕ) (s : Instructions) (p j i 
           pub order_left : (m : ℕ) → q ≡ From m → m ≤ length tags
           order_left = order_place r h tags s p j i n inv _ here tag _ _ _ refl b eb nb q eq
 
-pub ruleset order-turn = (order_end, order_counts, order_word, order_out, order_rowless, order_on, order_left, right_in, right_tag, right_on, right_word, right_falls)
+pub ruleset order_turn = (order_end, order_counts, order_word, order_out, order_rowless, order_on, order_left, right_in, right_tag, right_on, right_word, right_falls)

@@ -49,7 +49,7 @@ module _ (t : ℕ) where
   unfolding stands_often
   often_spas n m = simp (ne_eqb t 0x494e4153 n, ne_eqb t 0x4332494c m)
 
-pub ruleset often-ways = (often_inas, often_c2il, often_spas)
+pub ruleset often_ways = (often_inas, often_c2il, often_spas)
 
 module _ (t j : ℕ) (b : Bool) (e : b ≡ stands_often t) where
   pub behind_same : b ≡ true → j ≡ pick (stands_often t) j (j + 1)
@@ -58,7 +58,7 @@ module _ (t j : ℕ) (b : Bool) (e : b ≡ stands_often t) where
   pub behind_next : b ≡ false → j + 1 ≡ pick (stands_often t) j (j + 1)
   behind_next x = rw (← e, x)
 
-pub ruleset behind-ways = (behind_same, behind_next)
+pub ruleset behind_ways = (behind_same, behind_next)
 
 -- ---- the row of a field, looked for from place j on
 
@@ -76,7 +76,7 @@ module _ (ts : List ℕ) (t j : ℕ) (R : Rest) (inv : row_after ts t j ≡ R) w
     unfolding row_after rest_from
     row_later n = simp add-one (simp (ne_eqb (get_or ts j 0) t n, add-one) at (rw (drop-cons ts j 0 h) at inv))
 
-pub ruleset row-turn = (row_none, row_here, row_later, arith)
+pub ruleset row_turn = (row_none, row_here, row_later, arith)
 
 -- ---- what that says of the rows left
 

@@ -71,7 +71,7 @@ module _ (r : List ℕ) (h : Shape) (t q : ℕ) (k : RightFrom r h q) (A : Bool)
       unfolding has with_tag
       has_on z = simp (ne_eqb tag t z) at (rw (fields_more r h q _ here tag next.start next.end _ refl) at inv)
 
-pub ruleset has-turn = (has_end, has_here, has_on, right_in, right_tag, right_on, right_word, right_falls)
+pub ruleset has_turn = (has_end, has_here, has_on, right_in, right_tag, right_on, right_word, right_falls)
 
 -- ---- COUI
 
@@ -94,4 +94,4 @@ module _ (r : List ℕ) (h : Shape) (p : ℕ) (e : Place) (en : e ≡ find_from 
     pub coui_in : start < end → start < length r
     coui_in l = let i = found_in r h 0x434f4343 p e en tag start end next x in omega arith
 
-pub ruleset coui-ways = (coui_none, coui_byte_lem, coui_empty, coui_in)
+pub ruleset coui_ways = (coui_none, coui_byte_lem, coui_empty, coui_in)

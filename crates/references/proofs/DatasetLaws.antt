@@ -156,7 +156,7 @@ module _ (f : List ℕ) (start p m : ℕ) (s : Reached f start p m) (l : p < len
           references_loose recs f p m _ (s.same recs q) l h found len base a b x (fault 11 i j)
           (loose_at (each key_of recs) (marks 1 fields) k i j (sym y ∙ said recs q))
 
-pub ruleset records-turn =
+pub ruleset records_turn =
     (reached_start, reached_in, reached_over, reached_unread, record_readable_lem, record_bounded, record_right, record_in_lem, record_runs, record_small, record_word, record_counts, record_number, record_falls, record_more, record_loose)
 
 -- ---- the whole: what 1 to 7 give
@@ -169,4 +169,4 @@ module _ (f : List ℕ) (start : ℕ) (passed : outcome_from f start 0 [] ≡ do
   pub loose_table : (n : ℕ) → Tails f start (replicate n start)
   loose_table n = tails_same f start n loose_sound
 
-pub ruleset loose-ways = (loose_sound, loose_table, passed_readable, arith)
+pub ruleset loose_ways = (loose_sound, loose_table, passed_readable, arith)

@@ -26,7 +26,7 @@ use Rattle.skeleton.proofs.PlaceLaws.{fields_more, fields_done}
 use Rattle.skeleton.proofs.RightLaws.{Next, right_next, right_done, right_in, right_tag, right_on, right_falls}
 use Rattle.rules.specs.Tags.{INAS, SPAS}
 use Rattle.rules.specs.Associations.{Mark, inas_key, spas_key, spas_marks, field_marks, marks}
-use Rattle.contents.proofs.StepLaws.{step-bounds, second_right}
+use Rattle.contents.proofs.StepLaws.{step_bounds, second_right}
 use Rattle.contents.proofs.SpatialLaws.{spas_next, spas_ends}
 use Rattle.keys.specs.Key.{key_at, KeyFits}
 use Rattle.keys.specs.Listed.{has_from}
@@ -55,7 +55,7 @@ module _ (f : List ℕ) (start : ℕ) (t : List ℕ) (n : ℕ) (map v : List ℕ
   pub inas_loose : x ≡ false → Says f start (mark ∷ []) (Refused 11 i 0)
   inas_loose y = mark_loose f start laid.sound mark [] (mark ∷ []) (alike_same f start (mark ∷ [])) b 0 (inas_names b filled fits) x there y
 
-pub ruleset inas-ways = (inas_there, inas_loose)
+pub ruleset inas_ways = (inas_there, inas_loose)
 
 -- ---- the loop over the tuples of a SPAS: tuple j at offset at, where the whole is `whole`
 
@@ -107,7 +107,7 @@ module _ (b : List ℕ) (at : ℕ) (g : at < length b) (z : ending_at (tuple_of 
   pub tuples_word : length b ≤ 16777216 → at + 15 < 2 ^ 64
   tuples_word l = let i = tuples_in_lem in omega arith
 
-pub ruleset tuples-turn =
+pub ruleset tuples_turn =
     (alike_same, tuples_over, tuples_more, tuples_loose, tuples_end, tuples_in_lem, tuples_falls, tuples_word, spas_ends, arith)
 
 -- ---- one field
@@ -128,7 +128,7 @@ module _ (f : List ℕ) (start tag : ℕ) (b : List ℕ) (i : ℕ) where
     unfolding field_marks
     field_other m = simp (ne_eqb tag 0x494e4153 n, ne_eqb tag 0x53504153 m) (says_none f start [] (alike_same f start []))
 
-pub ruleset field-ways = (field_inas, field_spas, field_other, inas_readable, spas_readable)
+pub ruleset field_ways = (field_inas, field_spas, field_other, inas_readable, spas_readable)
 
 -- ---- the fields of a record one by one: field i at place q, where the whole is `whole`
 
@@ -229,4 +229,4 @@ part_small r i j n h = omega (arith, length-take (j - i) (drop i r), length-drop
 
 pub ruleset fields_turn = (second_readable, second_alike, behind_right, fields_end, fields_counts, fields_number, fields_word, fields_readable, fields_passed, fields_loose, right_in, right_on, right_falls)
 
-pub ruleset entry-ways = (entry_done, entry_there, entry_plain, part_small, readable_here, step-bounds, right_tag)
+pub ruleset entry_ways = (entry_done, entry_there, entry_plain, part_small, readable_here, step_bounds, right_tag)

@@ -5,8 +5,8 @@ use mathlib.Core.Bool.{Bool, true, false, true≢false}
 use Prim.Native.Nat.{ℕ, ◌+◌, ◌-◌, ◌/◌, ◌≤◌, ◌<◌}
 use native.Mathlib.Omega.{arith}
 use lib.ListN.{length, replicate}
-use Rattle.skeleton.proofs.PlaceLaws.{place-bounds}
-use Rattle.skeleton.proofs.RecordLaws.{record-bounds}
+use Rattle.skeleton.proofs.PlaceLaws.{place_bounds}
+use Rattle.skeleton.proofs.RecordLaws.{record_bounds}
 use Rattle.memory.specs.Hold.{zeros}
 use Rattle.keys.specs.Bits.{flag_of}
 use Rattle.keys.specs.Listed.{keys_from, has_from}
@@ -51,7 +51,7 @@ module _ (f : List ℕ) (start p : ℕ) (l : Tail f start p) (e : Look) (en : e 
 pub vouched_some : (f : List ℕ) (start : ℕ) (b k : List ℕ) → Vouched f start b k → 0 < length b
 vouched_some f start b k v = v.some
 
-pub ruleset all-turn = (all_vouched, all_falls, vouched_some, near_on, near_word, near_in, near_small, arith)
+pub ruleset all_turn = (all_vouched, all_falls, vouched_some, near_on, near_word, near_in, near_small, arith)
 
 -- ---- `refill`
 
@@ -59,14 +59,14 @@ pub unmet_vouched : (f : List ℕ) (start : ℕ) (b k : List ℕ) → Unmet k �
 unfolding Vouches
 unmet_vouched f start b k u s = record { some = s; vouches = means_unmet (λ key. has_from f start key ≡ true) b k u }
 
-pub ruleset sift-ways = (unmet_zeros, unmet_sifted, arith)
+pub ruleset sift_ways = (unmet_zeros, unmet_sifted, arith)
 
 -- ---- `found` and `exists`
 
 pub found_there : (b h : Bool) → (b ≡ true → h ≡ true) → b ≡ true → true ≡ h
 found_there b h g e = sym (g e)
 
-pub ruleset found-ways = (found_there, vouched_some, arith)
+pub ruleset found_ways = (found_there, vouched_some, arith)
 
 module _ (f : List ℕ) (start : ℕ) (t : List ℕ) (n : ℕ) (map k : List ℕ) (a : Aided f start t n map k) where
   pub aided_sound : Sound f start
@@ -87,7 +87,7 @@ module _ (f : List ℕ) (start : ℕ) (t : List ℕ) (n : ℕ) (map k : List ℕ
     aided_anew x t' k' v =
         record { sound = a.sound; slots = a.slots; table = λ y. absurd (true≢false (sym y ∙ sym eo ∙ x)); book = λ _. v }
 
-pub ruleset exists-ways = (aided_flag, aided_table, aided_book, aided_sound, aided_anew, arith)
+pub ruleset exists_ways = (aided_flag, aided_table, aided_book, aided_sound, aided_anew, arith)
 
 -- ---- before a record is looked at
 
@@ -102,6 +102,6 @@ aided_start f start t n map l s m =
       book = λ _. unmet_vouched f start t (replicate m 0) (unmet_zeros m (replicate m 0) refl) s;
     }
 
-pub ruleset place-turn = (place-bounds, arith)
+pub ruleset place_turn = (place_bounds, arith)
 
-pub ruleset collect-turn = (record-bounds, arith)
+pub ruleset collect_turn = (record_bounds, arith)

@@ -66,7 +66,7 @@ module _ (g : Progress) where
     unfolding pass_after
     after_one to e = rw e
 
-pub ruleset after-ways = (within_number, within_count, after_nothing, after_loose, after_one)
+pub ruleset after_ways = (within_number, within_count, after_nothing, after_loose, after_one)
 
 -- ---- `pass_from`
 
@@ -79,7 +79,7 @@ module _ (s : Pass) (next : ℕ) where
   unfolding pass_from
   from_went g e = rw e
 
-pub ruleset from-ways = (from_loose, from_went)
+pub ruleset from_ways = (from_loose, from_went)
 
 -- ---- the bytes behind what is written
 

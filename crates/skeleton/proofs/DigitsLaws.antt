@@ -92,4 +92,4 @@ number_small s at w h =
     digits_below (10 ^ 9) (window s at w) 0 (omega arith) (room_start 9 (length (window s at w)) (simp length-take (omega arith)))
 
 -- a turn of `number_at`
-pub ruleset number-turn = (number_done, number_low, number_high, number_more, room_byte, room_times, room_plus, arith)
+pub ruleset number_turn = (number_done, number_low, number_high, number_more, room_byte, room_times, room_plus, arith)

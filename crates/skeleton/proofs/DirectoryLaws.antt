@@ -156,7 +156,7 @@ module _ (r : List ℕ) (base a b p at n : ℕ) (inv : (fields_from r base a b p
       pub dir_word : length r < 2 ^ 64 → at + len < 2 ^ 64
       dir_word w = let h = dir_in in omega arith
 
-pub ruleset directory-turn =
+pub ruleset directory_turn =
     (dir_not, dir_more, dir_end, dir_end_not, dir_bad, dir_in, dir_word, field_falls, pos_small, len_small, end_in, arith)
 
 -- ---- one entry
@@ -236,7 +236,7 @@ module _ (r : List ℕ) (a b p : ℕ) where
         pub entry_zeros_fits : t ≡ true → 4 + (2 + 3) + (2 + 3) ≤ length r - p
         entry_zeros_fits y = let s = small_holds r a b p (sym et ∙ y) in omega (arith, s.0, s.1)
 
-pub ruleset entry-ways = (entry_past_lem, entry_end, entry_short, entry_zeros, entry_any)
+pub ruleset entry_ways = (entry_past_lem, entry_end, entry_short, entry_zeros, entry_any)
 
 -- ---- what `zeros_at` and `is_small` return
 
@@ -269,7 +269,7 @@ module _ (r : List ℕ) (a b p : ℕ) where
       unfolding small_at
       small_last y s es = simp (eq-eqb a 5 i, eq-eqb b 5 j, ← et, not-false t y, es)
 
-pub ruleset small-ways = (small_first, small_second, small_third, small_last)
+pub ruleset small_ways = (small_first, small_second, small_third, small_last)
 
 -- ---- what `entry_in` returns, by what it reads
 module _ (r : List ℕ) (z a b p : ℕ) (m : Number) (em : m ≡ number_at r (p + 4 + z) a) where
@@ -286,4 +286,4 @@ module _ (r : List ℕ) (z a b p : ℕ) (m : Number) (em : m ≡ number_at r (p 
     unfolding entry_past
     entry_field pos tag y w = simp (← em, x, ← ek, y, ← w)
 
-pub ruleset entry-in-ways = (entry_no_len, entry_no_pos, entry_field)
+pub ruleset entry_in_ways = (entry_no_len, entry_no_pos, entry_field)

@@ -42,7 +42,7 @@ module _ (r : List ℕ) (h : Shape) (t p : ℕ) (f : Place) (inv : find_from r h
     unfolding find_from place_with
     find_more z = simp (x, ne_eqb tag t z) at turn
 
-pub ruleset find-turn = (find_done, find_here, find_more, place_falls)
+pub ruleset find_turn = (find_done, find_here, find_more, place_falls)
 
 -- ---- what is found
 
@@ -116,4 +116,4 @@ module _ (r : List ℕ) (h : Shape) (t p : ℕ) (e : Place) (en : e ≡ find_fro
     found_in = let k = in_record_lem in omega arith
 
 -- what a caller of `find` wants besides the laws of its own definition
-pub ruleset found-bounds = (found_tag, found_falls, found_runs, found_in)
+pub ruleset found_bounds = (found_tag, found_falls, found_runs, found_in)

@@ -39,7 +39,7 @@ module _ (t s : List ℕ) (i : ℕ) (r : Bool) (inv : shaped_from t s i ≡ r) w
       pub shaped_more : not b ≡ false → shaped_from t s (i + 1) ≡ r
       shaped_more n = simp (← e, not-false b n) at shaped_cons
 
-pub ruleset shaped-turn = (shaped_done, shaped_not, shaped_more, arith)
+pub ruleset shaped_turn = (shaped_done, shaped_not, shaped_more, arith)
 
 -- what begins as a template fits it at each place
 shaped_at : (t s : List ℕ) (i : ℕ) → i < length t → shaped t s ≡ true → fits_byte (get_or t i 0) (get_or s i 0) ≡ true
@@ -113,7 +113,7 @@ module _ (s : List ℕ) (first : Bool) where
     unfolding leader_of
     leader_numbers n r x = simp (le-ltb _ _ h, ← e, n, x)
 
-pub ruleset leader-ways = (leader_short, leader_bytes, leader_numbers)
+pub ruleset leader_ways = (leader_short, leader_bytes, leader_numbers)
 
 -- what `stated` returns, by its tests
 module _ (s : List ℕ) (n : Number) (en : n ≡ number_at s 0 5) where
@@ -135,4 +135,4 @@ module _ (s : List ℕ) (n : Number) (en : n ≡ number_at s 0 5) where
       unfolding stated_of
       stated_good h a b p q = simp (← en, x, ← em, y, le-ltb _ _ h, p, q)
 
-pub ruleset stated-ways = (stated_no_len, stated_no_base, stated_past, stated_good)
+pub ruleset stated_ways = (stated_no_len, stated_no_base, stated_past, stated_good)

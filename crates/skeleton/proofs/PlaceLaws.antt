@@ -70,7 +70,7 @@ module _ (r : List ℕ) (h : Shape) (p : ℕ) (e : Place) (en : e ≡ place_at r
   place_in_lem = let k = held in omega arith
 
 -- what a caller's loop over fields wants besides the laws of its own definition
-pub ruleset place-bounds = (place_falls, place_runs, place_in_lem)
+pub ruleset place_bounds = (place_falls, place_runs, place_in_lem)
 
 -- ---- one after the other
 
@@ -179,4 +179,4 @@ module _ (r : List ℕ) (h : Shape) (p : ℕ) (e : Entry) (en : e ≡ entry_at r
       pub after_word : h.base + pos + len < 2 ^ 64
       after_word = omega (arith, field_small r h.a h.b p e en tag pos len next x k.a_small k.b_small)
 
-pub ruleset place-ways = (place_end, place_bad, place_empty, place_past, place_there, start_word, after_word)
+pub ruleset place_ways = (place_end, place_bad, place_empty, place_past, place_there, start_word, after_word)

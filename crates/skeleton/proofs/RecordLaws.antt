@@ -59,7 +59,7 @@ module _ (f : List ℕ) (at : ℕ) (h : Head) (eh : h ≡ leader_of (rest f at) 
       unfolding record_at
       record_bad z = simp (← at_rest, x, ← ending, ne_eqb n 0 z)
 
-pub ruleset record-ways = (record_cut, record_shape, record_refused, record_good, record_bad)
+pub ruleset record_ways = (record_cut, record_shape, record_refused, record_good, record_bad)
 
 -- what `stated_at` returns
 module _ (f : List ℕ) (at : ℕ) where
@@ -75,7 +75,7 @@ module _ (f : List ℕ) (at : ℕ) where
     unfolding stated_at
     stated_there r x = simp (le-ltb _ _ h) (rw (rest_is f at) at x)
 
-pub ruleset stated-at-ways = (stated_short, stated_room, stated_there)
+pub ruleset stated_at_ways = (stated_short, stated_room, stated_there)
 
 -- ---- what holds of a record that is right
 
@@ -156,4 +156,4 @@ module _ (f : List ℕ) (at : ℕ) (h : Head) (eh : h ≡ record_at f at) where
     record_bounded = right.bounded
 
 -- what a caller's loop over records wants besides the laws of its own definition
-pub ruleset record-bounds = (record_in_lem, record_falls, record_word, record_bounded)
+pub ruleset record_bounds = (record_in_lem, record_falls, record_word, record_bounded)

@@ -83,4 +83,4 @@ right_after r h q k e en tag start end next x =
     rw l.next_is (right_on r h q k l.opens)
 
 -- what a walk over the tags of a right directory wants besides the laws of its own definition
-pub ruleset right-bounds = (right_in, right_tag, right_on, right_word, right_falls)
+pub ruleset right_bounds = (right_in, right_tag, right_on, right_word, right_falls)

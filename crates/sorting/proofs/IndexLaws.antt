@@ -13,7 +13,7 @@ use lib.Dec.{ltb}
 use Rattle.keys.specs.Look.{look_at, Sound}
 use Rattle.keys.specs.declared.look.Look.{Look}
 use Rattle.keys.specs.declared.look.Look.TheVariants.{At, Nothing}
-use Rattle.keys.proofs.SoundLaws.{Next as Follows, sound_nothing, sound-bounds}
+use Rattle.keys.proofs.SoundLaws.{Next as Follows, sound_nothing, sound_bounds}
 use Rattle.sorting.specs.Numbers.{number_at, Stored, Has, Mixed, Ascends, Parted}
 use Rattle.keys.specs.Places.{Leads, here, over, Names}
 use Rattle.sorting.specs.Places.{Skips, Next, Late, at_one, weight_of, Entry, Filled, Sorted, Indexed}
@@ -36,7 +36,7 @@ count_more u q s e x len key y n h = let l = (follows u q len key s (sym x ∙ y
 pub count_word : (u : List ℕ) (q : ℕ) → Sound u q → (n : ℕ) → n ≤ q → n ≤ 16777216
 count_word u q s n h = let i = s.inside in let l = s.small in omega arith
 
-pub ruleset count_turn = (count_more, count_word, sound-bounds, arith)
+pub ruleset count_turn = (count_more, count_word, sound_bounds, arith)
 
 -- ---- `next_plain`
 
@@ -76,7 +76,7 @@ module _ (u : List ℕ) (key p q : ℕ) (a : Skipping u key p q) where
         names = λ l. record { leads = a.leads; len = len; look = sym en ∙ x ∙ ap (At len) z };
       }
 
-pub ruleset skipping-turn = (skipping_start, skipping_sound, skipping_over, skipping_nothing, skipping_more, skipping_here, sound-bounds, arith)
+pub ruleset skipping_turn = (skipping_start, skipping_sound, skipping_over, skipping_nothing, skipping_more, skipping_here, sound_bounds, arith)
 
 -- ---- `fill`
 
@@ -180,7 +180,7 @@ module _ (u : List ℕ) (us q n : ℕ) (s : List ℕ) (o : Sound u us) (a : Fill
         all = any;
       }
 
-pub ruleset filling-turn = (filling_start, filling_sound, filling_place, filling_count, filling_more, sound-bounds, arith)
+pub ruleset filling_turn = (filling_start, filling_sound, filling_place, filling_count, filling_more, sound_bounds, arith)
 
 -- ---- `build`
 

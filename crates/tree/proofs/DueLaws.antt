@@ -159,7 +159,7 @@ reach_behind f at on r e = rw e (reach_next f 0 at r)
 pub on_less : (f : List ℕ) (at on : ℕ) → at < length f → on ≡ past f at → length f - on < length f - at
 on_less f at on h e = omega (arith, past_above f at)
 
-pub ruleset gather-turn = (tuple_within, code_within, whole_past, whole_on, on_above, on_less, arith)
+pub ruleset gather_turn = (tuple_within, code_within, whole_past, whole_on, on_above, on_less, arith)
 
 -- ---- `held`
 

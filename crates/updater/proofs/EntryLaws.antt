@@ -152,7 +152,7 @@ module _ (f u : List ℕ) (ds us front : ℕ) (k : Begun f u ds us front) where
           let counted = whole_counted _ _ front len n whole in
           acted_done f u ds us front k (length o) size big fine linked len long h o o' refl g n counted (c.stands len n x g)
 
-pub ruleset finish-ways = (begun_ready, begun_small, loose_acted, long_acted, short_acted, count_word, done_acted)
+pub ruleset finish_ways = (begun_ready, begun_small, loose_acted, long_acted, short_acted, count_word, done_acted)
 
 -- ---- the tests before the general records
 

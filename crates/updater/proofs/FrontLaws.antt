@@ -37,7 +37,7 @@ module _ (f : List ℕ) (p : ℕ) (q : Head) (e : q ≡ record_at f p) where
   pub cut_never : There f p → (n : ℕ) → q ≡ Refused n → (r : Piece) → Cut f p r
   cut_never t n x r = absurd (let y : Refused n ≡ Good t.0 t.1.base t.1.a t.1.b = sym x ∙ e ∙ t.2 in let z : ◌≡◌ {A = ℕ} 0 1 = cc in omega arith)
 
-pub ruleset found-ways = (cut_good, cut_never, record_word, arith)
+pub ruleset found_ways = (cut_good, cut_never, record_word, arith)
 
 -- ---- a piece that lies in its file
 
@@ -83,7 +83,7 @@ module _ (old new : List Field) (b : Bool) (e : number8 old new ≡ pick b pass 
     unfolding general_by general bind number12
     general_stands h = rw eight (rw (← en, le-ltb 99999 n h) (ap (λ (m : ℕ). Long m) en))
 
-pub ruleset general-ways = (general_unlike, general_too_long, general_stands)
+pub ruleset general_ways = (general_unlike, general_too_long, general_stands)
 
 -- ---- the lengths of the three
 
@@ -101,7 +101,7 @@ module _ (fs : List Field) (small : written_length fs ≤ 99999) (c : ℕ) (ec :
     pub front_is : a + (n + c) ≡ written_length gs + (n + written_length fs)
     front_is = omega (arith, ap written_length (house_carried gs), ap written_length (house_carried fs))
 
-pub ruleset front-ways = (third_word, front_word, front_is)
+pub ruleset front_ways = (third_word, front_word, front_is)
 
 -- ---- written one behind the other
 
@@ -114,7 +114,7 @@ module _ (fs : List Field) (at : ℕ) (o : List ℕ) where
       → (n ≡ at + written_length fs) × Wrote at (emit field_width field_width first fs) o n o'
   carried_wrote first n o' w = rw (house_carried fs) at w
 
-pub ruleset carried-ways = (carried_room, carried_wrote, lies_bounded, lies_short)
+pub ruleset carried_ways = (carried_room, carried_wrote, lies_bounded, lies_short)
 
 module _ (gs ms fs : List Field) (o : List ℕ) (room : written_length gs + (written_length ms + written_length fs) ≤ length o) where
   pub room_first : 0 + written_length gs ≤ length o

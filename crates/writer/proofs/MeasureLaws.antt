@@ -88,7 +88,7 @@ module _ (f : List ℕ) (p n total : ℕ) (inv : MeasuresAt f p n total) where
         pub number_word : length f ≤ 16777216 → n + 1 < 2 ^ 64
         number_word w = let c = inv.few in omega arith
 
-pub ruleset measure-turn = (
+pub ruleset measure_turn = (
   part_small,
   measure_start,
   measure_over,

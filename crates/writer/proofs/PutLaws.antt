@@ -85,7 +85,7 @@ module _ (f out₀ out : List ℕ) (p n q : ℕ) (inv : PutsAt f out₀ out p n 
             some = omega arith;
           }
 
-pub ruleset put-turn = (
+pub ruleset put_turn = (
   part_small,
   put_start,
   put_over,

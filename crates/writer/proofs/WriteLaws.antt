@@ -106,7 +106,7 @@ module _ (f : List ℕ) (size records : ℕ) (k : Ready f size records) where
             let front : take end o ≡ written_bytes k.dataset = wrote_take w (omega (arith, form_long, ap length form_is)) ∙ form_is in
             record { answers = rw (fits, end_is, k.counted); fills = rw (fits, e, front, wrote_length w) }
 
-pub ruleset out-ways = (out_long, out_short, out_room, out_end, out_done, arith)
+pub ruleset out_ways = (out_long, out_short, out_room, out_end, out_done, arith)
 
 -- ---- any bytes
 

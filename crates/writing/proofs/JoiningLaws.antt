@@ -44,7 +44,7 @@ module _ (joins : Bool) (t : ℕ) where
       unfolding is_list
       list_c2il s = rw (not-false joins on, ne_eqb t 0x41545452 a, ne_eqb t 0x53504153 s)
 
-pub ruleset list-ways = (list_off, list_attr, list_spas, list_c2il)
+pub ruleset list_ways = (list_off, list_attr, list_spas, list_c2il)
 
 module _ (joins : Bool) (t n : ℕ) (b : Bool) (eb : b ≡ is_list joins t) where
   pub empty_list_lem : b ≡ true → eqb n 0 ≡ empty_list joins t n
@@ -55,7 +55,7 @@ module _ (joins : Bool) (t n : ℕ) (b : Bool) (eb : b ≡ is_list joins t) wher
   unfolding empty_list
   empty_not e = rw (← eb, e)
 
-pub ruleset empty-ways = (empty_list_lem, empty_not)
+pub ruleset empty_ways = (empty_list_lem, empty_not)
 
 module _ (joins : Bool) (t u n : ℕ) where
   pub on_same : t ≡ u → true ≡ goes_on joins t u n
@@ -66,7 +66,7 @@ module _ (joins : Bool) (t u n : ℕ) where
   unfolding goes_on
   on_empty d b e = rw (ne_eqb t u d, e)
 
-pub ruleset on-ways = (on_same, on_empty)
+pub ruleset on_ways = (on_same, on_empty)
 
 -- ---- bodies
 
@@ -169,7 +169,7 @@ module _ (joins : Bool) (r : List ℕ) (h : Shape) (t p q size : ℕ) (inv : Run
               small = omega (arith, k.next_is, k.body_in);
             }
 
-pub ruleset run-turn = (run_start, run_alone, run_done, run_word, run_stop, run_again, place_falls, place_runs)
+pub ruleset run_turn = (run_start, run_alone, run_done, run_word, run_stop, run_again, place_falls, place_runs)
 
 -- ---- `next_written`
 
@@ -219,4 +219,4 @@ module _ (joins : Bool) (r : List ℕ) (h : Shape) (p q : ℕ) (inv : house_at j
               small = omega (arith, k.next_is, k.body_in);
             }
 
-pub ruleset next-turn = (next_done, next_in, next_further, next_skips, next_word, next_found, place_falls, place_runs)
+pub ruleset next_turn = (next_done, next_in, next_further, next_skips, next_word, next_found, place_falls, place_runs)

@@ -112,4 +112,4 @@ module _ (fs : List Field) (s : Sum) (e : Summed fs s) where
   pub length_told : (n : ℕ) → n ≡ 25 + 14 * s.fields + s.bytes → n ≡ written_length fs
   length_told n h = h ∙ length_is
 
-pub ruleset length-ways = (length_product, length_head, length_word, length_is, length_told)
+pub ruleset length_ways = (length_product, length_head, length_word, length_is, length_told)

@@ -118,7 +118,7 @@ module _ (joins : Bool) (r : List ℕ) (h : Shape) (t from : ℕ) (out₀ : List
               left = put_on (run_body joins t (fields_at r h next)) w ∙ ap (λ (l : List ℕ). put p l out) (sym more) ∙ inv.left;
             }
 
-pub ruleset joins-turn = (joins_start, joins_alone, joins_done, joins_stop, joins_room, joins_in, joins_more, place_falls, place_runs)
+pub ruleset joins_turn = (joins_start, joins_alone, joins_done, joins_stop, joins_room, joins_in, joins_more, place_falls, place_runs)
 
 -- ---- `put_directory`
 
@@ -168,7 +168,7 @@ module _ (joins : Bool) (r : List ℕ) (h : Shape) (out₀ : List ℕ) (at : ℕ
               ∙ ap (λ (l : List ℕ). put p l out) (sym entries_there) ∙ inv.left;
         }
 
-pub ruleset directory-turn = (directory_start, directory_done, directory_room, directory_word, directory_more, found_falls, found_word)
+pub ruleset directory_turn = (directory_start, directory_done, directory_room, directory_word, directory_more, found_falls, found_word)
 
 -- ---- `put_fields`
 
@@ -307,7 +307,7 @@ module _ (fs : List Field) (at : ℕ) (o : List ℕ) (g : at + written_length fs
         wrote_length w₃,
       )
 
-pub ruleset record-ways = (
+pub ruleset record_ways = (
   length_product,
   length_head,
   length_word,

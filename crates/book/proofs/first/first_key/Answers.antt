@@ -1,17 +1,17 @@
-use Rattle.book.proofs.FirstLaws.{first-key-ways}
+use Rattle.book.proofs.FirstLaws.{first_key_ways}
 use Rattle.book.proofs.first.first_key.Goals as goal
 
 pub slice_bounds-key_at-count : goal.slice_bounds-key_at-count
-slice_bounds-key_at-count c = search first-key-ways
+slice_bounds-key_at-count c = search first_key_ways
 
 pub slice_bounds-key_at-start : goal.slice_bounds-key_at-start
-slice_bounds-key_at-start c = search first-key-ways
+slice_bounds-key_at-start c = search first_key_ways
 
 pub slice_bounds-key_at-end : goal.slice_bounds-key_at-end
-slice_bounds-key_at-end c = search first-key-ways
+slice_bounds-key_at-end c = search first_key_ways
 
 pub returns-in-At : goal.returns-in-At
-returns-in-At c = search first-key-ways
+returns-in-At c = search first_key_ways
 
 pub returns-in-Done : goal.returns-in-Done
-returns-in-Done c = search first-key-ways
+returns-in-Done c = search first_key_ways

@@ -1,23 +1,23 @@
 use mathlib.Core.Path.{refl}
-use Rattle.book.proofs.FirstLaws.{gather-turn}
+use Rattle.book.proofs.FirstLaws.{gather_turn}
 use borrow.Author.Rules.{rules}
 use native.Mathlib.Omega.{arith}
 use Rattle.book.proofs.first.gather.Goals as goal
 
 pub loop-y-init : goal.loop-y-init
-loop-y-init c = (refl, refl, omega arith, search rules, search rules, search gather-turn)
+loop-y-init c = (refl, refl, omega arith, search rules, search rules, search gather_turn)
 
 pub overflow_add-q : goal.overflow_add-q
-overflow_add-q c = search gather-turn
+overflow_add-q c = search gather_turn
 
 pub overflow_add-y : goal.overflow_add-y
-overflow_add-y c = search gather-turn
+overflow_add-y c = search gather_turn
 
 pub loop-y-preserved : goal.loop-y-preserved
-loop-y-preserved c = (search rules, search rules, omega arith, omega arith, search gather-turn, search gather-turn)
+loop-y-preserved c = (search rules, search rules, omega arith, omega arith, search gather_turn, search gather_turn)
 
 pub returns-in-Nothing : goal.returns-in-Nothing
-returns-in-Nothing c = (search gather-turn, search gather-turn)
+returns-in-Nothing c = (search gather_turn, search gather_turn)
 
 pub returns : goal.returns
-returns c = (search gather-turn, search gather-turn)
+returns c = (search gather_turn, search gather_turn)

@@ -1,5 +1,5 @@
-use Rattle.book.proofs.FirstLaws.{met-ways}
+use Rattle.book.proofs.FirstLaws.{met_ways}
 use Rattle.book.proofs.first.met.Goals as goal
 
 pub returns-then-j-t : goal.returns-then-j-t
-returns-then-j-t c = search met-ways
+returns-then-j-t c = search met_ways

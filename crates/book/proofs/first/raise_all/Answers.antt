@@ -1,6 +1,6 @@
 use mathlib.Core.Path.{refl}
 use lib.ListN.{length-set}
-use Rattle.book.proofs.SparedLaws.{full_none, full-turn}
+use Rattle.book.proofs.SparedLaws.{full_none, full_turn}
 use native.Mathlib.Omega.{arith}
 use Rattle.book.proofs.first.raise_all.Goals as goal
 
@@ -11,7 +11,7 @@ pub loop-i-smaller : goal.loop-i-smaller
 loop-i-smaller c = simp length-set (omega arith)
 
 pub loop-i-preserved : goal.loop-i-preserved
-loop-i-preserved c = (simp length-set (omega arith), search full-turn)
+loop-i-preserved c = (simp length-set (omega arith), search full_turn)
 
 pub returns : goal.returns
-returns c = search full-turn
+returns c = search full_turn

@@ -1,4 +1,4 @@
-use Rattle.book.proofs.FirstLaws.{reach_start, reach-turn}
+use Rattle.book.proofs.FirstLaws.{reach_start, reach_turn}
 use borrow.Author.Rules.{rules}
 use Rattle.book.proofs.first.reach.Goals as goal
 
@@ -6,43 +6,43 @@ pub loop-p-init : goal.loop-p-init
 loop-p-init c = reach_start _ _ (search rules) (search rules)
 
 pub record_at-requires : goal.record_at-requires
-record_at-requires c = search reach-turn
+record_at-requires c = search reach_turn
 
 pub enum_known-len : goal.enum_known-len
-enum_known-len c = search reach-turn
+enum_known-len c = search reach_turn
 
 pub overflow_add-e : goal.overflow_add-e
-overflow_add-e c = search reach-turn
+overflow_add-e c = search reach_turn
 
 pub slice_bounds-first_key-count : goal.slice_bounds-first_key-count
-slice_bounds-first_key-count c = search reach-turn
+slice_bounds-first_key-count c = search reach_turn
 
 pub slice_bounds-first_key-start : goal.slice_bounds-first_key-start
-slice_bounds-first_key-start c = search reach-turn
+slice_bounds-first_key-start c = search reach_turn
 
 pub slice_bounds-first_key-end : goal.slice_bounds-first_key-end
-slice_bounds-first_key-end c = search reach-turn
+slice_bounds-first_key-end c = search reach_turn
 
 pub first_key-requires : goal.first_key-requires
-first_key-requires c = search reach-turn
+first_key-requires c = search reach_turn
 
 pub returns-then-first_key-eq0 : goal.returns-then-first_key-eq0
-returns-then-first_key-eq0 c = search reach-turn
+returns-then-first_key-eq0 c = search reach_turn
 
 pub overflow_add-m : goal.overflow_add-m
-overflow_add-m c = search reach-turn
+overflow_add-m c = search reach_turn
 
 pub loop-p-smaller : goal.loop-p-smaller
-loop-p-smaller c = search reach-turn
+loop-p-smaller c = search reach_turn
 
 pub loop-p-preserved : goal.loop-p-preserved
-loop-p-preserved c = search reach-turn
+loop-p-preserved c = search reach_turn
 
 pub enum_told-1 : goal.enum_told-1
-enum_told-1 c = search reach-turn
+enum_told-1 c = search reach_turn
 
 pub returns-in-Refused : goal.returns-in-Refused
-returns-in-Refused c = search reach-turn
+returns-in-Refused c = search reach_turn
 
 pub returns : goal.returns
-returns c = search reach-turn
+returns c = search reach_turn

@@ -1,9 +1,9 @@
-use Rattle.book.proofs.RcidLaws.{mesh-ways}
+use Rattle.book.proofs.RcidLaws.{mesh_ways}
 use native.Mathlib.Omega.{arith}
 use Rattle.book.proofs.rcids.base.Goals as goal
 
 pub returns-then-n-lt32768 : goal.returns-then-n-lt32768
-returns-then-n-lt32768 c = (search mesh-ways, omega arith, omega arith)
+returns-then-n-lt32768 c = (search mesh_ways, omega arith, omega arith)
 
 pub returns : goal.returns
-returns c = (search mesh-ways, omega arith, omega arith)
+returns c = (search mesh_ways, omega arith, omega arith)

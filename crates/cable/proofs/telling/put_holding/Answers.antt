@@ -1,10 +1,10 @@
 -- `put_holding` meets its contract. Assumes nothing.
-use Rattle.cable.proofs.TellingLaws.{put_all, put-ways}
+use Rattle.cable.proofs.TellingLaws.{put_all, put_ways}
 use borrow.Author.Rules.{rules}
 use Rattle.cable.proofs.telling.put_holding.Goals as goal
 
 pub put_part-requires : goal.put_part-requires
-put_part-requires c = (search rules, search put-ways)
+put_part-requires c = (search rules, search put_ways)
 
 pub returns : goal.returns
 returns c = let g = c.requires in

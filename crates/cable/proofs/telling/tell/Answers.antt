@@ -1,21 +1,21 @@
 -- `tell` meets its contract. Assumes nothing.
-use Rattle.cable.proofs.TellingLaws.{tell-ways}
+use Rattle.cable.proofs.TellingLaws.{tell_ways}
 use Rattle.cable.proofs.telling.tell.Goals as goal
 
 pub slice_bounds-tell_dsid-count : goal.slice_bounds-tell_dsid-count
-slice_bounds-tell_dsid-count c = search tell-ways
+slice_bounds-tell_dsid-count c = search tell_ways
 
 pub slice_bounds-tell_dsid-start : goal.slice_bounds-tell_dsid-start
-slice_bounds-tell_dsid-start c = search tell-ways
+slice_bounds-tell_dsid-start c = search tell_ways
 
 pub slice_bounds-tell_dsid-end : goal.slice_bounds-tell_dsid-end
-slice_bounds-tell_dsid-end c = search tell-ways
+slice_bounds-tell_dsid-end c = search tell_ways
 
 pub tell_dsid-requires : goal.tell_dsid-requires
-tell_dsid-requires c = search tell-ways
+tell_dsid-requires c = search tell_ways
 
 pub returns-in-At : goal.returns-in-At
-returns-in-At c = search tell-ways
+returns-in-At c = search tell_ways
 
 pub returns-in-Stopped : goal.returns-in-Stopped
-returns-in-Stopped c = search tell-ways
+returns-in-Stopped c = search tell_ways

@@ -1,11 +1,11 @@
-use Rattle.composing.proofs.ActsLaws.{names-ways}
+use Rattle.composing.proofs.ActsLaws.{names_ways}
 use Rattle.composing.proofs.acts.deletes.Goals as goal
 
 pub returns-then-before : goal.returns-then-before
-returns-then-before c = search names-ways
+returns-then-before c = search names_ways
 
 pub returns-then-found-key : goal.returns-then-found-key
-returns-then-found-key c = search names-ways
+returns-then-found-key c = search names_ways
 
 pub returns : goal.returns
-returns c = search names-ways
+returns c = search names_ways

@@ -1,8 +1,8 @@
-use Rattle.composing.proofs.HeldLaws.{cell-ways}
+use Rattle.composing.proofs.HeldLaws.{cell_ways}
 use Rattle.composing.proofs.held.cell_key.Goals as goal
 
 pub returns-then-c-i-eq0 : goal.returns-then-c-i-eq0
-returns-then-c-i-eq0 c = search cell-ways
+returns-then-c-i-eq0 c = search cell_ways
 
 pub returns : goal.returns
-returns c = search cell-ways
+returns c = search cell_ways

@@ -1,8 +1,8 @@
-use Rattle.composing.proofs.MadeLaws.{carries-ways}
+use Rattle.composing.proofs.MadeLaws.{carries_ways}
 use Rattle.composing.proofs.making.make_untouched.Goals as goal
 
 pub returns-then-not-passes : goal.returns-then-not-passes
-returns-then-not-passes c = search carries-ways
+returns-then-not-passes c = search carries_ways
 
 pub returns : goal.returns
-returns c = search carries-ways
+returns c = search carries_ways

@@ -1,5 +1,5 @@
-use Rattle.composing.proofs.NamingLaws.{inas-ways}
+use Rattle.composing.proofs.NamingLaws.{inas_ways}
 use Rattle.composing.proofs.naming.inas_stands.Goals as goal
 
 pub returns : goal.returns
-returns c = search inas-ways
+returns c = search inas_ways

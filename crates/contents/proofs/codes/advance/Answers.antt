@@ -1,5 +1,5 @@
-use Rattle.contents.proofs.CodeLaws.{advance-ways}
+use Rattle.contents.proofs.CodeLaws.{advance_ways}
 use Rattle.contents.proofs.codes.advance.Goals as goal
 
 pub returns : goal.returns
-returns c = search advance-ways
+returns c = search advance_ways

@@ -1,5 +1,5 @@
-use Rattle.contents.proofs.CodeLaws.{code-ways}
+use Rattle.contents.proofs.CodeLaws.{code_ways}
 use Rattle.contents.proofs.codes.inas_code.Goals as goal
 
 pub returns : goal.returns
-returns c = search code-ways
+returns c = search code_ways

@@ -1,11 +1,11 @@
-use Rattle.contents.proofs.FormatLaws.{has-format-ways}
+use Rattle.contents.proofs.FormatLaws.{has_format_ways}
 use Rattle.contents.proofs.formats.has_format.Goals as goal
 
 pub returns-then-has_tuples : goal.returns-then-has_tuples
-returns-then-has_tuples c = search has-format-ways
+returns-then-has_tuples c = search has_format_ways
 
 pub returns-in-Whole : goal.returns-in-Whole
-returns-in-Whole c = search has-format-ways
+returns-in-Whole c = search has_format_ways
 
 pub returns-else-has_tuples : goal.returns-else-has_tuples
-returns-else-has_tuples c = search has-format-ways
+returns-else-has_tuples c = search has_format_ways

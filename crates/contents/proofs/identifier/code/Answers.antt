@@ -1,11 +1,11 @@
-use Rattle.contents.proofs.ReaderLaws.{reader-ways}
+use Rattle.contents.proofs.ReaderLaws.{reader_ways}
 use Rattle.contents.proofs.identifier.code.Goals as goal
 
 pub le16-requires : goal.le16-requires
-le16-requires c = search reader-ways
+le16-requires c = search reader_ways
 
 pub returns-then-is_coded : goal.returns-then-is_coded
-returns-then-is_coded c = search reader-ways
+returns-then-is_coded c = search reader_ways
 
 pub returns : goal.returns
-returns c = search reader-ways
+returns c = search reader_ways

@@ -1,8 +1,8 @@
-use Rattle.contents.proofs.ReaderLaws.{reader-ways}
+use Rattle.contents.proofs.ReaderLaws.{reader_ways}
 use Rattle.contents.proofs.identifier.rcid.Goals as goal
 
 pub le32-requires : goal.le32-requires
-le32-requires c = search reader-ways
+le32-requires c = search reader_ways
 
 pub returns : goal.returns
-returns c = search reader-ways
+returns c = search reader_ways

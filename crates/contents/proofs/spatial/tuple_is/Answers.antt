@@ -1,8 +1,8 @@
-use Rattle.contents.proofs.SpatialLaws.{tuple-is-ways}
+use Rattle.contents.proofs.SpatialLaws.{tuple_is_ways}
 use Rattle.contents.proofs.spatial.tuple_is.Goals as goal
 
 pub returns-then-le8-x : goal.returns-then-le8-x
-returns-then-le8-x c = search tuple-is-ways
+returns-then-le8-x c = search tuple_is_ways
 
 pub returns : goal.returns
-returns c = search tuple-is-ways
+returns c = search tuple_is_ways

@@ -1,29 +1,29 @@
 use mathlib.Core.Path.{refl}
-use Rattle.contents.proofs.StrayLaws.{level_end, level-turn}
+use Rattle.contents.proofs.StrayLaws.{level_end, level_turn}
 use borrow.Author.Rules.{rules}
 use native.Mathlib.Omega.{arith}
 use Rattle.contents.proofs.strays.count_strays.Goals as goal
 
 pub loop-q-init : goal.loop-q-init
-loop-q-init c = (omega arith, refl, search rules, search level-turn, search rules, search level-turn)
+loop-q-init c = (omega arith, refl, search rules, search level_turn, search rules, search level_turn)
 
 pub bounds-r-q : goal.bounds-r-q
-bounds-r-q c = search level-turn
+bounds-r-q c = search level_turn
 
 pub returns-then-r-q-eq30 : goal.returns-then-r-q-eq30
 returns-then-r-q-eq30 c = λ z. search (level_end, arith)
 
 pub tag_at-tag-requires : goal.tag_at-tag-requires
-tag_at-tag-requires c = search level-turn
+tag_at-tag-requires c = search level_turn
 
 pub overflow_add-q-in-loop-q-2 : goal.overflow_add-q-in-loop-q-2
-overflow_add-q-in-loop-q-2 c = search level-turn
+overflow_add-q-in-loop-q-2 c = search level_turn
 
 pub overflow_add-n : goal.overflow_add-n
-overflow_add-n c = search level-turn
+overflow_add-n c = search level_turn
 
 pub loop-q-smaller : goal.loop-q-smaller
-loop-q-smaller c = search level-turn
+loop-q-smaller c = search level_turn
 
 pub loop-q-preserved : goal.loop-q-preserved
-loop-q-preserved c = (search level-turn, search level-turn, search level-turn, search level-turn, search level-turn, search level-turn)
+loop-q-preserved c = (search level_turn, search level_turn, search level_turn, search level_turn, search level_turn, search level_turn)

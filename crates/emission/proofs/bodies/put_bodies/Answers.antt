@@ -1,12 +1,12 @@
-use Rattle.emission.proofs.BodiesLaws.{bodies-ways}
+use Rattle.emission.proofs.BodiesLaws.{bodies_ways}
 use native.Mathlib.Omega.{arith}
 use Rattle.emission.proofs.bodies.put_bodies.Goals as goal
 
 pub loop-i-init : goal.loop-i-init
-loop-i-init c = search bodies-ways
+loop-i-init c = search bodies_ways
 
 pub put_body-p-requires : goal.put_body-p-requires
-put_body-p-requires c = search bodies-ways
+put_body-p-requires c = search bodies_ways
 
 pub overflow_add-i : goal.overflow_add-i
 overflow_add-i c = omega arith
@@ -15,10 +15,10 @@ pub loop-i-smaller : goal.loop-i-smaller
 loop-i-smaller c = omega arith
 
 pub loop-i-preserved : goal.loop-i-preserved
-loop-i-preserved c = search bodies-ways
+loop-i-preserved c = search bodies_ways
 
 pub shape_of-out : goal.shape_of-out
-shape_of-out c = search bodies-ways
+shape_of-out c = search bodies_ways
 
 pub returns : goal.returns
-returns c = search bodies-ways
+returns c = search bodies_ways

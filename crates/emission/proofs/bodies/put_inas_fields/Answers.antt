@@ -1,15 +1,15 @@
-use Rattle.emission.proofs.BodiesLaws.{fields-ways}
+use Rattle.emission.proofs.BodiesLaws.{fields_ways}
 use native.Mathlib.Omega.{arith}
 use Rattle.emission.proofs.bodies.put_inas_fields.Goals as goal
 
 pub loop-i-init : goal.loop-i-init
-loop-i-init c = search fields-ways
+loop-i-init c = search fields_ways
 
 pub put_body-q-requires : goal.put_body-q-requires
-put_body-q-requires c = search fields-ways
+put_body-q-requires c = search fields_ways
 
 pub put_byte-p-requires : goal.put_byte-p-requires
-put_byte-p-requires c = search fields-ways
+put_byte-p-requires c = search fields_ways
 
 pub overflow_add-i : goal.overflow_add-i
 overflow_add-i c = omega arith
@@ -18,10 +18,10 @@ pub loop-i-smaller : goal.loop-i-smaller
 loop-i-smaller c = omega arith
 
 pub loop-i-preserved : goal.loop-i-preserved
-loop-i-preserved c = search fields-ways
+loop-i-preserved c = search fields_ways
 
 pub shape_of-out : goal.shape_of-out
-shape_of-out c = search fields-ways
+shape_of-out c = search fields_ways
 
 pub returns : goal.returns
-returns c = search fields-ways
+returns c = search fields_ways

@@ -1,9 +1,9 @@
 use Rattle.emission.proofs.IdentLaws.{rcid_room, code_left, rver_room, ruin_room, wrote_ident}
-use Rattle.emission.proofs.IdentLaws.{ident-ways}
+use Rattle.emission.proofs.IdentLaws.{ident_ways}
 use Rattle.emission.proofs.identifier.put_ident.Goals as goal
 
 pub put_byte-p1-requires : goal.put_byte-p1-requires
-put_byte-p1-requires c = search ident-ways
+put_byte-p1-requires c = search ident_ways
 
 pub put_little_endian-p2-requires : goal.put_little_endian-p2-requires
 put_little_endian-p2-requires c = rcid_room _ _ _ c.requires _ _ _ c.put_byte-p1.ensures

@@ -1,4 +1,4 @@
-use Rattle.fields.proofs.CountLaws.{tally-turn}
+use Rattle.fields.proofs.CountLaws.{tally_turn}
 use mathlib.Core.Path.{refl}
 use borrow.Author.Rules.{rules}
 use Rattle.fields.proofs.counting.tally_each.Goals as goal
@@ -7,13 +7,13 @@ pub loop-p-init : goal.loop-p-init
 loop-p-init c = (search rules, search rules, refl)
 
 pub returns-in-Bad : goal.returns-in-Bad
-returns-in-Bad c = search tally-turn
+returns-in-Bad c = search tally_turn
 
 pub returns-then-n-p : goal.returns-then-n-p
-returns-then-n-p c = search tally-turn
+returns-then-n-p c = search tally_turn
 
 pub loop-p-preserved : goal.loop-p-preserved
-loop-p-preserved c = (search rules, search tally-turn, search tally-turn)
+loop-p-preserved c = (search rules, search tally_turn, search tally_turn)
 
 pub returns : goal.returns
-returns c = search tally-turn
+returns c = search tally_turn

@@ -1,29 +1,29 @@
-use Rattle.fields.proofs.OftenLaws.{often-turn, often-in}
+use Rattle.fields.proofs.OftenLaws.{often_turn, often_in}
 use Rattle.fields.proofs.often.attribute_end.Goals as goal
 
 pub returns-in_default : goal.returns-in_default
-returns-in_default c = search often-turn
+returns-in_default c = search often_turn
 
 pub ranged16-requires-2 : goal.ranged16-requires-2
-ranged16-requires-2 c = search often-in
+ranged16-requires-2 c = search often_in
 
 pub returns-in_default-ranged16 : goal.returns-in_default-ranged16
-returns-in_default-ranged16 c = search often-turn
+returns-in_default-ranged16 c = search often_turn
 
 pub any_bytes-requires : goal.any_bytes-requires
-any_bytes-requires c = search often-in
+any_bytes-requires c = search often_in
 
 pub returns-in_default-any_bytes : goal.returns-in_default-any_bytes
-returns-in_default-any_bytes c = search often-turn
+returns-in_default-any_bytes c = search often_turn
 
 pub ranged8-requires : goal.ranged8-requires
-ranged8-requires c = search often-in
+ranged8-requires c = search often_in
 
 pub returns-in_default-ranged8 : goal.returns-in_default-ranged8
-returns-in_default-ranged8 c = search often-turn
+returns-in_default-ranged8 c = search often_turn
 
 pub ended_text-requires : goal.ended_text-requires
-ended_text-requires c = search often-in
+ended_text-requires c = search often_in
 
 pub returns : goal.returns
-returns c = search often-turn
+returns c = search often_turn

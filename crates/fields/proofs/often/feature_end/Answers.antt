@@ -1,29 +1,29 @@
-use Rattle.fields.proofs.OftenLaws.{often-turn, often-in}
+use Rattle.fields.proofs.OftenLaws.{often_turn, often_in}
 use Rattle.fields.proofs.often.feature_end.Goals as goal
 
 pub returns-in_default : goal.returns-in_default
-returns-in_default c = search often-turn
+returns-in_default c = search often_turn
 
 pub ranged32-requires : goal.ranged32-requires
-ranged32-requires c = search often-in
+ranged32-requires c = search often_in
 
 pub returns-in_default-ranged32 : goal.returns-in_default-ranged32
-returns-in_default-ranged32 c = search often-turn
+returns-in_default-ranged32 c = search often_turn
 
 pub ranged16-requires : goal.ranged16-requires
-ranged16-requires c = search often-in
+ranged16-requires c = search often_in
 
 pub returns-in_default-ranged16 : goal.returns-in_default-ranged16
-returns-in_default-ranged16 c = search often-turn
+returns-in_default-ranged16 c = search often_turn
 
 pub ranged16-requires-2 : goal.ranged16-requires-2
-ranged16-requires-2 c = search often-in
+ranged16-requires-2 c = search often_in
 
 pub returns-in_default-ranged16-2 : goal.returns-in_default-ranged16-2
-returns-in_default-ranged16-2 c = search often-turn
+returns-in_default-ranged16-2 c = search often_turn
 
 pub ranged8-requires-2 : goal.ranged8-requires-2
-ranged8-requires-2 c = search often-in
+ranged8-requires-2 c = search often_in
 
 pub returns : goal.returns
-returns c = search often-turn
+returns c = search often_turn

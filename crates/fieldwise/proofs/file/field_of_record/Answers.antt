@@ -1,4 +1,4 @@
-use Rattle.fieldwise.proofs.InFileLaws.{search-turn}
+use Rattle.fieldwise.proofs.InFileLaws.{search_turn}
 use mathlib.Core.Path.{refl}
 use native.Mathlib.Omega.{arith}
 use Rattle.fieldwise.proofs.file.field_of_record.Goals as goal
@@ -7,28 +7,28 @@ pub loop-left-init : goal.loop-left-init
 loop-left-init c = (omega arith, refl)
 
 pub returns-then-left-eq0 : goal.returns-then-left-eq0
-returns-then-left-eq0 c = search search-turn
+returns-then-left-eq0 c = search search_turn
 
 pub returns-then-file-at : goal.returns-then-file-at
-returns-then-file-at c = search search-turn
+returns-then-file-at c = search search_turn
 
 pub overflow_add-at : goal.overflow_add-at
-overflow_add-at c = search search-turn
+overflow_add-at c = search search_turn
 
 pub field_within-requires : goal.field_within-requires
-field_within-requires c = search search-turn
+field_within-requires c = search search_turn
 
 pub returns-then-left-eq1 : goal.returns-then-left-eq1
-returns-then-left-eq1 c = search search-turn
+returns-then-left-eq1 c = search search_turn
 
 pub overflow_add-at-in-Good : goal.overflow_add-at-in-Good
-overflow_add-at-in-Good c = search search-turn
+overflow_add-at-in-Good c = search search_turn
 
 pub loop-left-smaller : goal.loop-left-smaller
-loop-left-smaller c = search search-turn
+loop-left-smaller c = search search_turn
 
 pub loop-left-preserved : goal.loop-left-preserved
-loop-left-preserved c = (search search-turn, search search-turn)
+loop-left-preserved c = (search search_turn, search search_turn)
 
 pub returns-in-Refused : goal.returns-in-Refused
-returns-in-Refused c = search search-turn
+returns-in-Refused c = search search_turn

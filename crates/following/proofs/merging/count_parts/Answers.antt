@@ -1,32 +1,32 @@
-use Rattle.following.proofs.MergingLaws.{count-ways}
+use Rattle.following.proofs.MergingLaws.{count_ways}
 use Rattle.following.proofs.merging.count_parts.Goals as goal
 
 pub loop-j-init : goal.loop-j-init
-loop-j-init c = search count-ways
+loop-j-init c = search count_ways
 
 pub tag_of-requires : goal.tag_of-requires
-tag_of-requires c = search count-ways
+tag_of-requires c = search count_ways
 
 pub part_size-n-requires : goal.part_size-n-requires
-part_size-n-requires c = search count-ways
+part_size-n-requires c = search count_ways
 
 pub one_if-fields-requires : goal.one_if-fields-requires
-one_if-fields-requires c = search count-ways
+one_if-fields-requires c = search count_ways
 
 pub overflow_add-fields : goal.overflow_add-fields
-overflow_add-fields c = search count-ways
+overflow_add-fields c = search count_ways
 
 pub overflow_add-bytes : goal.overflow_add-bytes
-overflow_add-bytes c = search count-ways
+overflow_add-bytes c = search count_ways
 
 pub overflow_add-j : goal.overflow_add-j
-overflow_add-j c = search count-ways
+overflow_add-j c = search count_ways
 
 pub loop-j-smaller : goal.loop-j-smaller
-loop-j-smaller c = search count-ways
+loop-j-smaller c = search count_ways
 
 pub loop-j-preserved : goal.loop-j-preserved
-loop-j-preserved c = search count-ways
+loop-j-preserved c = search count_ways
 
 pub returns : goal.returns
-returns c = search count-ways
+returns c = search count_ways

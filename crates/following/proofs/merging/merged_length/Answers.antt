@@ -1,5 +1,5 @@
-use Rattle.following.proofs.WholeLaws.{whole-ways}
+use Rattle.following.proofs.WholeLaws.{whole_ways}
 use Rattle.following.proofs.merging.merged_length.Goals as goal
 
 pub returns : goal.returns
-returns c = search whole-ways
+returns c = search whole_ways

@@ -1,8 +1,8 @@
-use Rattle.following.proofs.MergingLaws.{if-ways}
+use Rattle.following.proofs.MergingLaws.{if_ways}
 use Rattle.following.proofs.merging.one_if.Goals as goal
 
 pub returns-then-n-eq0 : goal.returns-then-n-eq0
-returns-then-n-eq0 c = search if-ways
+returns-then-n-eq0 c = search if_ways
 
 pub returns : goal.returns
-returns c = search if-ways
+returns c = search if_ways

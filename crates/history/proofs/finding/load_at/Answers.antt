@@ -1,15 +1,15 @@
 -- `load_at` meets its contract. Assumes nothing.
-use Rattle.history.proofs.FindingLaws.{load_fields, load_held, load_refused, flags_stay, load-ways}
+use Rattle.history.proofs.FindingLaws.{load_fields, load_held, load_refused, flags_stay, load_ways}
 use Rattle.stock.specs.Stored.{stored}
 use mathlib.Core.Path.{sym, ◌∙◌}
 use borrow.Author.Rules.{rules}
 use Rattle.history.proofs.finding.load_at.Goals as goal
 
 pub overflow_add-at : goal.overflow_add-at
-overflow_add-at c = search load-ways
+overflow_add-at c = search load_ways
 
 pub key_at-requires : goal.key_at-requires
-key_at-requires c = search load-ways
+key_at-requires c = search load_ways
 
 pub load_record-requires : goal.load_record-requires
 load_record-requires c = (sym c.record_at.ensures ∙ c.in-Good.is, c.requires.2, search rules, stored (load_fields _ _ c.requires.0 c.requires.1 _ c.record_at.ensures _ _ _ _ c.in-Good.is _ c.key_at.ensures.0 _ c.kind_of-k.ensures))

@@ -1,23 +1,23 @@
-use Rattle.keys.proofs.PresentLaws.{near-turn}
+use Rattle.keys.proofs.PresentLaws.{near_turn}
 use Rattle.keys.proofs.present.near.Goals as goal
 
 pub look_at-requires : goal.look_at-requires
-look_at-requires c = search near-turn
+look_at-requires c = search near_turn
 
 pub returns-then-k-key : goal.returns-then-k-key
-returns-then-k-key c = search near-turn
+returns-then-k-key c = search near_turn
 
 pub returns-then-key-k : goal.returns-then-key-k
-returns-then-key-k c = search near-turn
+returns-then-key-k c = search near_turn
 
 pub overflow_add-p : goal.overflow_add-p
-overflow_add-p c = search near-turn
+overflow_add-p c = search near_turn
 
 pub loop-left-preserved : goal.loop-left-preserved
-loop-left-preserved c = search near-turn
+loop-left-preserved c = search near_turn
 
 pub returns-in-Nothing : goal.returns-in-Nothing
-returns-in-Nothing c = search near-turn
+returns-in-Nothing c = search near_turn
 
 pub returns : goal.returns
-returns c = search near-turn
+returns c = search near_turn

@@ -1,32 +1,32 @@
-use Rattle.listing.proofs.TextLaws.{text-turn}
+use Rattle.listing.proofs.TextLaws.{text_turn}
 use Rattle.listing.proofs.text.put_text.Goals as goal
 
 pub loop-k-init : goal.loop-k-init
-loop-k-init c = search text-turn
+loop-k-init c = search text_turn
 
 pub overflow_add-at : goal.overflow_add-at
-overflow_add-at c = search text-turn
+overflow_add-at c = search text_turn
 
 pub bounds-text-k : goal.bounds-text-k
-bounds-text-k c = search text-turn
+bounds-text-k c = search text_turn
 
 pub store-requires : goal.store-requires
-store-requires c = search text-turn
+store-requires c = search text_turn
 
 pub overflow_add-k : goal.overflow_add-k
-overflow_add-k c = search text-turn
+overflow_add-k c = search text_turn
 
 pub loop-k-smaller : goal.loop-k-smaller
-loop-k-smaller c = search text-turn
+loop-k-smaller c = search text_turn
 
 pub loop-k-preserved : goal.loop-k-preserved
-loop-k-preserved c = search text-turn
+loop-k-preserved c = search text_turn
 
 pub overflow_add-result : goal.overflow_add-result
-overflow_add-result c = search text-turn
+overflow_add-result c = search text_turn
 
 pub shape_of-out : goal.shape_of-out
-shape_of-out c = search text-turn
+shape_of-out c = search text_turn
 
 pub returns : goal.returns
-returns c = search text-turn
+returns c = search text_turn

@@ -1,5 +1,5 @@
 -- `load_fields` meets its contract. Assumes nothing.
-use Rattle.loading.proofs.FieldsLaws.{load_start, load_inside, load_falls, load_from, load_to, load_ready, load_turn, fields-ways}
+use Rattle.loading.proofs.FieldsLaws.{load_start, load_inside, load_falls, load_from, load_to, load_ready, load_turn, fields_ways}
 use native.Mathlib.Omega.{arith}
 use Rattle.loading.proofs.record.load_fields.Goals as goal
 
@@ -7,7 +7,7 @@ pub loop-tag-init : goal.loop-tag-init
 loop-tag-init c = load_start _ _ _ _ _ _ _ _ c.requires.1
 
 pub overflow_add-at : goal.overflow_add-at
-overflow_add-at c = search fields-ways
+overflow_add-at c = search fields_ways
 
 pub slice_bounds-place_at-count : goal.slice_bounds-place_at-count
 slice_bounds-place_at-count c = omega arith
@@ -40,4 +40,4 @@ pub shape_of-work-in-Done : goal.shape_of-work-in-Done
 shape_of-work-in-Done c = c.loop-tag.invariant.long
 
 pub returns-in-Done : goal.returns-in-Done
-returns-in-Done c = search fields-ways
+returns-in-Done c = search fields_ways

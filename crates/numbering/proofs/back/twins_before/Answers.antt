@@ -1,32 +1,32 @@
-use Rattle.numbering.proofs.BackLaws.{twins-ways}
+use Rattle.numbering.proofs.BackLaws.{twins_ways}
 use Rattle.numbering.proofs.back.twins_before.Goals as goal
 
 pub loop-j-init : goal.loop-j-init
-loop-j-init c = search twins-ways
+loop-j-init c = search twins_ways
 
 pub overflow_sub-k : goal.overflow_sub-k
-overflow_sub-k c = search twins-ways
+overflow_sub-k c = search twins_ways
 
 pub overflow_mul-k : goal.overflow_mul-k
-overflow_mul-k c = search twins-ways
+overflow_mul-k c = search twins_ways
 
 pub number-requires : goal.number-requires
-number-requires c = search twins-ways
+number-requires c = search twins_ways
 
 pub returns-then-number-depth : goal.returns-then-number-depth
-returns-then-number-depth c = search twins-ways
+returns-then-number-depth c = search twins_ways
 
 pub twin-t-requires : goal.twin-t-requires
-twin-t-requires c = search twins-ways
+twin-t-requires c = search twins_ways
 
 pub overflow_add-t : goal.overflow_add-t
-overflow_add-t c = search twins-ways
+overflow_add-t c = search twins_ways
 
 pub loop-j-smaller : goal.loop-j-smaller
-loop-j-smaller c = search twins-ways
+loop-j-smaller c = search twins_ways
 
 pub loop-j-preserved : goal.loop-j-preserved
-loop-j-preserved c = search twins-ways
+loop-j-preserved c = search twins_ways
 
 pub returns : goal.returns
-returns c = search twins-ways
+returns c = search twins_ways

@@ -1,14 +1,14 @@
-use Rattle.numbering.proofs.ValueLaws.{value-ways}
+use Rattle.numbering.proofs.ValueLaws.{value_ways}
 use Rattle.numbering.proofs.values.put_value.Goals as goal
 
 pub put_text-requires : goal.put_text-requires
-put_text-requires c = search value-ways
+put_text-requires c = search value_ways
 
 pub returns-then-w-i-eq0 : goal.returns-then-w-i-eq0
-returns-then-w-i-eq0 c = search value-ways
+returns-then-w-i-eq0 c = search value_ways
 
 pub put_text-requires-2 : goal.put_text-requires-2
-put_text-requires-2 c = search value-ways
+put_text-requires-2 c = search value_ways
 
 pub returns : goal.returns
-returns c = search value-ways
+returns c = search value_ways

@@ -1,9 +1,9 @@
-use Rattle.numbering.proofs.ValueLaws.{text-ways, text_there}
+use Rattle.numbering.proofs.ValueLaws.{text_ways, text_there}
 use native.Mathlib.Omega.{arith}
 use Rattle.numbering.proofs.values.text_length.Goals as goal
 
 pub returns-then-b-o : goal.returns-then-b-o
-returns-then-b-o c = search text-ways
+returns-then-b-o c = search text_ways
 
 pub returns : goal.returns
 returns c = text_there _ _ (omega arith) _ c.text_end.ensures

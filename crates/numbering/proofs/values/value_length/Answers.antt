@@ -1,8 +1,8 @@
-use Rattle.numbering.proofs.ValueLaws.{value-ways}
+use Rattle.numbering.proofs.ValueLaws.{value_ways}
 use Rattle.numbering.proofs.values.value_length.Goals as goal
 
 pub returns-then-w-i-eq0 : goal.returns-then-w-i-eq0
-returns-then-w-i-eq0 c = search value-ways
+returns-then-w-i-eq0 c = search value_ways
 
 pub returns : goal.returns
-returns c = search value-ways
+returns c = search value_ways

@@ -1,8 +1,8 @@
-use Rattle.records.proofs.GrammarLaws.{stored-ways}
+use Rattle.records.proofs.GrammarLaws.{stored_ways}
 use Rattle.records.proofs.grammar.as_stored.Goals as goal
 
 pub returns-in-InDataset : goal.returns-in-InDataset
-returns-in-InDataset c = search stored-ways
+returns-in-InDataset c = search stored_ways
 
 pub returns-in-InUpdate : goal.returns-in-InUpdate
-returns-in-InUpdate c = search stored-ways
+returns-in-InUpdate c = search stored_ways

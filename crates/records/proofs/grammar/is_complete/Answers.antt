@@ -1,14 +1,14 @@
-use Rattle.records.proofs.GrammarLaws.{complete-ways}
+use Rattle.records.proofs.GrammarLaws.{complete_ways}
 use Rattle.records.proofs.grammar.is_complete.Goals as goal
 
 pub returns-in-Info : goal.returns-in-Info
-returns-in-Info c = search complete-ways
+returns-in-Info c = search complete_ways
 
 pub returns-in-Point : goal.returns-in-Point
-returns-in-Point c = search complete-ways
+returns-in-Point c = search complete_ways
 
 pub returns-in-Multi : goal.returns-in-Multi
-returns-in-Multi c = search complete-ways
+returns-in-Multi c = search complete_ways
 
 pub returns-in-Feature : goal.returns-in-Feature
-returns-in-Feature c = search complete-ways
+returns-in-Feature c = search complete_ways

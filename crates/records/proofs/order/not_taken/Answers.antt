@@ -1,20 +1,20 @@
-use Rattle.records.proofs.OrderLaws.{not-taken-ways}
+use Rattle.records.proofs.OrderLaws.{not_taken_ways}
 use Rattle.records.proofs.order.not_taken.Goals as goal
 
 pub returns-then-ruin-eq2 : goal.returns-then-ruin-eq2
-returns-then-ruin-eq2 c = search not-taken-ways
+returns-then-ruin-eq2 c = search not_taken_ways
 
 pub returns-then-tag-eq1129268035 : goal.returns-then-tag-eq1129268035
-returns-then-tag-eq1129268035 c = search not-taken-ways
+returns-then-tag-eq1129268035 c = search not_taken_ways
 
 pub returns-then-tag-ne1127369036 : goal.returns-then-tag-ne1127369036
-returns-then-tag-ne1127369036 c = search not-taken-ways
+returns-then-tag-ne1127369036 c = search not_taken_ways
 
 pub returns-then-coui-eq2 : goal.returns-then-coui-eq2
-returns-then-coui-eq2 c = search not-taken-ways
+returns-then-coui-eq2 c = search not_taken_ways
 
 pub returns-then-ruin-ne3 : goal.returns-then-ruin-ne3
-returns-then-ruin-ne3 c = search not-taken-ways
+returns-then-ruin-ne3 c = search not_taken_ways
 
 pub returns : goal.returns
-returns c = search not-taken-ways
+returns c = search not_taken_ways

@@ -1,5 +1,5 @@
 use mathlib.Core.Path.{refl}
-use Rattle.records.proofs.OrderLaws.{order-turn}
+use Rattle.records.proofs.OrderLaws.{order_turn}
 use borrow.Author.Rules.{rules}
 use native.Mathlib.Omega.{arith}
 use Rattle.records.proofs.order.order.Goals as goal
@@ -8,28 +8,28 @@ pub loop-q-init : goal.loop-q-init
 loop-q-init c = (omega arith, omega arith, search rules, refl)
 
 pub bounds-r-q : goal.bounds-r-q
-bounds-r-q c = search order-turn
+bounds-r-q c = search order_turn
 
 pub returns-then-r-q-eq30 : goal.returns-then-r-q-eq30
-returns-then-r-q-eq30 c = search order-turn
+returns-then-r-q-eq30 c = search order_turn
 
 pub tag_at-tag-requires : goal.tag_at-tag-requires
-tag_at-tag-requires c = search order-turn
+tag_at-tag-requires c = search order_turn
 
 pub returns-then-shut_out : goal.returns-then-shut_out
-returns-then-shut_out c = search order-turn
+returns-then-shut_out c = search order_turn
 
 pub overflow_add-q-in-From-2 : goal.overflow_add-q-in-From-2
-overflow_add-q-in-From-2 c = search order-turn
+overflow_add-q-in-From-2 c = search order_turn
 
 pub overflow_add-i : goal.overflow_add-i
-overflow_add-i c = search order-turn
+overflow_add-i c = search order_turn
 
 pub loop-q-smaller : goal.loop-q-smaller
-loop-q-smaller c = search order-turn
+loop-q-smaller c = search order_turn
 
 pub loop-q-preserved : goal.loop-q-preserved
-loop-q-preserved c = (search order-turn, search order-turn, search order-turn, search order-turn)
+loop-q-preserved c = (search order_turn, search order_turn, search order_turn, search order_turn)
 
 pub returns-in-NoRow : goal.returns-in-NoRow
-returns-in-NoRow c = search order-turn
+returns-in-NoRow c = search order_turn

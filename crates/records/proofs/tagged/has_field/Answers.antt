@@ -1,5 +1,5 @@
 use mathlib.Core.Path.{refl}
-use Rattle.records.proofs.TaggedLaws.{has-turn}
+use Rattle.records.proofs.TaggedLaws.{has_turn}
 use borrow.Author.Rules.{rules}
 use Rattle.records.proofs.tagged.has_field.Goals as goal
 
@@ -7,22 +7,22 @@ pub loop-q-init : goal.loop-q-init
 loop-q-init c = (search rules, refl)
 
 pub bounds-r-q : goal.bounds-r-q
-bounds-r-q c = search has-turn
+bounds-r-q c = search has_turn
 
 pub returns-then-r-q-eq30 : goal.returns-then-r-q-eq30
-returns-then-r-q-eq30 c = search has-turn
+returns-then-r-q-eq30 c = search has_turn
 
 pub tag_at-requires : goal.tag_at-requires
-tag_at-requires c = search has-turn
+tag_at-requires c = search has_turn
 
 pub returns-then-tag_at-wanted : goal.returns-then-tag_at-wanted
-returns-then-tag_at-wanted c = search has-turn
+returns-then-tag_at-wanted c = search has_turn
 
 pub overflow_add-q-in-loop-q-2 : goal.overflow_add-q-in-loop-q-2
-overflow_add-q-in-loop-q-2 c = search has-turn
+overflow_add-q-in-loop-q-2 c = search has_turn
 
 pub loop-q-smaller : goal.loop-q-smaller
-loop-q-smaller c = search has-turn
+loop-q-smaller c = search has_turn
 
 pub loop-q-preserved : goal.loop-q-preserved
-loop-q-preserved c = (search has-turn, search has-turn)
+loop-q-preserved c = (search has_turn, search has_turn)

@@ -1,18 +1,18 @@
-use Rattle.references.proofs.RecordLaws.{field-ways}
+use Rattle.references.proofs.RecordLaws.{field_ways}
 use borrow.Author.Rules.{rules}
 use Rattle.references.proofs.record.field_named.Goals as goal
 
 pub inas_named-requires : goal.inas_named-requires
-inas_named-requires c = (search rules, search field-ways)
+inas_named-requires c = (search rules, search field_ways)
 
 pub returns-then-tag-eq1229865299 : goal.returns-then-tag-eq1229865299
-returns-then-tag-eq1229865299 c = (search field-ways, search rules)
+returns-then-tag-eq1229865299 c = (search field_ways, search rules)
 
 pub spas_named-requires : goal.spas_named-requires
-spas_named-requires c = (search rules, search rules, search field-ways)
+spas_named-requires c = (search rules, search rules, search field_ways)
 
 pub returns-then-tag-eq1397768531 : goal.returns-then-tag-eq1397768531
-returns-then-tag-eq1397768531 c = (search field-ways, search rules)
+returns-then-tag-eq1397768531 c = (search field_ways, search rules)
 
 pub returns : goal.returns
-returns c = (search field-ways, search rules)
+returns c = (search field_ways, search rules)

@@ -1,5 +1,5 @@
 use mathlib.Core.Path.{refl}
-use Rattle.references.proofs.VouchLaws.{all_start, all-turn}
+use Rattle.references.proofs.VouchLaws.{all_start, all_turn}
 use borrow.Author.Rules.{rules}
 use Rattle.references.proofs.vouching.vouch_all.Goals as goal
 
@@ -7,16 +7,16 @@ pub loop-p-init : goal.loop-p-init
 loop-p-init c = (refl, all_start _ _ (search rules), search rules)
 
 pub look_at-requires : goal.look_at-requires
-look_at-requires c = search all-turn
+look_at-requires c = search all_turn
 
 pub enter-requires : goal.enter-requires
-enter-requires c = search all-turn
+enter-requires c = search all_turn
 
 pub overflow_add-p : goal.overflow_add-p
-overflow_add-p c = search all-turn
+overflow_add-p c = search all_turn
 
 pub loop-p-smaller : goal.loop-p-smaller
-loop-p-smaller c = search all-turn
+loop-p-smaller c = search all_turn
 
 pub loop-p-preserved : goal.loop-p-preserved
-loop-p-preserved c = (search rules, search all-turn, search all-turn)
+loop-p-preserved c = (search rules, search all_turn, search all_turn)

@@ -1,7 +1,7 @@
 use mathlib.Core.Path.{◌≡◌}
 use Prim.Native.Nat.{ℕ}
 use borrow.Author.Tests.{eqb-true}
-use Rattle.sorting.proofs.IndexLaws.{filling_start, filling-turn, filling_count, filling_more, filling_all}
+use Rattle.sorting.proofs.IndexLaws.{filling_start, filling_turn, filling_count, filling_more, filling_all}
 use borrow.Author.Rules.{rules}
 use native.Mathlib.Omega.{arith}
 use Rattle.sorting.proofs.index.fill.Goals as goal
@@ -13,7 +13,7 @@ pub loop-q-init : goal.loop-q-init
 loop-q-init c = (filling_start _ _ _ _ c.requires (search rules) c.put_number.ensures, search rules)
 
 pub look_at-requires : goal.look_at-requires
-look_at-requires c = search filling-turn
+look_at-requires c = search filling_turn
 
 pub overflow_mul-n : goal.overflow_mul-n
 overflow_mul-n c = let k = filling_count _ _ _ _ _ c.requires c.loop-q.invariant.0 in search rules
@@ -28,19 +28,19 @@ pub returns-then-key-ge549755813888 : goal.returns-then-key-ge549755813888
 returns-then-key-ge549755813888 c = λ e. absurd (let z : ◌≡◌ {A = ℕ} 0 1 = cc in omega arith)
 
 pub weight-requires : goal.weight-requires
-weight-requires c = search filling-turn
+weight-requires c = search filling_turn
 
 pub put_number-requires-in-At : goal.put_number-requires-in-At
-put_number-requires-in-At c = search filling-turn
+put_number-requires-in-At c = search filling_turn
 
 pub overflow_add-q : goal.overflow_add-q
-overflow_add-q c = search filling-turn
+overflow_add-q c = search filling_turn
 
 pub overflow_add-n-in-At : goal.overflow_add-n-in-At
 overflow_add-n-in-At c = let k = filling_count _ _ _ _ _ c.requires c.loop-q.invariant.0 in search rules
 
 pub loop-q-smaller : goal.loop-q-smaller
-loop-q-smaller c = search filling-turn
+loop-q-smaller c = search filling_turn
 
 pub loop-q-preserved : goal.loop-q-preserved
 loop-q-preserved c = (filling_more _ _ _ _ _ c.requires c.loop-q.invariant.0 _ c.look_at.ensures _ _ c.in-At.is _ c.weight.ensures _ c.put_number-in-At.ensures (search rules), search rules)

@@ -1,15 +1,15 @@
-use Rattle.tree.proofs.DueLaws.{gather-turn}
+use Rattle.tree.proofs.DueLaws.{gather_turn}
 use native.Mathlib.Omega.{arith}
 use Rattle.tree.proofs.due.many_fall.Goals as goal
 
 pub number-code-requires : goal.number-code-requires
-number-code-requires c = search gather-turn
+number-code-requires c = search gather_turn
 
 pub behind-at-requires : goal.behind-at-requires
-behind-at-requires c = search gather-turn
+behind-at-requires c = search gather_turn
 
 pub loop-at-smaller : goal.loop-at-smaller
-loop-at-smaller c = search gather-turn
+loop-at-smaller c = search gather_turn
 
 pub loop-at-preserved : goal.loop-at-preserved
-loop-at-preserved c = (search gather-turn, omega arith)
+loop-at-preserved c = (search gather_turn, omega arith)

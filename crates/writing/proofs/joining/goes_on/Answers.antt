@@ -1,8 +1,8 @@
-use Rattle.writing.proofs.JoiningLaws.{on-ways}
+use Rattle.writing.proofs.JoiningLaws.{on_ways}
 use Rattle.writing.proofs.joining.goes_on.Goals as goal
 
 pub returns-then-list-tag : goal.returns-then-list-tag
-returns-then-list-tag c = search on-ways
+returns-then-list-tag c = search on_ways
 
 pub returns : goal.returns
-returns c = search on-ways
+returns c = search on_ways

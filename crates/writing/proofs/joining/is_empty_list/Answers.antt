@@ -1,8 +1,8 @@
-use Rattle.writing.proofs.JoiningLaws.{empty-ways}
+use Rattle.writing.proofs.JoiningLaws.{empty_ways}
 use Rattle.writing.proofs.joining.is_empty_list.Goals as goal
 
 pub returns-then-is_list : goal.returns-then-is_list
-returns-then-is_list c = search empty-ways
+returns-then-is_list c = search empty_ways
 
 pub returns : goal.returns
-returns c = search empty-ways
+returns c = search empty_ways
