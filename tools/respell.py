@@ -3,9 +3,10 @@
 
 usage: tools/respell.py [--check]      at the top of the repository
 
-What specs/ and proofs/ declare in camel case (`tallyAt`) or with dashes (`text-turn`) gets snake case (`tally_at`, `text_turn`), there, in
-contracts, in must-fail edits, and where a page or a tool names it. Types and modules keep their capitals; names of Rust, of goals and of the
-library stay. A file that brings a name of the same spelling from the library keeps it. Names that could fall together are printed.
+What specs/ and proofs/ declare in camel case (`tallyAt`) or with dashes (`demand-one`, the ruleset `text-turn`) gets snake case (`tally_at`,
+`demand_one`, `text_turn`), there, in contracts and in must-fail edits, and so do the names that a file gives to what it brings. A law that would have
+the name of a definition ends in `_lem`. Types and modules keep their capitals; names of Rust, of goals and of the library stay. A file that brings
+a name of the same spelling from the library keeps it. Names that could fall together are printed.
 """
 import collections
 import functools
