@@ -6,7 +6,9 @@ use native.Mathlib.Omega.{arith}
 use borrow.Author.Tests.{eq-eqb, ne_eqb, eqb-true, eqb-false}
 use lib.ListN.{length}
 use lib.Dec.{eqb}
-use Rattle.base.specs.Check.{Check, ok, no, bind, fault, refuse, in_field}
+use Rattle.std.specs.Prelude.{Option, Some, None, Result, Ok, Err}
+use Rattle.base.specs.Check.{Check, ok, no, bind, fault, in_field}
+use Rattle.base.specs.declared.Fault.{Fault}
 use Rattle.base.specs.Lists.{Each}
 use Rattle.skeleton.specs.Emit.{size, sizes}
 use Rattle.skeleton.specs.File.{Field}
@@ -15,7 +17,6 @@ use Rattle.skeleton.specs.Record.{record_at}
 use Rattle.skeleton.specs.Shape.{Bounded}
 use Rattle.skeleton.specs.declared.directory.Shape.{Shape}
 use Rattle.skeleton.specs.declared.place.Place.{Place}
-use Rattle.skeleton.specs.declared.place.Place.TheVariants.{At, Done}
 use Rattle.skeleton.proofs.PlaceLaws.{place_falls, place_runs, place_in_lem, fields_done}
 use Rattle.skeleton.proofs.RecordLaws.{right}
 use Rattle.skeleton.proofs.BetweenLaws.{length_between, fields_within}
@@ -34,9 +35,6 @@ use Rattle.version.specs.Present.{FlagsKept}
 use Rattle.version.specs.declared.Version.{Version}
 use Rattle.acting.specs.Ready.{Due, Small, Rooms, Ready, Sending, Modifies}
 use Rattle.acting.specs.Acted.{SameIdent, Holding, PartNow, PartActs, FieldActs, ActedBy}
-use Rattle.acting.specs.declared.Acts.TheVariants.{Refused, Now}
-use Rattle.acting.specs.declared.part.Part.{Part}
-use Rattle.acting.specs.declared.part.Part.TheVariants.{Wrong, Right}
 use Rattle.acting.proofs.DueLaws.{evens, modify_due}
 
 -- ---- by tag
@@ -44,7 +42,7 @@ use Rattle.acting.proofs.DueLaws.{evens, modify_due}
 pub ready_as : (u w : List ℕ) (v : Version) (t from to : ℕ) → Ready u w v t from to → (s : ℕ) → t ≡ s → Ready u w v s from to
 ready_as u w v t from to r s e = subst (λ (z : ℕ). Ready u w v z from to) e r
 
-pub acts_as : (d u : List ℕ) (new : List Coord) (t : ℕ) (b w : List ℕ) (v : Version) (o : List ℕ) (x : Part) (s : ℕ) → t ≡ s
+pub acts_as : (d u : List ℕ) (new : List Coord) (t : ℕ) (b w : List ℕ) (v : Version) (o : List ℕ) (x : Result Version Fault) (s : ℕ) → t ≡ s
     → FieldActs d u new (field_as s b) w v o x → FieldActs d u new (field_as t b) w v o x
 acts_as d u new t b w v o x s e a = subst (λ (z : ℕ). FieldActs d u new (field_as z b) w v o x) (sym e) a
 
@@ -53,7 +51,7 @@ same_self v = record { kind = refl; rcid = refl; code = refl; rver = refl; foids
 
 -- a field of another tag does nothing
 pub acts_not : (d u : List ℕ) (new : List Coord) (t : ℕ) (b w : List ℕ) (v : Version)
-    → (t ≡ ATTR → ⊥) → (t ≡ INAS → ⊥) → (t ≡ COCC → ⊥) → (t ≡ C2IT → ⊥) → (t ≡ SPAS → ⊥) → FieldActs d u new (field_as t b) w v w (Right v)
+    → (t ≡ ATTR → ⊥) → (t ≡ INAS → ⊥) → (t ≡ COCC → ⊥) → (t ≡ C2IT → ⊥) → (t ≡ SPAS → ⊥) → FieldActs d u new (field_as t b) w v w (Ok v)
 unfolding PartActs act_field
 acts_not d u new t b w v na ni nc np ns =
     record {
@@ -94,9 +92,9 @@ pub going_start : (d u : List ℕ) (at len : ℕ) (h : Shape) (w : List ℕ) (v 
     → Going d u at len h w v w 24 1 v
 going_start d u at len h w v small wide m s held small_d bd bu =
     let fs = fields_at (between u at (at + len)) h 24 in
-    let a = right u at (record_at u at) refl len h.base h.a h.b m.there in
-    let b = record_filled u at (record_at u at) refl len h.base h.a h.b m.there in
-    let c = record_short u at (record_at u at) refl len h.base h.a h.b m.there in
+    let a = right u at (record_at u at) refl _ m.there in
+    let b = record_filled u at (record_at u at) refl _ m.there in
+    let c = record_short u at (record_at u at) refl _ m.there in
     let l = length_between u at (at + len) a.inside in
     let few : sizes (fields_at (between u at (at + len)) h 24) ≤ 99999 = omega arith in
     let (due, once) = modify_due v.kind fs m.passed m.ruin in
@@ -123,7 +121,7 @@ pub modify_word : (u : List ℕ) (at len : ℕ) (h : Shape) (v : Version) → Mo
 modify_word u at len h v m l = omega (arith, modify_inside)
   where
     modify_inside : at + len ≤ length u
-    modify_inside = (right u at (record_at u at) refl len h.base h.a h.b m.there).inside
+    modify_inside = (right u at (record_at u at) refl _ m.there).inside
 
 same_on : (v e f : Version) → SameIdent v e → SameIdent e f → SameIdent v f
 same_on v e f a b =
@@ -142,9 +140,9 @@ fields_ok : (new : List Coord) (i : ℕ) (f : Field) (fs : List Field) (p q : Pa
 unfolding act_fields bind in_field
 fields_ok new i f fs p q e = ap (λ (c : Check Parts). bind (in_field i c) (λ s. act_fields new (i + 1) fs s)) e
 
-fields_no : (new : List Coord) (i : ℕ) (f : Field) (fs : List Field) (p : Parts) (k j : ℕ) → act_field new f p ≡ refuse k j → act_fields new i (f ∷ fs) p ≡ no (fault k i j)
+fields_no : (new : List Coord) (i : ℕ) (f : Field) (fs : List Field) (p : Parts) (x : Fault) → act_field new f p ≡ no x → act_fields new i (f ∷ fs) p ≡ no (fault x.number i x.tuple)
 unfolding act_fields bind in_field
-fields_no new i f fs p k j e = ap (λ (c : Check Parts). bind (in_field i c) (λ s. act_fields new (i + 1) fs s)) e
+fields_no new i f fs p x e = ap (λ (c : Check Parts). bind (in_field i c) (λ s. act_fields new (i + 1) fs s)) e
 
 -- how many COCC there are
 tag_here : (f : Field) (fs : List Field) → f.tag ≡ COCC → length (with_tag COCC (f ∷ fs)) ≡ 1 + length (with_tag COCC fs)
@@ -163,50 +161,50 @@ module _ (d u : List ℕ) (at len : ℕ) (h : Shape) (w : List ℕ) (v : Version
   new = sent (fields_at rs h 24)
 
   inside : at + len ≤ length u
-  inside = (right u at (record_at u at) refl len h.base h.a h.b g.sending.there).inside
+  inside = (right u at (record_at u at) refl _ g.sending.there).inside
 
   pub going_inside : at + len ≤ length u
   going_inside = inside
 
   pub going_shape : Bounded h
-  going_shape = (right u at (record_at u at) refl len h.base h.a h.b g.sending.there).bounded
+  going_shape = (right u at (record_at u at) refl _ g.sending.there).bounded
 
-  module _ (x : Place) (en : x ≡ place_at (between u at (at + len)) h q) where
-    pub going_done : x ≡ Done → ActedBy d u w v (act_fields (sent (fields_at (between u at (at + len)) h 24)) 1 (fields_at (between u at (at + len)) h 24)) o (Now e) × FlagsKept w o
+  module _ (x : Option Place) (en : x ≡ place_at (between u at (at + len)) h q) where
+    pub going_done : x ≡ None → ActedBy d u w v (act_fields (sent (fields_at (between u at (at + len)) h 24)) 1 (fields_at (between u at (at + len)) h 24)) o (Ok e) × FlagsKept w o
     unfolding ActedBy act_fields
     going_done y =
         ((λ p k. let (s, have, is) = g.is p k in (s, is ∙ ap (λ (fs : List Field). act_fields new i fs s) (fields_done rs h q x en y), have), g.same), g.flags)
 
-    module _ (tag start end next : ℕ) (y : x ≡ At tag start end next) where
+    module _ (p : Place) (y : x ≡ Some p) where
       long_is : length rs ≡ len
       long_is = length_between u at (at + len) inside ∙ omega arith
 
-      runs : start ≤ end
-      runs = place_runs rs h q x en tag start end next y
+      runs : p.start ≤ p.end
+      runs = place_runs rs h q x en p y
 
-      within : end ≤ len
-      within = omega (arith, place_in_lem rs h q x en tag start end next y, long_is)
+      within : p.end ≤ len
+      within = omega (arith, place_in_lem rs h q x en p y, long_is)
 
-      pub going_falls : length (between u at (at + len)) - next < length (between u at (at + len)) - q
-      going_falls = place_falls rs h q x en tag start end next y
+      pub going_falls : length (between u at (at + len)) - p.next < length (between u at (at + len)) - q
+      going_falls = place_falls rs h q x en p y
 
-      pub going_from : at + start < 2 ^ 64
+      pub going_from : at + p.start < 2 ^ 64
       going_from = let m : length u ≤ 16777216 = g.small in omega (arith, runs, within, inside)
 
-      pub going_to : at + end < 2 ^ 64
+      pub going_to : at + p.end < 2 ^ 64
       going_to = let m : length u ≤ 16777216 = g.small in omega (arith, within, inside)
 
       pub going_number : i + 1 < 2 ^ 64
       going_number = let m : length u ≤ 16777216 = g.small in let n : i ≤ q = g.number in omega (arith, going_falls, long_is, inside)
 
       abbrev here : Field
-      here = field_as tag (between u (at + start) (at + end))
+      here = field_as p.tag (between u (at + p.start) (at + p.end))
 
       abbrev rest : List Field
-      rest = fields_at rs h next
+      rest = fields_at rs h p.next
 
       fields_are : fields_at rs h q ≡ here ∷ rest
-      fields_are = fields_within u at len h q x en tag start end next y within
+      fields_are = fields_within u at len h q x en p y within
 
       due_here : Due v.kind here × Each (Due v.kind) rest
       unfolding Each
@@ -225,17 +223,17 @@ module _ (d u : List ℕ) (at len : ℕ) (h : Shape) (w : List ℕ) (v : Version
       -- behind a COCC there is no other
       rest_once : length (with_tag COCC rest) ≤ 1
       rest_once =
-          by_bool (eqb tag COCC)
-          (λ c. omega (arith, once_here, tag_here here rest (eqb-true tag COCC c)))
-          (λ c. omega (arith, once_here, tag_other here rest (eqb-false tag COCC c)))
+          by_bool (eqb p.tag COCC)
+          (λ c. omega (arith, once_here, tag_here here rest (eqb-true p.tag COCC c)))
+          (λ c. omega (arith, once_here, tag_other here rest (eqb-false p.tag COCC c)))
 
-      not_place : 0 < length (with_tag COCC rest) → tag ≡ COCC → ⊥
+      not_place : 0 < length (with_tag COCC rest) → p.tag ≡ COCC → ⊥
       not_place some z = omega (arith, some, once_here, tag_here here rest z)
 
       going_held : Holding d u o e
       going_held = let (s, have, is) = g.is g.held.0 g.held.1 in (s, have)
 
-      pub going_ready : Ready u o e tag (at + start) (at + end) × Sending u at len h × Bytes d × Bytes u × (tag ≡ COCC → 8 * e.coord ≤ 99999) × Holding d u o e
+      pub going_ready : Ready u o e p.tag (at + p.start) (at + p.end) × Sending u at len h × Bytes d × Bytes u × (p.tag ≡ COCC → 8 * e.coord ≤ 99999) × Holding d u o e
           × (length d ≤ 16777216)
       going_ready =
           let r = room_here in
@@ -258,22 +256,23 @@ module _ (d u : List ℕ) (at len : ℕ) (h : Shape) (w : List ℕ) (v : Version
           )
 
       -- it is refused
-      pub going_wrong : (o' : List ℕ) (z : Part) → FieldActs d u (sent (fields_at (between u at (at + len)) h 24)) (field_as tag (between u (at + start) (at + end))) o e o' z
-          → (k j : ℕ) → z ≡ Wrong k j
-          → ActedBy d u w v (act_fields (sent (fields_at (between u at (at + len)) h 24)) 1 (fields_at (between u at (at + len)) h 24)) o' (Refused k i j) × FlagsKept w o'
+      pub going_wrong : (o' : List ℕ) (z : Result Version Fault)
+          → FieldActs d u (sent (fields_at (between u at (at + len)) h 24)) (field_as p.tag (between u (at + p.start) (at + p.end))) o e o' z
+          → (f : Fault) → z ≡ Err f
+          → ActedBy d u w v (act_fields (sent (fields_at (between u at (at + len)) h 24)) 1 (fields_at (between u at (at + len)) h 24)) o' (Err (fault f.number i f.tuple)) × FlagsKept w o'
       unfolding ActedBy PartActs
-      going_wrong o' z a k j ez =
-          let b : (p : Parts) → HeldParts d u o e p → act_field new here p ≡ refuse k j = subst (PartActs d u new here o e o') ez a.acts in (
+      going_wrong o' z a f ez =
+          let b : (p : Parts) → HeldParts d u o e p → act_field new here p ≡ no f = subst (PartActs d u new here o e o') ez a.acts in (
             λ p hp.
                 let (s, have, is) = g.is p hp in
-                is ∙ ap (λ (fs : List Field). act_fields new i fs s) fields_are ∙ fields_no new i here rest s k j (b s have),
+                is ∙ ap (λ (fs : List Field). act_fields new i fs s) fields_are ∙ fields_no new i here rest s f (b s have),
             a.flags ∙ g.flags,
           )
 
       -- it has acted
-      pub going_turn : (o' : List ℕ) → length o' ≡ length o → (z : Part)
-          → FieldActs d u (sent (fields_at (between u at (at + len)) h 24)) (field_as tag (between u (at + start) (at + end))) o e o' z
-          → (n : Version) → z ≡ Right n → Going d u at len h w v o' next (i + 1) n
+      pub going_turn : (o' : List ℕ) → length o' ≡ length o → (z : Result Version Fault)
+          → FieldActs d u (sent (fields_at (between u at (at + len)) h 24)) (field_as p.tag (between u (at + p.start) (at + p.end))) o e o' z
+          → (n : Version) → z ≡ Ok n → Going d u at len h w v o' p.next (i + 1) n
       unfolding PartActs
       going_turn o' lo z a n ez =
           let b : PartNow d u new here o e o' n = subst (PartActs d u new here o e o') ez a.acts in

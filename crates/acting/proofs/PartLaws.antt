@@ -7,7 +7,9 @@ use native.Mathlib.Omega.{arith}
 use borrow.Author.Tests.{eqb-true}
 use lib.ListN.{length, get_or, take, drop}
 use lib.Dec.{eqb}
-use Rattle.base.specs.Check.{Check, ok, bind, refuse, pass, passed}
+use Rattle.std.specs.Prelude.{Option, Some, None, Result, Ok, Err}
+use Rattle.base.specs.Check.{Check, ok, no, bind, fault, refuse, pass, passed}
+use Rattle.base.specs.declared.Fault.{Fault}
 use Rattle.base.specs.Lists.{each, Each}
 use Rattle.base.proofs.ListLaws.{none_long}
 use Rattle.skeleton.specs.Emit.{sizes}
@@ -45,20 +47,12 @@ use Rattle.numbering.proofs.EmittingLaws.{forest_size}
 use Rattle.cells.specs.Cells.{bodies_of, fields_size, spatial_in}
 use Rattle.cells.specs.Keys.{InasBody, SpasBody}
 use Rattle.cells.specs.Acts.{InasNow, InasActs, counts, Totals, SpasNow, SpasActs}
-use Rattle.cells.specs.declared.acting.Acted.{Acted}
-use Rattle.cells.specs.declared.acting.Acted.TheVariants.{Refused as Unfit, Now as Fit}
-use Rattle.cells.specs.declared.inas.ActedInas.{ActedInas}
-use Rattle.cells.specs.declared.inas.ActedInas.TheVariants.{Refused as Unlinked, Now as Linked}
 use Rattle.cells.proofs.FindLaws.{bodies_bytes}
 use Rattle.cells.proofs.InasLaws.{inas_bytes}
 use Rattle.cells.proofs.LiftLaws.{acted_every}
 use Rattle.coords.specs.Tuples.{tuples_of}
 use Rattle.coords.specs.Placing.{EvenLists, PlacedAs}
-use Rattle.coords.specs.declared.placing.Placed.{Placed}
-use Rattle.coords.specs.declared.placing.Placed.TheVariants.{Refused as Outside, Now as Inside}
 use Rattle.edits.specs.Applied.{Outcome, Applied}
-use Rattle.edits.specs.declared.Edited.{Edited}
-use Rattle.edits.specs.declared.Edited.TheVariants.{Refused as Uneditable, Done}
 use Rattle.stock.proofs.FilledLaws.{record_filled, record_short}
 use Rattle.version.specs.Held.{RightInas, RightSpas, takes_tree, HeldParts, attr_now, inas_now, coord_now, spas_now}
 use Rattle.version.specs.Areas.{list_area}
@@ -66,10 +60,8 @@ use Rattle.version.specs.Present.{FlagsKept}
 use Rattle.version.specs.declared.Version.{Version}
 use Rattle.version.proofs.AreaLaws.{lent, length_lent, lent_same, lent_behind}
 use Rattle.version.proofs.BodyLaws.{spas_every, spas_all}
-use Rattle.acting.specs.Ready.{Ready, Sending, Placing, Measurable}
-use Rattle.acting.specs.Acted.{Holding, PartActs, FieldActs, edit_at, attr_part, inas_part, cocc_part, spas_part}
-use Rattle.acting.specs.declared.part.Part.{Part}
-use Rattle.acting.specs.declared.part.Part.TheVariants.{Wrong, Right}
+use Rattle.acting.specs.Ready.{Ready, Sending, Placing}
+use Rattle.acting.specs.Acted.{Holding, PartActs, FieldActs, edit_at}
 use Rattle.acting.proofs.WideLaws.{list_area_lem, list_same, list_flags, attr_area, inas_area_lem, spas_area_lem}
 use Rattle.acting.proofs.VersionLaws.{inas_every, same_ident, with_items, with_tuples, with_inas, with_spas}
 
@@ -79,9 +71,9 @@ bind_ok : {A B : Type 0} (c : Check A) (k : A → Check B) (a : A) → c ≡ ok 
 unfolding bind
 bind_ok c k a e = ap (λ (x : Check _). bind x k) e
 
-bind_no : {A B : Type 0} (c : Check A) (k : A → Check B) (n j : ℕ) → c ≡ refuse n j → bind c k ≡ refuse n j
+bind_no : {A B : Type 0} (c : Check A) (k : A → Check B) (f : Fault) → c ≡ no f → bind c k ≡ no f
 unfolding bind
-bind_no c k n j e = ap (λ (x : Check _). bind x k) e
+bind_no c k f e = ap (λ (x : Check _). bind x k) e
 
 module _ (new : List Coord) (b : List ℕ) (p : Parts) where
   attr_by : act_field new (field_as ATTR b) p ≡ bind (act_attr b p.attributes) (λ t. ok (with_attributes t p))
@@ -122,7 +114,7 @@ module _ (u w : List ℕ) (v : Version) (from to : ℕ) (r : Ready u w v ATTR fr
       let due = r.due.attr refl in
       (r.runs, r.inside, omega arith, omega (arith, attr_area u w v ATTR from to r, attr_long), omega (arith, attr_area u w v ATTR from to r), due.0, due.1)
 
-  module _ (ys : List ℕ) (long : length ys ≡ 200000) (x : Edited) (s : Applied u from to (take 200000 w) v.attr ys x) where
+  module _ (ys : List ℕ) (long : length ys ≡ 200000) (x : Result ℕ Fault) (s : Applied u from to (take 200000 w) v.attr ys x) where
     pub attr_same : length (lent 0 200000 ys w) ≡ length w
     attr_same = list_same w r.wide ys long
 
@@ -133,20 +125,20 @@ module _ (u w : List ℕ) (v : Version) (from to : ℕ) (r : Ready u w v ATTR fr
     attr_flags = list_flags w r.wide ys long
 
     -- there is room for the items
-    pub attr_room : (m : ℕ) → x ≡ Done m → 8 * m ≤ 200000
+    pub attr_room : (m : ℕ) → x ≡ Ok m → 8 * m ≤ 200000
     attr_room m e =
         let more : 8 * m ≤ 8 * v.attr + (to - from) = s.size m e in
         let room = r.rooms.attr in
         omega (arith, attr_long)
 
-    attr_wrong : (k j : ℕ) → x ≡ Uneditable k j → (d : List ℕ) (new : List Coord) → PartActs d u new (field_as ATTR attr_body) w v (lent 0 200000 ys w) (Wrong k j)
+    attr_wrong : (f : Fault) → x ≡ Err f → (d : List ℕ) (new : List Coord) → PartActs d u new (field_as ATTR attr_body) w v (lent 0 200000 ys w) (Err f)
     unfolding PartActs Outcome
-    attr_wrong k j e d new p h =
-        let a : act_attr attr_body p.attributes ≡ refuse k j = subst (Outcome d u ys (act_attr attr_body p.attributes)) e (s.is d p.attributes h.attributes) in
-        attr_by new attr_body p ∙ bind_no (act_attr attr_body p.attributes) (λ t. ok (with_attributes t p)) k j a
+    attr_wrong f e d new p h =
+        let a : act_attr attr_body p.attributes ≡ no f = subst (Outcome d u ys (act_attr attr_body p.attributes)) e (s.is d p.attributes h.attributes) in
+        attr_by new attr_body p ∙ bind_no (act_attr attr_body p.attributes) (λ t. ok (with_attributes t p)) f a
 
-    attr_right : (m : ℕ) → x ≡ Done m → (d : List ℕ) (new : List Coord)
-        → PartActs d u new (field_as ATTR attr_body) w v (lent 0 200000 ys w) (Right (attr_now v m (size_of (its d u ys 0 m))))
+    attr_right : (m : ℕ) → x ≡ Ok m → (d : List ℕ) (new : List Coord)
+        → PartActs d u new (field_as ATTR attr_body) w v (lent 0 200000 ys w) (Ok (attr_now v m (size_of (its d u ys 0 m))))
     unfolding PartActs Outcome
     attr_right m e d new =
         let more : 8 * m ≤ 8 * v.attr + (to - from) = s.size m e in
@@ -166,34 +158,24 @@ module _ (u w : List ℕ) (v : Version) (from to : ℕ) (r : Ready u w v ATTR fr
           coord = λ _ q. q;
         }
 
-    attr_of_lem : (y : Edited) → x ≡ y → (d : List ℕ) (new : List Coord) → PartActs d u new (field_as ATTR attr_body) w v (lent 0 200000 ys w) (attr_part d u ys v y)
-    unfolding attr_part
-    attr_of_lem (Uneditable k j) e = attr_wrong k j e
-    attr_of_lem (Done m) e = attr_right m e
+    -- it is refused
+    pub attr_err : (f : Fault) → x ≡ Err f → (d : List ℕ) (new : List Coord) → FieldActs d u new (field_as ATTR attr_body) w v (lent 0 200000 ys w) (Err f)
+    attr_err f e d new = record { acts = attr_wrong f e d new; flags = attr_flags }
 
     -- `list`, which is lent of the workspace again, holds the items
-    module _ (d : List ℕ) (old : length d ≤ 16777216) (list : List ℕ) (is : list ≡ list_area (lent 0 200000 ys w)) where
+    module _ (m : ℕ) (e : x ≡ Ok m) (d list : List ℕ) (is : list ≡ list_area (lent 0 200000 ys w)) where
       list_is : list ≡ ys
       list_is = let wide : 400000 ≤ length w = r.wide in is ∙ lent_same 0 200000 ys w long (omega arith)
 
-      pub attr_measurable : Measurable d u list x
-      attr_measurable =
+      pub attr_sizes : length d ≤ 16777216 → (8 * m ≤ length list) × (length list < 524288) × (length d ≤ 16777216) × (length u ≤ 16777216)
+      attr_sizes old =
           let n : length list ≡ 200000 = ap length list_is ∙ long in
-          record { old = old; new = r.small; short = omega arith; room = λ m e. omega (arith, attr_room m e) }
+          (omega (arith, attr_room m e), omega arith, old, r.small)
 
-      pub attr_acts_lem : (e : Part) → e ≡ attr_part d u list v x → (new : List Coord) → FieldActs d u new (field_as ATTR attr_body) w v (lent 0 200000 ys w) e
-      attr_acts_lem e ee new =
-          subst (FieldActs d u new (field_as ATTR attr_body) w v (lent 0 200000 ys w)) (sym (ee ∙ ap (λ (l : List ℕ). attr_part d u l v x) list_is))
-          (record { acts = attr_of_lem x refl d new; flags = attr_flags })
-
--- `attr_part`
-module _ (d u list : List ℕ) (v : Version) (x : Edited) (g : Measurable d u list x) (m : ℕ) (e : x ≡ Done m) where
-  pub attr_sizes : (8 * m ≤ length list) × (length list < 524288) × (length d ≤ 16777216) × (length u ≤ 16777216)
-  attr_sizes = (g.room m e, g.short, g.old, g.new)
-
-  pub attr_done : (t : ℕ) → Sized d u list m t → Right (attr_now v m t) ≡ attr_part d u list v x
-  unfolding attr_part
-  attr_done t z = ap (λ (k : ℕ). Right (attr_now v m k)) z.sum ∙ sym (ap (attr_part d u list v) e)
+      pub attr_ok : (t : ℕ) → Sized d u list m t → (new : List Coord) → FieldActs d u new (field_as ATTR attr_body) w v (lent 0 200000 ys w) (Ok (attr_now v m t))
+      attr_ok t z new =
+          let size : t ≡ size_of (its d u ys 0 m) = z.sum ∙ ap (λ (l : List ℕ). size_of (its d u l 0 m)) list_is in
+          rw size (record { acts = attr_right m e d new; flags = attr_flags })
 
 -- ---- INAS
 
@@ -217,7 +199,7 @@ module _ (d u w : List ℕ) (v : Version) (from to : ℕ) (r : Ready u w v INAS 
       let l = inas_long in
       (r.runs, r.inside, omega arith, omega (arith, l.0), omega (arith, inas_area_lem u w v INAS from to r, l.1), (r.due.inas refl).0, inas_every _ h.1.inas_right, h.1.inas_sized, omega (arith, r.rooms.bytes))
 
-  module _ (g : Bytes u) (ys : List ℕ) (long : length ys ≡ 92000) (x : ActedInas)
+  module _ (g : Bytes u) (ys : List ℕ) (long : length ys ≡ 92000) (x : Result (ℕ × ℕ) Fault)
       (s : InasActs inas_body (bodies_of d u (take 92000 (drop 200000 w)) v.inas) d u ys v.inas (counts x) × Totals d u ys (v.inasbytes + (to - from) + 1) x) where
     pub inas_same : length (lent 200000 92000 ys w) ≡ length w
     inas_same = let wide : 400000 ≤ length w = r.wide in length_lent 200000 92000 ys w long (omega arith)
@@ -228,15 +210,15 @@ module _ (d u w : List ℕ) (v : Version) (from to : ℕ) (r : Ready u w v INAS 
     abbrev old_inas : List (List ℕ)
     old_inas = bodies_of d u (take 92000 (drop 200000 w)) v.inas
 
-    inas_wrong : (k j : ℕ) → x ≡ Unlinked k j
-        → ((new : List Coord) → PartActs d u new (field_as INAS inas_body) w v (lent 200000 92000 ys w) (Wrong k j)) × FlagsKept w (lent 200000 92000 ys w)
+    inas_wrong : (f : Fault) → x ≡ Err f → (new : List Coord) → PartActs d u new (field_as INAS inas_body) w v (lent 200000 92000 ys w) (Err f)
     unfolding PartActs InasActs
-    inas_wrong k j e =
-        let a : act_inas inas_body (each assoc_of old_inas) ≡ refuse k j = subst (λ (y : ActedInas). InasActs inas_body old_inas d u ys v.inas (counts y)) e s.0 in (
-          λ new p h.
-              inas_by new inas_body p ∙ bind_no (act_inas inas_body p.associations) (λ ls. ok (with_associations ls p)) k j (ap (act_inas inas_body) h.associations ∙ a),
-          inas_flags,
-        )
+    inas_wrong f e new p h =
+        let a : act_inas inas_body (each assoc_of old_inas) ≡ no f = subst (λ (y : Result (ℕ × ℕ) Fault). InasActs inas_body old_inas d u ys v.inas (counts y)) e s.0 in
+        inas_by new inas_body p ∙ bind_no (act_inas inas_body p.associations) (λ ls. ok (with_associations ls p)) f (ap (act_inas inas_body) h.associations ∙ a)
+
+    -- it is refused
+    pub inas_err : (f : Fault) → x ≡ Err f → (new : List Coord) → FieldActs d u new (field_as INAS inas_body) w v (lent 200000 92000 ys w) (Err f)
+    inas_err f e new = record { acts = inas_wrong f e new; flags = inas_flags }
 
     -- an INAS that is inserted
     right_inas : eqb (get_or inas_body 9 0) 1 ≡ true → RightInas inas_body
@@ -245,44 +227,36 @@ module _ (d u w : List ℕ) (v : Version) (from to : ℕ) (r : Ready u w v INAS 
         let due = r.due.inas refl in
         record { bytes = bytes_between u from to g; filled = rw (eqb-true (get_or inas_body 9 0) 1 e) at due.0; tree = due.1 }
 
-    inas_right : (m t : ℕ) → x ≡ Linked m t
-        → ((new : List Coord) → PartActs d u new (field_as INAS inas_body) w v (lent 200000 92000 ys w) (Right (inas_now v m t)))
-        × FlagsKept w (lent 200000 92000 ys w)
+    inas_right : (y : ℕ × ℕ) → x ≡ Ok y → (new : List Coord) → PartActs d u new (field_as INAS inas_body) w v (lent 200000 92000 ys w) (Ok (inas_now v y.0 y.1))
     unfolding PartActs InasActs Totals
-    inas_right m t e =
+    inas_right y e new =
+        let m : ℕ = y.0 in
+        let t : ℕ = y.1 in
         let bytes : (t ≡ fields_size (bodies_of d u ys m)) × (t ≤ v.inasbytes + (to - from) + 1) = subst (Totals d u ys (v.inasbytes + (to - from) + 1)) e s.1 in
-        let a : InasNow inas_body old_inas (bodies_of d u ys m) × (m ≤ v.inas + 1) = subst (λ (y : ActedInas). InasActs inas_body old_inas d u ys v.inas (counts y)) e s.0 in
+        let a : InasNow inas_body old_inas (bodies_of d u ys m) × (m ≤ v.inas + 1) = subst (λ (y : Result (ℕ × ℕ) Fault). InasActs inas_body old_inas d u ys v.inas (counts y)) e s.0 in
         let few : m ≤ v.inas + 1 = a.1 in
         let room = r.rooms.inas in
         let l = inas_long in
         let ten : 10 ≤ length inas_body = l.1 in
-        let full : 7 * m ≤ 92000 = omega arith in (
-          λ new. record {
-            held = λ p h.
-                let ls : List Assoc = each assoc_of (bodies_of d u ys m) in
-                let b : act_inas inas_body p.associations ≡ ok ls = ap (act_inas inas_body) h.associations ∙ a.0.is in
-                let every : Each RightInas (bodies_of d u ys m) =
-                acted_every RightInas inas_key 0 (eqb (get_or inas_body 9 0) 1) inas_body old_inas (bodies_of d u ys m) h.inas_right right_inas a.0.bodies in (
-                  with_associations ls p,
-                  inas_by new inas_body p ∙ bind_ok (act_inas inas_body p.associations) (λ ls. ok (with_associations ls p)) ls b,
-                  with_inas d u w v p h r.wide ys long m t ls refl every full bytes.0,
-                );
-            same = same_ident v v.attr m v.coord v.spas v.attrbytes t;
-            rooms = λ n q. record { attr = omega (arith, q.attr); inas = omega (arith, q.inas); spas = omega (arith, q.spas); bytes = omega (arith, q.bytes, bytes.1, l.0) };
-            coord = λ _ q. q;
-          },
-          inas_flags,
-        )
+        let full : 7 * m ≤ 92000 = omega arith in
+        record {
+          held = λ p h.
+              let ls : List Assoc = each assoc_of (bodies_of d u ys m) in
+              let b : act_inas inas_body p.associations ≡ ok ls = ap (act_inas inas_body) h.associations ∙ a.0.is in
+              let every : Each RightInas (bodies_of d u ys m) =
+              acted_every RightInas inas_key 0 (eqb (get_or inas_body 9 0) 1) inas_body old_inas (bodies_of d u ys m) h.inas_right right_inas a.0.bodies in (
+                with_associations ls p,
+                inas_by new inas_body p ∙ bind_ok (act_inas inas_body p.associations) (λ ls. ok (with_associations ls p)) ls b,
+                with_inas d u w v p h r.wide ys long m t ls refl every full bytes.0,
+              );
+          same = same_ident v v.attr m v.coord v.spas v.attrbytes t;
+          rooms = λ n q. record { attr = omega (arith, q.attr); inas = omega (arith, q.inas); spas = omega (arith, q.spas); bytes = omega (arith, q.bytes, bytes.1, l.0) };
+          coord = λ _ q. q;
+        }
 
-    inas_of : (y : ActedInas) → x ≡ y
-        → ((new : List Coord) → PartActs d u new (field_as INAS inas_body) w v (lent 200000 92000 ys w) (inas_part v y)) × FlagsKept w (lent 200000 92000 ys w)
-    unfolding inas_part
-    inas_of (Unlinked k j) e = inas_wrong k j e
-    inas_of (Linked m t) e = inas_right m t e
-
-    pub inas_acts : (e : Part) → e ≡ inas_part v x → (new : List Coord) → FieldActs d u new (field_as INAS inas_body) w v (lent 200000 92000 ys w) e
-    inas_acts e is new =
-        subst (FieldActs d u new (field_as INAS inas_body) w v (lent 200000 92000 ys w)) (sym is) (record { acts = (inas_of x refl).0 new; flags = inas_flags })
+    -- it has acted
+    pub inas_ok : (y : ℕ × ℕ) → x ≡ Ok y → (new : List Coord) → FieldActs d u new (field_as INAS inas_body) w v (lent 200000 92000 ys w) (Ok (inas_now v y.0 y.1))
+    inas_ok y e new = record { acts = inas_right y e new; flags = inas_flags }
 
 -- ---- tuples that are sent
 
@@ -297,7 +271,7 @@ module _ (fs : List Field) (x n : ℕ) (w : List ℕ) (v : Version) (r : Placing
       → Bounded h × EvenLists fs × (8 * v.coord + sizes fs ≤ length (take 200000 w)) × (length (take 200000 w) < 524288) × (0 < x) × (x < 65536) × (n < 65536)
   sent_ready h b = let room = r.room in (b, r.even, omega (arith, sent_area), omega (arith, sent_area), r.first, r.index, r.count)
 
-  module _ (i : ℕ) (ys : List ℕ) (long : length ys ≡ 200000) (e : Placed)
+  module _ (i : ℕ) (ys : List ℕ) (long : length ys ≡ 200000) (e : Option ℕ)
       (s : PlacedAs (placed (record { instruction = i; index = x; count = n }) (sent fs) (tuples_of (take 200000 w) v.coord)) ys e) where
     pub sent_same : length (lent 0 200000 ys w) ≡ length w
     sent_same = list_same w r.wide ys long
@@ -311,13 +285,13 @@ module _ (fs : List Field) (x n : ℕ) (w : List ℕ) (v : Version) (r : Placing
     sent_so : (d u b : List ℕ) → place_in b ≡ edit_at i x n → (p : Parts) → HeldParts d u w v p → placed (place_in b) (sent fs) p.coordinates ≡ sent_to
     sent_so d u b is p g = ap (λ (z : Edit). placed z (sent fs) p.coordinates) is ∙ ap (placed (edit_at i x n) (sent fs)) g.coordinates
 
-    sent_wrong : e ≡ Outside → ((d u b : List ℕ) → place_in b ≡ edit_at i x n → PartActs d u (sent fs) (field_as COCC b) w v (lent 0 200000 ys w) (Wrong 9 0))
+    sent_wrong : e ≡ None → (d u b : List ℕ) → place_in b ≡ edit_at i x n → PartActs d u (sent fs) (field_as COCC b) w v (lent 0 200000 ys w) (Err (fault 9 0 0))
     unfolding PartActs PlacedAs
     sent_wrong z =
         let a : sent_to ≡ refuse 9 0 = subst (PlacedAs sent_to ys) z s in
-        λ d u b is p g. cocc_by (sent fs) b p ∙ bind_no (placed (place_in b) (sent fs) p.coordinates) (λ cs. ok (with_coordinates cs p)) 9 0 (sent_so d u b is p g ∙ a)
+        λ d u b is p g. cocc_by (sent fs) b p ∙ bind_no (placed (place_in b) (sent fs) p.coordinates) (λ cs. ok (with_coordinates cs p)) (fault 9 0 0) (sent_so d u b is p g ∙ a)
 
-    sent_right : (m : ℕ) → e ≡ Inside m → ((d u b : List ℕ) → place_in b ≡ edit_at i x n → PartActs d u (sent fs) (field_as COCC b) w v (lent 0 200000 ys w) (Right (coord_now v m)))
+    sent_right : (m : ℕ) → e ≡ Some m → (d u b : List ℕ) → place_in b ≡ edit_at i x n → PartActs d u (sent fs) (field_as COCC b) w v (lent 0 200000 ys w) (Ok (coord_now v m))
     unfolding PartActs PlacedAs
     sent_right m z =
         let a : (sent_to ≡ ok (tuples_of ys m)) × (8 * m ≤ length ys) = subst (PlacedAs sent_to ys) z s in
@@ -334,14 +308,11 @@ module _ (fs : List Field) (x n : ℕ) (w : List ℕ) (v : Version) (r : Placing
           coord = λ q _. absurd (q refl);
         }
 
-    sent_of : (y : Placed) → e ≡ y → ((d u b : List ℕ) → place_in b ≡ edit_at i x n → PartActs d u (sent fs) (field_as COCC b) w v (lent 0 200000 ys w) (cocc_part v y))
-    unfolding cocc_part
-    sent_of Outside q = sent_wrong q
-    sent_of (Inside m) q = sent_right m q
+    pub sent_err : e ≡ None → (d u b : List ℕ) → place_in b ≡ edit_at i x n → FieldActs d u (sent fs) (field_as COCC b) w v (lent 0 200000 ys w) (Err (fault 9 0 0))
+    sent_err z d u b q = record { acts = sent_wrong z d u b q; flags = sent_flags }
 
-    pub sent_acts : (y : Part) → y ≡ cocc_part v e → (d u b : List ℕ) → place_in b ≡ edit_at i x n → FieldActs d u (sent fs) (field_as COCC b) w v (lent 0 200000 ys w) y
-    sent_acts y is d u b q =
-        subst (FieldActs d u (sent fs) (field_as COCC b) w v (lent 0 200000 ys w)) (sym is) (record { acts = sent_of e refl d u b q; flags = sent_flags })
+    pub sent_ok : (m : ℕ) → e ≡ Some m → (d u b : List ℕ) → place_in b ≡ edit_at i x n → FieldActs d u (sent fs) (field_as COCC b) w v (lent 0 200000 ys w) (Ok (coord_now v m))
+    sent_ok m z d u b q = record { acts = sent_right m z d u b q; flags = sent_flags }
 
 -- ---- COCC
 
@@ -349,7 +320,7 @@ pub from_start : (at len : ℕ) → at ≤ at + len
 from_start at len = omega arith
 
 pub sending_inside : (u : List ℕ) (at len : ℕ) (h : Shape) → Sending u at len h → at + len ≤ length u
-sending_inside u at len h t = (right u at (record_at u at) refl len h.base h.a h.b t.there).inside
+sending_inside u at len h t = (right u at (record_at u at) refl _ t.there).inside
 
 pub sending_word : (u : List ℕ) (at len : ℕ) (h : Shape) → Sending u at len h → length u ≤ 16777216 → at + len < 2 ^ 64
 sending_word u at len h t l = omega (arith, sending_inside u at len h t)
@@ -407,9 +378,9 @@ module _ (u w : List ℕ) (v : Version) (from to : ℕ) (r : Ready u w v COCC fr
     pub cocc_placing : (at len : ℕ) (h : Shape) → Sending u at len h → 8 * v.coord ≤ 99999
         → Bounded h × Placing (fields_at (between u at (at + len)) h 24) x n w v
     cocc_placing at len h t few =
-        let a = right u at (record_at u at) refl len h.base h.a h.b t.there in
-        let b = record_filled u at (record_at u at) refl len h.base h.a h.b t.there in
-        let c = record_short u at (record_at u at) refl len h.base h.a h.b t.there in
+        let a = right u at (record_at u at) refl _ t.there in
+        let b = record_filled u at (record_at u at) refl _ t.there in
+        let c = record_short u at (record_at u at) refl _ t.there in
         let l = length_between u at (at + len) a.inside in
         let q = cocc_index x ex in
         (a.bounded, record { even = t.even; room = omega arith; wide = r.wide; first = q.0; index = q.1; count = (cocc_count n en).0; bare = (r.due.cocc refl).1 })
@@ -429,7 +400,7 @@ module _ (u w : List ℕ) (v : Version) (from to : ℕ) (r : Ready u w v C2IT fr
 
   pub point_right : (ys : List ℕ) → length ys ≡ 200000 → (m : ℕ)
       → (8 * m ≡ 8 * 0 + (to - from)) × (tuples_of ys m ≡ take 0 (tuples_of (take 200000 w) 0) ++ (coords_in (between u from to) ++ drop 0 (tuples_of (take 200000 w) 0)))
-      → (d : List ℕ) (new : List Coord) → FieldActs d u new (field_as C2IT point_body) w v (lent 0 200000 ys w) (Right (coord_now v m))
+      → (d : List ℕ) (new : List Coord) → FieldActs d u new (field_as C2IT point_body) w v (lent 0 200000 ys w) (Ok (coord_now v m))
   unfolding PartActs
   point_right ys long m s d new =
       let wide : 400000 ≤ length w = r.wide in
@@ -472,7 +443,7 @@ module _ (d u w : List ℕ) (v : Version) (from to : ℕ) (r : Ready u w v SPAS 
       let room = r.rooms.spas in
       (r.runs, r.inside, omega arith, omega (arith, spas_area_lem u w v SPAS from to r, spas_long), r.due.spas refl, spas_every _ h.1.spas_right)
 
-  module _ (gd : Bytes d) (gu : Bytes u) (ys : List ℕ) (long : length ys ≡ 94000) (x : Acted)
+  module _ (gd : Bytes d) (gu : Bytes u) (ys : List ℕ) (long : length ys ≡ 94000) (x : Result ℕ Fault)
       (s : SpasActs (act_spas 1 (many (tuple_of Spas) (between u from to)) (each spatial_in (bodies_of d u (take 94000 (drop 292000 w)) v.spas))) d u ys (v.spas + (to - from) / 15) x) where
     pub spas_same : length (lent 292000 94000 ys w) ≡ length w
     spas_same = let wide : 400000 ≤ length w = r.wide in length_lent 292000 94000 ys w long (omega arith)
@@ -483,46 +454,39 @@ module _ (d u w : List ℕ) (v : Version) (from to : ℕ) (r : Ready u w v SPAS 
     abbrev spas_to : List Spatial → Check (List Spatial)
     spas_to ss = act_spas 1 (many (tuple_of Spas) spas_body) ss
 
-    abbrev spas_acts : Acted → Type 0
+    abbrev spas_acts : Result ℕ Fault → Type 0
     spas_acts y = SpasActs (spas_to (each spatial_in old_spas)) d u ys (v.spas + (to - from) / 15) y
 
-    spas_wrong : (k j : ℕ) → x ≡ Unfit k j
-        → ((new : List Coord) → PartActs d u new (field_as SPAS spas_body) w v (lent 292000 94000 ys w) (Wrong k j)) × FlagsKept w (lent 292000 94000 ys w)
+    spas_wrong : (f : Fault) → x ≡ Err f → (new : List Coord) → PartActs d u new (field_as SPAS spas_body) w v (lent 292000 94000 ys w) (Err f)
     unfolding PartActs SpasActs
-    spas_wrong k j e =
-        let a : spas_to (each spatial_in old_spas) ≡ refuse k j = subst spas_acts e s in
-        (λ new p h. spas_by new spas_body p ∙ bind_no (spas_to p.spatial) (λ ss. ok (with_spatial ss p)) k j (ap spas_to h.spatial ∙ a), spas_flags)
+    spas_wrong f e new p h =
+        let a : spas_to (each spatial_in old_spas) ≡ no f = subst spas_acts e s in
+        spas_by new spas_body p ∙ bind_no (spas_to p.spatial) (λ ss. ok (with_spatial ss p)) f (ap spas_to h.spatial ∙ a)
 
-    spas_right : (m : ℕ) → x ≡ Fit m
-        → ((new : List Coord) → PartActs d u new (field_as SPAS spas_body) w v (lent 292000 94000 ys w) (Right (spas_now v m)))
-        × FlagsKept w (lent 292000 94000 ys w)
+    -- it is refused
+    pub spas_err : (f : Fault) → x ≡ Err f → (new : List Coord) → FieldActs d u new (field_as SPAS spas_body) w v (lent 292000 94000 ys w) (Err f)
+    spas_err f e new = record { acts = spas_wrong f e new; flags = spas_flags }
+
+    spas_right : (m : ℕ) → x ≡ Ok m → (new : List Coord) → PartActs d u new (field_as SPAS spas_body) w v (lent 292000 94000 ys w) (Ok (spas_now v m))
     unfolding PartActs SpasActs
-    spas_right m e =
+    spas_right m e new =
         let a : SpasNow (spas_to (each spatial_in old_spas)) d u ys (v.spas + (to - from) / 15) m = subst spas_acts e s in
         let few : m ≤ v.spas + (to - from) / 15 = a.few in
         let room = r.rooms.spas in
         let full : 7 * m ≤ 94000 = omega (arith, spas_long) in
         let ss : List Spatial = each spatial_in (bodies_of d u ys m) in
-        let all : Each RightSpas (bodies_of d u ys m) = spas_all (bodies_of d u ys m) a.right (bodies_bytes d u ys gd gu m 0) in (
-          λ new. record {
-            held = λ p h. (
-              with_spatial ss p,
-              spas_by new spas_body p ∙ bind_ok (spas_to p.spatial) (λ ss. ok (with_spatial ss p)) ss (ap spas_to h.spatial ∙ a.is),
-              with_spas d u w v p h r.wide ys long m ss refl all full,
-            );
-            same = same_ident v v.attr v.inas v.coord m v.attrbytes v.inasbytes;
-            rooms = λ n q. record { attr = omega (arith, q.attr); inas = omega (arith, q.inas); spas = omega (arith, q.spas, spas_long); bytes = omega (arith, q.bytes) };
-            coord = λ _ q. q;
-          },
-          spas_flags,
-        )
+        let all : Each RightSpas (bodies_of d u ys m) = spas_all (bodies_of d u ys m) a.right (bodies_bytes d u ys gd gu m 0) in
+        record {
+          held = λ p h. (
+            with_spatial ss p,
+            spas_by new spas_body p ∙ bind_ok (spas_to p.spatial) (λ ss. ok (with_spatial ss p)) ss (ap spas_to h.spatial ∙ a.is),
+            with_spas d u w v p h r.wide ys long m ss refl all full,
+          );
+          same = same_ident v v.attr v.inas v.coord m v.attrbytes v.inasbytes;
+          rooms = λ n q. record { attr = omega (arith, q.attr); inas = omega (arith, q.inas); spas = omega (arith, q.spas, spas_long); bytes = omega (arith, q.bytes) };
+          coord = λ _ q. q;
+        }
 
-    spas_of : (y : Acted) → x ≡ y
-        → ((new : List Coord) → PartActs d u new (field_as SPAS spas_body) w v (lent 292000 94000 ys w) (spas_part v y)) × FlagsKept w (lent 292000 94000 ys w)
-    unfolding spas_part
-    spas_of (Unfit k j) e = spas_wrong k j e
-    spas_of (Fit m) e = spas_right m e
-
-    pub spas_acts_lem : (e : Part) → e ≡ spas_part v x → (new : List Coord) → FieldActs d u new (field_as SPAS spas_body) w v (lent 292000 94000 ys w) e
-    spas_acts_lem e is new =
-        subst (FieldActs d u new (field_as SPAS spas_body) w v (lent 292000 94000 ys w)) (sym is) (record { acts = (spas_of x refl).0 new; flags = spas_flags })
+    -- it has acted
+    pub spas_ok : (m : ℕ) → x ≡ Ok m → (new : List Coord) → FieldActs d u new (field_as SPAS spas_body) w v (lent 292000 94000 ys w) (Ok (spas_now v m))
+    spas_ok m e new = record { acts = spas_right m e new; flags = spas_flags }

@@ -1,12 +1,12 @@
 -- What a modify's fields stand on.
 use Rattle.std.specs.Prelude.{ℕ, ◌+◌, ◌*◌, ◌%◌, ◌≤◌, ◌<◌, ◌≡◌, true, false, List, length}
 use Rattle.base.specs.Check.{ok, pass, passed}
+use Rattle.skeleton.specs.Leader.{good}
 use Rattle.skeleton.specs.Emit.{size, sizes}
 use Rattle.skeleton.specs.File.{Field}
 use Rattle.skeleton.specs.Place.{between, fields_at}
 use Rattle.skeleton.specs.Record.{record_at}
 use Rattle.skeleton.specs.declared.directory.Shape.{Shape}
-use Rattle.skeleton.specs.declared.leader.Head.TheVariants.{Good}
 use Rattle.fields.specs.Valid.{Has}
 use Rattle.fields.specs.declared.Format.TheVariants.{Attr, Spas, Cocc, C2it}
 use Rattle.rules.specs.Tags.{ATTR, INAS, SPAS, COCC, C2IT, C2IL}
@@ -18,8 +18,6 @@ use Rattle.rules.specs.Record.{update_record}
 use Rattle.rules.specs.Written.{field_as}
 use Rattle.rules.specs.declared.Kind.{Kind}
 use Rattle.coords.specs.Placing.{EvenLists}
-use Rattle.edits.specs.declared.Edited.{Edited}
-use Rattle.edits.specs.declared.Edited.TheVariants.{Done}
 use Rattle.version.specs.Held.{takes_tree}
 use Rattle.version.specs.declared.Version.{Version}
 
@@ -57,16 +55,9 @@ pub record Ready (u w : List ℕ) (v : Version) (t from to : ℕ) : Type 0 where
   pub due : Due v.kind (field_as t (between u from to))
   pub rooms : Rooms v (size (field_as t (between u from to)))
 
--- the items that an edited tree has in `list` can be measured
-pub record Measurable (d u list : List ℕ) (x : Edited) : Type 0 where
-  pub old : length d ≤ 16777216
-  pub new : length u ≤ 16777216
-  pub short : length list < 524288
-  pub room : (m : ℕ) → x ≡ Done m → 8 * m ≤ length list
-
 -- the record of the update whose field it is: there it stands, and its C2IL fields are made of whole tuples
 pub record Sending (u : List ℕ) (at len : ℕ) (h : Shape) : Type 0 where
-  pub there : record_at u at ≡ Good len h.base h.a h.b
+  pub there : record_at u at ≡ good len h
   pub even : EvenLists (fields_at (between u at (at + len)) h 24)
 
 -- the coordinate tuples that the fields fs send can go to the place (x, n) of the version v in the workspace w
@@ -81,6 +72,6 @@ pub record Placing (fs : List Field) (x n : ℕ) (w : List ℕ) (v : Version) : 
 
 -- the record at `at` of the update is a modify of the version v in the workspace w
 pub record Modifies (u : List ℕ) (at len : ℕ) (h : Shape) (v : Version) : Type 0 where
-  pub there : record_at u at ≡ Good len h.base h.a h.b
+  pub there : record_at u at ≡ good len h
   pub passed : update_record (fields_at (between u at (at + len)) h 24) ≡ ok v.kind
   pub ruin : ruin_byte v.kind (front (fields_at (between u at (at + len)) h 24)) ≡ 3

@@ -1,9 +1,10 @@
 // What the fields of a modify do to the version that the workspace holds.
 #![tactic(auto)]
 
-use part::{Part, act_field};
+use base::Fault;
+use part::act_field;
 use skeleton::directory::Shape;
-use skeleton::place::{Place, place_at};
+use skeleton::place::place_at;
 use version::Version;
 
 pub mod part;
@@ -16,14 +17,7 @@ ghost use Rattle.version.specs.Present.{FlagsKept};
 ghost use Rattle.acting.specs.Ready.{Small, Modifies};
 ghost use Rattle.acting.specs.Acted.{Holding, ActedBy};
 
-// The number, field and tuple of a refusal, or the version as it is now.
-#[derive(Clone, Copy)]
-pub enum Acts {
-    Refused(u8, usize, usize),
-    Now(Version),
-}
-
-// The fields of the modify u[at..at + len] act in order on version v of the workspace; d is the dataset.
+// The fields of the modify u[at..at + len] act in order on version v of the workspace, which is answered as it is then; d is the dataset.
 pub fn act_fields(
     d: &[u8],
     u: &[u8],
@@ -32,7 +26,7 @@ pub fn act_fields(
     h: Shape,
     v: Version,
     work: &mut [u8],
-) -> Acts
+) -> Result<Version, Fault>
     requires { (length u.now ≤ 16777216) × (400000 ≤ length work.old) × Modifies u.now at len h v × Small v × Holding d.now u.now work.old v
         × (length d.now ≤ 16777216) }
     ensures { ActedBy d.now u.now work.old v
@@ -42,26 +36,19 @@ pub fn act_fields(
     let mut q = 24;
     let mut i = 1;
     let mut e = v;
-    loop {
-        match place_at(&u[at..end], h, q) {
-            Place::At {
-                tag,
-                start,
-                end: stop,
-                next,
-            } => match act_field(d, u, at, len, h, tag, at + start, at + stop, e, work) {
-                Part::Right(n) => {
-                    e = n;
-                    q = next;
-                    i += 1;
-                }
-                Part::Wrong(k, j) => {
-                    return Acts::Refused(k, i, j);
-                }
-            },
-            Place::Done => {
-                return Acts::Now(e);
+    while let Some(field) = place_at(&u[at..end], h, q) {
+        let from = at + field.start;
+        let to = at + field.end;
+        match act_field(d, u, at, len, h, field.tag, from, to, e, work) {
+            Ok(now) => {
+                e = now;
+            }
+            Err(fault) => {
+                return Err(Fault { field: i, ..fault });
             }
         }
+        q = field.next;
+        i += 1;
     }
+    Ok(e)
 }

@@ -1,4 +1,5 @@
-// One field of a modify, from `from` up to `to` of the update u, acts on the version in the workspace.
+// One field of a modify, from `from` up to `to` of the update u, acts on the version in the workspace. Each function answers the version as it is then, or the
+// fault at a tuple of the field.
 ghost use Rattle.std.specs.Prelude.{◌≡◌, List, ℕ, ◌+◌, ◌*◌, ◌≤◌, length};
 ghost use Rattle.skeleton.specs.Place.{between, fields_at};
 ghost use Rattle.skeleton.specs.Shape.{Bounded};
@@ -6,102 +7,55 @@ ghost use Rattle.fields.specs.Valid.{Bytes};
 ghost use Rattle.rules.specs.Tags.{ATTR, INAS, COCC, C2IT, SPAS};
 ghost use Rattle.rules.specs.Coordinates.{Coord, place_in, sent};
 ghost use Rattle.rules.specs.Written.{field_as};
-ghost use Rattle.acting.specs.Ready.{Ready, Sending, Placing, Measurable};
-ghost use Rattle.acting.specs.Acted.{Holding, FieldActs, edit_at, attr_part, inas_part, cocc_part, spas_part};
+ghost use Rattle.acting.specs.Ready.{Ready, Sending, Placing};
+ghost use Rattle.acting.specs.Acted.{Holding, FieldActs, edit_at};
 
-use cells::acting::Acted;
-use cells::inas::ActedInas;
+use base::Fault;
 use cells::{inas, spas};
-use coords::placing::{Placed, place_tuples};
+use coords::placing::place_tuples;
 use coords::tuples::put_tuples;
-use edits::{Edited, edit_attr};
+use edits::edit_attr;
 use fields::number::{le8, le16};
+use rules::tags;
 use skeleton::directory::Shape;
 use version::Version;
 use version::areas::list_of;
 
-// The number and the tuple of a refusal, or the version as it is now.
-#[derive(Clone, Copy)]
-pub enum Part {
-    Wrong(u8, usize),
-    Right(Version),
-}
-
-// The version with the items that an edited tree has in `list`.
-fn attr_part(d: &[u8], u: &[u8], list: &[u8], v: Version, x: Edited) -> Part
-    requires { Measurable d.now u.now list.now x }
-    ensures { result ≡ attr_part d.now u.now list.now v x }
-{
-    match x {
-        Edited::Refused(k, j) => Part::Wrong(k, j),
-        Edited::Done(m) => {
-            let mut e = v;
-            e.attr = m;
-            e.attrbytes = numbering::size(d, u, list, m);
-            Part::Right(e)
-        }
-    }
-}
-
-// The version with the associations that there are now.
-fn inas_part(v: Version, x: ActedInas) -> Part
-    ensures { result ≡ inas_part v x }
-{
-    match x {
-        ActedInas::Refused(k, j) => Part::Wrong(k, j),
-        ActedInas::Now(m, t) => {
-            let mut e = v;
-            e.inas = m;
-            e.inasbytes = t;
-            Part::Right(e)
-        }
-    }
-}
-
-// The version with the coordinate tuples that there are now; a COCC that names no place is refused by rule 9.
-fn cocc_part(v: Version, x: Placed) -> Part
-    ensures { result ≡ cocc_part v x }
-{
-    match x {
-        Placed::Refused => Part::Wrong(9, 0),
-        Placed::Now(m) => {
-            let mut e = v;
-            e.coord = m;
-            Part::Right(e)
-        }
-    }
-}
-
-// The version with the spatial associations that there are now.
-fn spas_part(v: Version, x: Acted) -> Part
-    ensures { result ≡ spas_part v x }
-{
-    match x {
-        Acted::Refused(k, j) => Part::Wrong(k, j),
-        Acted::Now(m) => {
-            let mut e = v;
-            e.spas = m;
-            Part::Right(e)
-        }
-    }
-}
-
 // An ATTR edits the tree.
-fn act_attr(d: &[u8], u: &[u8], from: usize, to: usize, v: Version, work: &mut [u8]) -> Part
+fn act_attr(
+    d: &[u8],
+    u: &[u8],
+    from: usize,
+    to: usize,
+    v: Version,
+    work: &mut [u8],
+) -> Result<Version, Fault>
     requires { Ready u.now work.old v ATTR from to × (length d.now ≤ 16777216) }
     ensures { (new : List Coord) → FieldActs d.now u.now new (field_as ATTR (between u.now from to)) work.old v work.new result }
 {
-    let x = edit_attr(u, from, to, &mut work[0..200000], v.attr);
-    attr_part(d, u, list_of(work), v, x)
+    let attr = edit_attr(u, from, to, &mut work[0..200000], v.attr)?;
+    let attrbytes = numbering::size(d, u, list_of(work), attr);
+    Ok(Version {
+        attr,
+        attrbytes,
+        ..v
+    })
 }
 
 // An INAS joins the associations, or one leaves them.
-fn act_inas(d: &[u8], u: &[u8], from: usize, to: usize, v: Version, work: &mut [u8]) -> Part
+fn act_inas(
+    d: &[u8],
+    u: &[u8],
+    from: usize,
+    to: usize,
+    v: Version,
+    work: &mut [u8],
+) -> Result<Version, Fault>
     requires { Ready u.now work.old v INAS from to × Bytes u.now
         × Holding d.now u.now work.old v }
     ensures { (new : List Coord) → FieldActs d.now u.now new (field_as INAS (between u.now from to)) work.old v work.new result }
 {
-    let x = inas::act_inas(
+    let (inas, inasbytes) = inas::act_inas(
         d,
         u,
         from,
@@ -109,11 +63,15 @@ fn act_inas(d: &[u8], u: &[u8], from: usize, to: usize, v: Version, work: &mut [
         &mut work[200000..292000],
         v.inas,
         v.inasbytes,
-    );
-    inas_part(v, x)
+    )?;
+    Ok(Version {
+        inas,
+        inasbytes,
+        ..v
+    })
 }
 
-// The tuples that the record `sender` sends go to a place among those of the version.
+// The tuples that the record `sender` sends go to a place among those of the version, else 9.
 fn place_sent(
     sender: &[u8],
     h: Shape,
@@ -122,11 +80,11 @@ fn place_sent(
     count: usize,
     v: Version,
     work: &mut [u8],
-) -> Part
+) -> Result<Version, Fault>
     requires { Bounded h × Placing (fields_at sender.now h 24) index count work.old v }
     ensures { (d u b : List ℕ) → place_in b ≡ edit_at instruction index count → FieldActs d u (sent (fields_at sender.now h 24)) (field_as COCC b) work.old v work.new result }
 {
-    let x = place_tuples(
+    let Some(coord) = place_tuples(
         sender,
         h,
         instruction,
@@ -134,8 +92,14 @@ fn place_sent(
         count,
         &mut work[0..200000],
         v.coord,
-    );
-    cocc_part(v, x)
+    ) else {
+        return Err(Fault {
+            number: 9,
+            field: 0,
+            tuple: 0,
+        });
+    };
+    Ok(Version { coord, ..v })
 }
 
 // A COCC: the tuples that the record u[at..at + len] sends go to the place that it names.
@@ -148,7 +112,7 @@ fn act_cocc(
     to: usize,
     v: Version,
     work: &mut [u8],
-) -> Part
+) -> Result<Version, Fault>
     requires { Ready u.now work.old v COCC from to × Sending u.now at len h × (8 * v.coord ≤ 99999) }
     ensures { (d : List ℕ) → FieldActs d u.now (sent (fields_at (between u.now at (at + len)) h 24)) (field_as COCC (between u.now from to)) work.old v work.new result }
 {
@@ -161,27 +125,32 @@ fn act_cocc(
 }
 
 // A C2IT replaces the tuple that a point has.
-fn act_c2it(u: &[u8], from: usize, to: usize, v: Version, work: &mut [u8]) -> Part
+fn act_c2it(u: &[u8], from: usize, to: usize, v: Version, work: &mut [u8]) -> Result<Version, Fault>
     requires { Ready u.now work.old v C2IT from to }
     ensures { (d : List ℕ) (new : List Coord) → FieldActs d u.now new (field_as C2IT (between u.now from to)) work.old v work.new result }
 {
-    let m = put_tuples(u, from, to, &mut work[0..200000], 0, 0);
-    let mut e = v;
-    e.coord = m;
-    Part::Right(e)
+    let coord = put_tuples(u, from, to, &mut work[0..200000], 0, 0);
+    Ok(Version { coord, ..v })
 }
 
 // The tuples of a SPAS join the spatial associations, or some leave them.
-fn act_spas(d: &[u8], u: &[u8], from: usize, to: usize, v: Version, work: &mut [u8]) -> Part
+fn act_spas(
+    d: &[u8],
+    u: &[u8],
+    from: usize,
+    to: usize,
+    v: Version,
+    work: &mut [u8],
+) -> Result<Version, Fault>
     requires { Ready u.now work.old v SPAS from to × Bytes d.now × Bytes u.now
         × Holding d.now u.now work.old v }
     ensures { (new : List Coord) → FieldActs d.now u.now new (field_as SPAS (between u.now from to)) work.old v work.new result }
 {
-    let x = spas::act_spas(d, u, from, to, &mut work[292000..386000], v.spas);
-    spas_part(v, x)
+    let spas = spas::act_spas(d, u, from, to, &mut work[292000..386000], v.spas)?;
+    Ok(Version { spas, ..v })
 }
 
-// A field of the record u[at..at + len] by its tag: ATTR (0x41545452), INAS (0x494e4153), COCC (0x434f4343), C2IT (0x43324954), SPAS (0x53504153).
+// A field of the record u[at..at + len] by its tag: ATTR, INAS, COCC, C2IT, SPAS.
 pub fn act_field(
     d: &[u8],
     u: &[u8],
@@ -193,25 +162,25 @@ pub fn act_field(
     to: usize,
     v: Version,
     work: &mut [u8],
-) -> Part
+) -> Result<Version, Fault>
     requires { Ready u.now work.old v tag from to × Sending u.now at len h × Bytes d.now × Bytes u.now × (tag ≡ COCC → 8 * v.coord ≤ 99999)
         × Holding d.now u.now work.old v × (length d.now ≤ 16777216) }
     ensures { FieldActs d.now u.now (sent (fields_at (between u.now at (at + len)) h 24)) (field_as tag (between u.now from to)) work.old v work.new result }
 {
-    if tag == 0x41545452 {
+    if tag == tags::ATTR {
         return act_attr(d, u, from, to, v, work);
     }
-    if tag == 0x494e4153 {
+    if tag == tags::INAS {
         return act_inas(d, u, from, to, v, work);
     }
-    if tag == 0x434f4343 {
+    if tag == tags::COCC {
         return act_cocc(u, at, len, h, from, to, v, work);
     }
-    if tag == 0x43324954 {
+    if tag == tags::C2IT {
         return act_c2it(u, from, to, v, work);
     }
-    if tag == 0x53504153 {
+    if tag == tags::SPAS {
         return act_spas(d, u, from, to, v, work);
     }
-    Part::Right(v)
+    Ok(v)
 }

@@ -1,11 +1,14 @@
 -- Laws of a book of keys. Assumes nothing.
 use mathlib.Core.Path.{◌≡◌, refl, ◌∙◌}
 use mathlib.Core.List.{List, [], ◌∷◌, ◌++◌}
-use mathlib.Core.Bool.{true}
+use mathlib.Core.Bool.{Bool, true, false}
 use Prim.Native.Nat.{ℕ, suc, ◌+◌, ◌*◌, ◌/◌, ◌≤◌, ◌<◌}
 use native.Mathlib.Omega.{arith}
-use borrow.Author.Tests.{eq-eqb, ne_eqb, lt-ltb, le-ltb, le-leb, lt-leb, eqb-true}
+use borrow.Author.Tests.{eq-eqb, ne_eqb, lt-ltb, le-ltb, eqb-true}
 use lib.ListN.{length, get_or}
+use lib.Dec.{leb, ltb}
+use mir.Val.{bool_byte}
+use Rattle.base.specs.Choice.{both}
 use Rattle.base.proofs.ChoiceLaws.{by_test}
 use Rattle.memory.specs.Hold.{zeros}
 use Rattle.keys.specs.Bits.{flag_of, raised}
@@ -17,20 +20,17 @@ use Rattle.book.specs.Book.{bit_at, halves, page_of, written, Met, entered}
 
 -- ---- `bit` and `page`
 
-module _ (b : List ℕ) (key j : ℕ) where
-  pub bit_one : j < length b → get_or b j 0 ≤ key → 1 ≡ bit_at b key j
+module _ (b : List ℕ) (key j r : ℕ) (t : Bool) (e : r ≡ bool_byte t) where
+  bit_by : (c : Bool) → t ≡ c → c ≡ both (ltb j (length b)) (leb (get_or b j 0) key) → (r ≡ bit_at b key j) × (r ≤ 1)
   unfolding bit_at
-  bit_one l g = simp (lt-ltb j (length b) l, le-leb (get_or b j 0) key g)
+  bit_by true x y = rw (e, x, ← y) (refl, omega arith)
+  bit_by false x y = rw (e, x, ← y) (refl, omega arith)
 
-  pub bit_none : j < length b → key < get_or b j 0 → 0 ≡ bit_at b key j
-  unfolding bit_at
-  bit_none l g = simp (lt-ltb j (length b) l, lt-leb (get_or b j 0) key g)
+  pub bit_there : j < length b → t ≡ leb (get_or b j 0) key → (r ≡ bit_at b key j) × (r ≤ 1)
+  bit_there l x = bit_by t refl (rw (lt-ltb j (length b) l) x)
 
-  pub bit_past : length b ≤ j → 0 ≡ bit_at b key j
-  unfolding bit_at
-  bit_past l = simp (le-ltb j (length b) l)
-
-pub ruleset bit_ways = (bit_one, bit_none, bit_past, arith)
+  pub bit_past : length b ≤ j → t ≡ ltb j (length b) → (r ≡ bit_at b key j) × (r ≤ 1)
+  bit_past l x = bit_by t refl (rw (le-ltb j (length b) l) (x ∙ le-ltb j (length b) l))
 
 -- one bit more
 pub on : (b : List ℕ) (key left unit at r x : ℕ) → halves (suc left) b key unit at ≡ r → x ≡ bit_at b key (2 * unit * at + unit) → halves left b key (unit / 2) (2 * at + x) ≡ r

@@ -8,13 +8,13 @@ use borrow.Author.Tests.{ne_eqb, eqb-true, eqb-false, ltb-true, ltb-false}
 use lib.ListN.{length, get_or, take, drop, length-drop}
 use lib.Seq.{drop-cons}
 use lib.Dec.{eqb, ltb}
+use Rattle.std.specs.Prelude.{Option, Some, None, Result, Ok, Err}
 use Rattle.skeleton.specs.Place.{between, place_at, fields_at}
 use Rattle.skeleton.specs.Record.{record_at}
 use Rattle.skeleton.specs.declared.directory.Shape.{Shape}
 use Rattle.skeleton.specs.declared.leader.Head.{Head}
-use Rattle.skeleton.specs.declared.leader.Head.TheVariants.{Good, Refused}
+use Rattle.skeleton.specs.declared.leader.Broken.{Broken}
 use Rattle.skeleton.specs.declared.place.Place.{Place}
-use Rattle.skeleton.specs.declared.place.Place.TheVariants.{At as FieldAt, Done}
 use Rattle.skeleton.proofs.PlaceLaws.{fields_more, fields_done, place_runs, place_in_lem}
 use Rattle.skeleton.proofs.RecordLaws.{right, record_in_lem, record_falls, record_bounded}
 use Rattle.rules.specs.ByTag.{front}
@@ -24,7 +24,6 @@ use Rattle.keys.specs.Listed.{key_of, keys_from, listed, seen_from}
 use Rattle.keys.specs.Look.{look_at, Known}
 use Rattle.keys.specs.Once.{Comes}
 use Rattle.keys.specs.declared.look.Look.{Look}
-use Rattle.keys.specs.declared.look.Look.TheVariants.{At, Nothing}
 use Rattle.keys.proofs.ListLaws.{listed_none, listed_later, listed_more, not_first, not_later, split_room, split_take, split_drop}
 use Rattle.keys.proofs.LookLaws.{Found, FoundBy, found, keys_past, keys_refused, keys_good}
 use Rattle.book.specs.Rcids.{spot_of, Noted, joined, Unmet}
@@ -79,7 +78,7 @@ module _ (f : List ℕ) (start m p x : ℕ) (g : Going f start m p x) where
   going_known = known_fewer f start m x g.known g.below
 
   -- at a look before the record with the number z
-  module _ (z : ℕ) (lz : x < z) (hz : z ≤ m) (e : Look) (en : e ≡ look_at f p) where
+  module _ (z : ℕ) (lz : x < z) (hz : z ≤ m) (e : Option Look) (en : e ≡ look_at f p) where
     h : x < m
     h = omega arith
 
@@ -96,38 +95,38 @@ module _ (f : List ℕ) (start m p x : ℕ) (g : Going f start m p x) where
     here : FoundBy f p e
     here = rw en (found f p _ _ parts some)
 
-    nothing : e ≡ Nothing → ⊥
+    nothing : e ≡ None → ⊥
     nothing y = rw y at here
 
-    pub gather_nothing : e ≡ Nothing → (q j : ℕ) → Going f start m q j
+    pub gather_nothing : e ≡ None → (q j : ℕ) → Going f start m q j
     gather_nothing y q j = absurd (nothing y)
 
-    pub mark_nothing : e ≡ Nothing → (b l t : List ℕ) → Noted b l t
+    pub mark_nothing : e ≡ None → (b l t : List ℕ) → Noted b l t
     mark_nothing y b l t = absurd (nothing y)
 
-    pub until_nothing : e ≡ Nothing → (j r : ℕ) → Firstly f start j r
+    pub until_nothing : e ≡ None → (j r : ℕ) → Firstly f start j r
     until_nothing y j r = absurd (nothing y)
 
-    module _ (len key : ℕ) (y : e ≡ At len key) where
-      one : Found f p len key
+    module _ (look : Look) (y : e ≡ Some look) where
+      one : Found f p look.len look.key
       one = rw y at here
 
-      onward : drop x (keys_from f start) ≡ key ∷ keys_from f (p + len)
+      onward : drop x (keys_from f start) ≡ look.key ∷ keys_from f (p + look.len)
       onward = g.rest ∙ one.keys
 
-      pub going_key : get_or (keys_from f start) x 0 ≡ key
+      pub going_key : get_or (keys_from f start) x 0 ≡ look.key
       going_key = let c = sym parts ∙ one.keys in cc
 
-      pub going_in : p + len ≤ length f
+      pub going_in : p + look.len ≤ length f
       going_in = one.inside
 
-      pub going_word : p + len < 2 ^ 64
+      pub going_word : p + look.len < 2 ^ 64
       going_word = let i = one.inside in let s = g.small in omega arith
 
       pub going_count : x + 1 < 2 ^ 64
       going_count = let i = g.inside in let s = g.small in let c = g.counted in omega arith
 
-      pub going_more : Going f start m (p + len) (x + 1)
+      pub going_more : Going f start m (p + look.len) (x + 1)
       going_more =
           let l = one.long in
           let c = g.counted in
@@ -137,20 +136,20 @@ module _ (f : List ℕ) (start m p x : ℕ) (g : Going f start m p x) where
             below = omega arith;
             counted = omega arith;
             inside = one.inside;
-            rest = split_drop (keys_from f start) x key (keys_from f (p + len)) onward;
+            rest = split_drop (keys_from f start) x look.key (keys_from f (p + look.len)) onward;
           }
 
-      pub going_taken : take (x + 1) (keys_from f start) ≡ take x (keys_from f start) ++ (key ∷ [])
-      going_taken = split_take (keys_from f start) x key (keys_from f (p + len)) onward
+      pub going_taken : take (x + 1) (keys_from f start) ≡ take x (keys_from f start) ++ (look.key ∷ [])
+      going_taken = split_take (keys_from f start) x look.key (keys_from f (p + look.len)) onward
 
-      pub going_fresh : Fresh f start x → (b : Bool) → b ≡ seen_from f start x key → b ≡ false → Fresh f start (x + 1)
-      going_fresh fr b eb w = fresh_more f start x key fr going_key b eb w
+      pub going_fresh : Fresh f start x → (b : Bool) → b ≡ seen_from f start x look.key → b ≡ false → Fresh f start (x + 1)
+      going_fresh fr b eb w = fresh_more f start x look.key fr going_key b eb w
 
-      pub going_again : Fresh f start x → (b : Bool) → b ≡ seen_from f start x key → b ≡ true → Firstly f start z x
+      pub going_again : Fresh f start x → (b : Bool) → b ≡ seen_from f start x look.key → b ≡ true → Firstly f start z x
       going_again fr b eb w = record { below = omega arith; fresh = fr; again = λ _. rw going_key (sym eb ∙ w) }
 
-      pub going_met : (b t t' : List ℕ) → Noted b (take x (keys_from f start)) t → t' ≡ joined b t key → Noted b (take (x + 1) (keys_from f start)) t'
-      going_met b t t' ms w = rw going_taken (noted_more b (take x (keys_from f start)) t t' key ms w)
+      pub going_met : (b t t' : List ℕ) → Noted b (take x (keys_from f start)) t → t' ≡ joined b t look.key → Noted b (take (x + 1) (keys_from f start)) t'
+      going_met b t t' ms w = rw going_taken (noted_more b (take x (keys_from f start)) t t' look.key ms w)
 
 pub gather_over : (f : List ℕ) (start m q y e : ℕ) → Going f start m q y → y ≤ e → e ≤ y → Going f start m q e
 gather_over f start m q y e g h l = let s : y ≡ e = omega arith in rw s at g
@@ -203,26 +202,30 @@ module _ (f : List ℕ) (start p m : ℕ) (g : Going f start m p m) where
     ends = λ l. absurd (omega (arith, length-drop m (keys_from f start), ap length (g.rest ∙ e)));
   }
 
-  pub reach_over : length f ≤ p → Reach f start m
-  reach_over h = ended (keys_past f p h)
+  module _ (h : Result Head Broken) (eh : h ≡ record_at f p) where
+    -- no record: the file has ended, or one is refused
+    pub reach_over : (n : Broken) → h ≡ Err n → Reach f start m
+    reach_over n x = go (ltb p (length f)) refl
+      where
+        go : (t : Bool) → ltb p (length f) ≡ t → Reach f start m
+        go true y = ended (keys_refused f p (ltb-true p (length f) y) h eh n x)
+        go false y = ended (keys_past f p (ltb-false p (length f) y))
 
-  module _ (l : p < length f) (h : Head) (eh : h ≡ record_at f p) where
-    pub reach_refused : (n : ℕ) → h ≡ Refused n → Reach f start m
-    reach_refused n x = ended (keys_refused f p l h eh n x)
-
-    pub reach_word : (len base a b : ℕ) → h ≡ Good len base a b → p + len < 2 ^ 64
-    reach_word len base a b x = let i = record_in_lem f p h eh len base a b x in let s = g.small in omega arith
+    pub reach_word : (d : Head) → h ≡ Ok d → p + d.len < 2 ^ 64
+    reach_word d x = let i = record_in_lem f p h eh d x in let s = g.small in omega arith
 
     pub reach_count : m + 1 < 2 ^ 64
     reach_count = let c = few in omega arith
 
-    module _ (len base a b : ℕ) (x : h ≡ Good len base a b) (k : ℕ)
-        (ek : k ≡ key_of (fields_at (between f p (p + len)) (record { base = base; a = a; b = b }) 24)) where
-      next : drop m (keys_from f start) ≡ k ∷ keys_from f (p + len)
-      next = rw ek (g.rest ∙ keys_good f p l h eh len base a b x)
+    module _ (d : Head) (x : h ≡ Ok d) (k : ℕ) (ek : k ≡ key_of (fields_at (between f p (p + d.len)) d.shape 24)) where
+      before_end : p < length f
+      before_end = let w = right f p h eh d x in let l = w.long in let i = w.inside in omega arith
+
+      next : drop m (keys_from f start) ≡ k ∷ keys_from f (p + d.len)
+      next = rw ek (g.rest ∙ keys_good f p before_end h eh d x)
 
       space : m < length (keys_from f start)
-      space = split_room (keys_from f start) m k (keys_from f (p + len)) next
+      space = split_room (keys_from f start) m k (keys_from f (p + d.len)) next
 
       pub reach_keyless : k ≡ 0 → Reach f start m
       reach_keyless z =
@@ -230,14 +233,14 @@ module _ (f : List ℕ) (start p m : ℕ) (g : Going f start m p m) where
           let s : get_or (keys_from f start) m 0 ≡ k = cc in
           record { known = g.known; few = few; ends = λ _. s ∙ z }
 
-      pub reach_more : (k ≡ 0 → ⊥) → Going f start (m + 1) (p + len) (m + 1)
+      pub reach_more : (k ≡ 0 → ⊥) → Going f start (m + 1) (p + d.len) (m + 1)
       unfolding seen_from
       reach_more n =
-          let w = right f p h eh len base a b x in
+          let w = right f p h eh d x in
           let long = w.long in
           let c = g.counted in
           let s = space in
-          let t = split_take (keys_from f start) m k (keys_from f (p + len)) next in
+          let t = split_take (keys_from f start) m k (keys_from f (p + d.len)) next in
           record {
             small = g.small;
             known = record {
@@ -247,7 +250,7 @@ module _ (f : List ℕ) (start p m : ℕ) (g : Going f start m p m) where
             below = omega arith;
             counted = omega arith;
             inside = w.inside;
-            rest = split_drop (keys_from f start) m k (keys_from f (p + len)) next;
+            rest = split_drop (keys_from f start) m k (keys_from f (p + d.len)) next;
           }
 
 -- ---- `foresee`
@@ -330,12 +333,12 @@ few_foreseen f start d s = let w = s.few in omega arith
 
 -- ---- `first_key`
 
-module _ (r : List ℕ) (h : Shape) (e : Place) (en : e ≡ place_at r h 24) where
-  pub first_there : (tag start end next : ℕ) → e ≡ FieldAt tag start end next → (k : ℕ) → k ≡ key_at (between r start end) 0 → k ≡ key_of (fields_at r h 24)
+module _ (r : List ℕ) (h : Shape) (e : Option Place) (en : e ≡ place_at r h 24) where
+  pub first_there : (p : Place) → e ≡ Some p → (k : ℕ) → k ≡ key_at (between r p.start p.end) 0 → k ≡ key_of (fields_at r h 24)
   unfolding key_of front
-  first_there tag start end next x k z = rw (fields_more r h 24 e en tag start end next x) z
+  first_there p x k z = rw (fields_more r h 24 e en p x) z
 
-  pub first_none : e ≡ Done → 0 ≡ key_of (fields_at r h 24)
+  pub first_none : e ≡ None → 0 ≡ key_of (fields_at r h 24)
   unfolding key_of front key_at
   first_none x = rw (fields_done r h 24 e en x) refl
 
@@ -343,7 +346,7 @@ module _ (r : List ℕ) (h : Shape) (e : Place) (en : e ≡ place_at r h 24) whe
 
 pub ruleset first_key_ways = (first_there, first_none, place_runs, place_in_lem, arith)
 
-pub ruleset reach_turn = (reach_over, reach_refused, reach_keyless, reach_more, reach_word, reach_count, record_in_lem, record_falls, record_bounded, arith)
+pub ruleset reach_turn = (reach_over, reach_keyless, reach_more, reach_word, reach_count, record_in_lem, record_falls, record_bounded, arith)
 
 pub ruleset gather_turn = (gather_nothing, gather_over, going_in, going_word, going_count, going_more, unmet_zeros, unmet_sifted, arith)
 

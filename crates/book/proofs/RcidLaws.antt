@@ -1,10 +1,11 @@
 -- Laws of a book of RCIDs. Assumes nothing.
+use mathlib.Core.Logic.{◌⊎◌, inl, inr}
 use mathlib.Core.Path.{◌≡◌, refl, sym, ap, ◌∙◌}
 use mathlib.Core.List.{List, [], ◌∷◌, ◌++◌}
-use mathlib.Core.Bool.{Bool, true, false, not, true≢false}
+use mathlib.Core.Bool.{Bool, true, false, true≢false}
 use Prim.Native.Nat.{ℕ, ◌+◌, ◌-◌, ◌*◌, ◌/◌, ◌%◌, ◌≤◌, ◌<◌}
 use native.Mathlib.Omega.{arith}
-use borrow.Author.Tests.{not-true, not-false, eq-eqb, ne_eqb, lt-ltb, le-ltb, eqb-true, eqb-false, ltb-true}
+use borrow.Author.Tests.{eq-eqb, ne_eqb, lt-ltb, le-ltb, eqb-true, eqb-false, ltb-true}
 use lib.ListN.{length, get_or, get_or-eq_default}
 use lib.Dec.{eqb, ltb}
 use Rattle.base.specs.Choice.{pick, both}
@@ -123,13 +124,13 @@ pub ruleset sieve_ways = (sifted_past, sifted_flag, sift_is, arith)
 -- ---- `spot`
 
 module _ (b v : List ℕ) (key rcid : ℕ) (s : Bool) (e : s ≡ flag_of v (mesh_of (length v) rcid)) (er : rcid ≡ rcid_in key) where
-  pub spot_sifted : not s ≡ true → 0 ≡ spot_of b v key
+  pub spot_sifted : s ≡ false → 0 ≡ spot_of b v key
   unfolding spot_of held_in
-  spot_sifted x = let y : flag_of v (mesh_of (length v) (rcid_in key)) ≡ false = rw (← er) (sym e ∙ not-true s x) in simp y
+  spot_sifted x = let y : flag_of v (mesh_of (length v) (rcid_in key)) ≡ false = rw (← er) (sym e ∙ x) in simp y
 
-  module _ (x : not s ≡ false) where
+  module _ (x : s ≡ true) where
     let_through : flag_of v (mesh_of (length v) (rcid_in key)) ≡ true
-    let_through = rw (← er) (sym e ∙ not-false s x)
+    let_through = rw (← er) (sym e ∙ x)
 
     pub spot_kindless : 21474836479 < key → 0 ≡ spot_of b v key
     unfolding spot_of held_in
@@ -150,7 +151,11 @@ module _ (b v : List ℕ) (key rcid : ℕ) (s : Bool) (e : s ≡ flag_of v (mesh
       unfolding spot_of held_in mark_of
       spot_not y = simp (let_through, lt-ltb (kind_in key) 5 kind_small, ← at_leaf, ne_eqb (get_or b j 0) (rcid_in key) (λ z. y (z ∙ sym er)))
 
-pub ruleset spot_ways = (spot_sifted, spot_kindless, spot_there, spot_not, arith)
+  pub spot_gone : (s ≡ false) ⊎ ((s ≡ true) × (21474836479 < key)) → 0 ≡ spot_of b v key
+  spot_gone (inl x) = spot_sifted x
+  spot_gone (inr (x, h)) = spot_kindless x h
+
+pub ruleset spot_ways = (spot_gone, spot_there, spot_not, arith)
 
 -- ---- a key that has a flag is one that the book has
 

@@ -1,13 +1,10 @@
 -- Laws of flags of which none is lowered. Assumes nothing.
-use mathlib.Core.Path.{◌≡◌, refl, ◌∙◌}
+use mathlib.Core.Path.{◌≡◌, refl, ap, ◌∙◌}
 use mathlib.Core.Bool.{Bool, true, false, true≢false}
 use mathlib.Core.List.{List}
-use Prim.Native.Nat.{ℕ, zero, suc, ◌+◌, ◌/◌, ◌%◌, ◌≤◌, ◌<◌}
+use Prim.Native.Nat.{ℕ, zero, suc, ◌/◌, ◌%◌, ◌≤◌, ◌<◌}
 use native.Mathlib.Omega.{arith}
-use borrow.Author.Tests.{eqb-true, eqb-false}
-use lib.ListN.{length, get_or, set}
-use lib.Seq.{get_or-set_same, get_or-set_other}
-use lib.Dec.{eqb}
+use lib.ListN.{length, replicate, length-replicate, get_or-replicate}
 use Rattle.keys.specs.Bits.{bit_of, flag_of, raised}
 use Rattle.keys.specs.Listed.{seen_from}
 use Rattle.keys.specs.Map.{kind_in, Marks}
@@ -29,25 +26,11 @@ ones (suc (suc (suc (suc (suc (suc zero)))))) h = refl
 ones (suc (suc (suc (suc (suc (suc (suc zero))))))) h = refl
 ones (suc (suc (suc (suc (suc (suc (suc (suc i)))))))) h = absurd (omega arith)
 
-pub full_none : (t : List ℕ) → Full t 0
-unfolding Full
-full_none t j h = absurd (omega arith)
-
-pub full_more : (t : List ℕ) (i : ℕ) → Full t i → i < length t → Full (set t i 255) (i + 1)
+pub full_ones : (n : ℕ) (t : List ℕ) → t ≡ replicate n 255 → Full t (length t)
 unfolding Full flag_of
-full_more t i u l j h = go (eqb (j / 8) i) refl
-  where
-    go : (b : Bool) → eqb (j / 8) i ≡ b → eqb (bit_of (j % 8) (get_or (set t i 255) (j / 8) 0)) 1 ≡ true
-    go true x = rw (eqb-true (j / 8) i x, get_or-set_same t i 255 0 l, ones (j % 8) (omega arith)) refl
-    go false x =
-        let n = eqb-false (j / 8) i x in
-        rw (get_or-set_other t i (j / 8) 255 0 n) (u j (omega (arith, n)))
-
-pub full_over : (t : List ℕ) (i : ℕ) → Full t i → length t ≤ i → Full t (length t)
-unfolding Full
-full_over t i u l j h = u j (omega arith)
-
-pub ruleset full_turn = (full_more, full_over, arith)
+full_ones n t e j h =
+    let g : j / 8 < n = omega (arith, ap length e, length-replicate {A = ℕ} n 255) in
+    rw (e, get_or-replicate {A = ℕ} n (j / 8) 255 0 g, ones (j % 8) (omega arith)) refl
 
 -- ---- `stood_by` and `stood`
 

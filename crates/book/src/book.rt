@@ -6,13 +6,7 @@ ghost use Rattle.book.specs.Book.{bit_at, page_of};
 fn bit(b: &[u64], key: u64, j: usize) -> usize
     ensures { (result ≡ bit_at b.now key j) × (result ≤ 1) }
 {
-    if j < b.len() {
-        if b[j] <= key {
-            return 1;
-        }
-        return 0;
-    }
-    0
+    usize::from(j < b.len() && b[j] <= key)
 }
 
 // Where a key is looked for: the last entry that is not above it, where the entries ascend. The number of its place comes bit by bit, so that nothing is
@@ -36,46 +30,4 @@ pub fn page(b: &[u64], key: u64) -> usize
         return o;
     }
     0
-}
-
-// Moves the entry at i down by gaps, to behind one that is not above it.
-fn sink(b: &mut [u64], i: usize, gap: usize)
-    requires { (i < length b.old) × (0 < gap) }
-{
-    let v = b[i];
-    let mut j = i;
-    while gap <= j {
-        let w = b[j - gap];
-        if w <= v {
-            b[j] = v;
-            return;
-        }
-        b[j] = w;
-        j -= gap;
-    }
-    b[j] = v;
-}
-
-// Puts the entries that are a gap apart in order.
-fn settle(b: &mut [u64], gap: usize)
-    requires { 0 < gap }
-{
-    let mut i = gap;
-    while i < b.len() {
-        sink(b, i, gap);
-        i += 1;
-    }
-}
-
-// Puts the entries in order.
-pub fn sort(b: &mut [u64]) {
-    settle(b, 1750);
-    settle(b, 701);
-    settle(b, 301);
-    settle(b, 132);
-    settle(b, 57);
-    settle(b, 23);
-    settle(b, 10);
-    settle(b, 4);
-    settle(b, 1);
 }

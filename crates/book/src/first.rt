@@ -10,14 +10,14 @@ ghost use Rattle.keys.specs.Listed.{key_of, keys_from, seen_from};
 ghost use Rattle.keys.specs.Look.{Known};
 ghost use Rattle.keys.specs.Once.{Comes};
 
-use crate::rcids::{enter, rcid_of, sift, sort, spot};
+use crate::order::sort;
+use crate::rcids::{enter, rcid_of, sift, spot};
 use keys::bits::flag;
-use keys::look::{Look, key_at, look_at, seen};
+use keys::look::{key_at, look_at, seen};
 use memory::clearing::zero;
 use skeleton::directory::Shape;
 use skeleton::file::record_at;
-use skeleton::leader::Head;
-use skeleton::place::{Place, place_at};
+use skeleton::place::place_at;
 
 // The key of the record r, which stands at the front of its first field.
 fn first_key(r: &[u8], h: Shape) -> u64
@@ -25,13 +25,8 @@ fn first_key(r: &[u8], h: Shape) -> u64
     ensures { result ≡ key_of (fields_at r.now h 24) }
 {
     match place_at(r, h, 24) {
-        Place::At {
-            tag: _,
-            start,
-            end,
-            next: _,
-        } => key_at(&r[start..end], 0),
-        Place::Done => 0,
+        Some(field) => key_at(&r[field.start..field.end], 0),
+        None => 0,
     }
 }
 
@@ -42,20 +37,13 @@ fn reach(f: &[u8], start: usize) -> usize
 {
     let mut p = start;
     let mut m = 0;
-    while p < f.len() {
-        match record_at(f, p) {
-            Head::Good { len, base, a, b } => {
-                let e = p + len;
-                if first_key(&f[p..e], Shape { base, a, b }) == 0 {
-                    return m;
-                }
-                p = e;
-                m += 1;
-            }
-            Head::Refused(_) => {
-                return m;
-            }
+    while let Ok(head) = record_at(f, p) {
+        let e = p + head.len;
+        if first_key(&f[p..e], head.shape) == 0 {
+            return m;
         }
+        p = e;
+        m += 1;
     }
     m
 }
@@ -84,20 +72,14 @@ fn gather(
 {
     zero(t);
     let mut q = p;
-    let mut y = x;
-    while y < e {
-        match look_at(f, q) {
-            Look::At { len, key } => {
-                let rcid = rcid_of(key);
-                put(b, y - x, rcid);
-                sift(t, rcid);
-                q += len;
-                y += 1;
-            }
-            Look::Nothing => {
-                return q;
-            }
-        }
+    for y in x..e {
+        let Some(look) = look_at(f, q) else {
+            return q;
+        };
+        let rcid = rcid_of(look.key);
+        put(b, y - x, rcid);
+        sift(t, rcid);
+        q += look.len;
     }
     sort(b);
     q
@@ -109,37 +91,30 @@ fn mark(f: &[u8], start: usize, m: usize, x: usize, b: &[u32], t: &mut [u8])
     ensures { Noted b.now (take x (keys_from f.now start)) t.new }
 {
     let mut p = start;
-    let mut y = 0;
-    while y < x {
-        match look_at(f, p) {
-            Look::At { len, key } => {
-                enter(b, t, key);
-                p += len;
-                y += 1;
-            }
-            Look::Nothing => {
-                return;
-            }
-        }
+    for _ in 0..x {
+        let Some(look) = look_at(f, p) else {
+            return;
+        };
+        enter(b, t, look.key);
+        p += look.len;
     }
 }
 
 // Whether a key is among those of the first x records from start on: by its flag, if the book has it.
 fn met(f: &[u8], start: usize, x: usize, key: u64, b: &[u32], t: &[u8]) -> bool
-    requires f_len_bound { (length f.now ≤ 16777216) × (start ≤ length f.now) × Known f.now start x }
-    requires b_nonzero { (0 < length b.now) × Noted b.now (take x (keys_from f.now start)) t.now }
+    requires known { (length f.now ≤ 16777216) × (start ≤ length f.now) × Known f.now start x }
+    requires noted { (0 < length b.now) × Noted b.now (take x (keys_from f.now start)) t.now }
     ensures { result ≡ seen_from f.now start x key }
 {
     let j = spot(b, t, key);
-    if 0 < j {
-        if j / 8 < t.len() {
-            return flag(t, j);
-        }
+    if 0 < j && j / 8 < t.len() {
+        return flag(t, j);
     }
     seen(f, start, x, key)
 }
 
-// The first of the records from the one at p, number x, up to number e that has the key of an earlier one; e where none has.
+// The first of the records from the one at p, number x, up to number e that has the key of an earlier one; e where none has, since the
+// search goes on from there.
 fn fresh_until(
     f: &[u8],
     start: usize,
@@ -151,25 +126,19 @@ fn fresh_until(
     t: &mut [u8],
 ) -> usize
     requires going { Going f.now start m p x × (start ≤ length f.now) × (x ≤ e) × (e ≤ m) × Fresh f.now start x }
-    requires b_nonzero { (0 < length b.now) × Noted b.now (take x (keys_from f.now start)) t.old }
+    requires noted { (0 < length b.now) × Noted b.now (take x (keys_from f.now start)) t.old }
     ensures { Firstly f.now start e result }
 {
     let mut q = p;
-    let mut y = x;
-    while y < e {
-        match look_at(f, q) {
-            Look::At { len, key } => {
-                if met(f, start, y, key, b, t) {
-                    return y;
-                }
-                enter(b, t, key);
-                q += len;
-                y += 1;
-            }
-            Look::Nothing => {
-                return e;
-            }
+    for y in x..e {
+        let Some(look) = look_at(f, q) else {
+            return e;
+        };
+        if met(f, start, y, look.key, b, t) {
+            return y;
         }
+        enter(b, t, look.key);
+        q += look.len;
     }
     e
 }
@@ -197,13 +166,11 @@ fn upto(x: usize, room: usize, m: usize) -> usize
     requires { (x < m) × (0 < room) }
     ensures { (x < result) × (result ≤ m) }
 {
-    if room < m - x {
-        return x + room;
-    }
-    m
+    x + room.min(m - x)
 }
 
-// The first of m records from start on that has the key of an earlier one; m where none has.
+// The first of m records from start on that has the key of an earlier one; m where none has: the number
+// is kept as a count.
 fn first_repeat(f: &[u8], start: usize, m: usize, b: &mut [u32], t: &mut [u8]) -> usize
     requires { Going f.now start m start 0 × (start ≤ length f.now) × (0 < length b.old) }
     ensures { Firstly f.now start m result }
@@ -237,11 +204,7 @@ fn foresee(f: &[u8], start: usize, t: &mut [u8]) -> usize
 fn raise_all(t: &mut [u8])
     ensures { Full t.new (length t.new) }
 {
-    let mut i = 0;
-    while i < t.len() {
-        t[i] = 255;
-        i += 1;
-    }
+    t.fill(255);
 }
 
 // Whether the key k of the record after the first m from start on stood earlier. What was found is kept in w from call to call: below 8 it counts the plain

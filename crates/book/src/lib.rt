@@ -4,4 +4,5 @@
 pub mod book;
 pub mod first;
 pub mod once;
+pub mod order;
 pub mod rcids;

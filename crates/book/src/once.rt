@@ -1,7 +1,6 @@
 // Whether a record's key stood earlier in a dataset: a larger one never did, nor one whose flag in a map of the present kind's keys is not raised.
 // The others are looked for: a key that stands twice, or an RCID that shares its flag with an earlier one.
 ghost use Rattle.std.specs.Prelude.{◌≡◌, ◌/◌, ◌≤◌, length};
-ghost use Rattle.base.specs.Choice.{larger_of};
 ghost use Rattle.keys.specs.Listed.{seen_from};
 ghost use Rattle.keys.specs.Map.{kind_in};
 ghost use Rattle.keys.specs.Once.{Renewed, Once, Comes};
@@ -12,19 +11,9 @@ use crate::first::stood_by;
 use keys::bits::{flag, raise};
 use memory::clearing::zero;
 
-// The larger of two.
-pub fn larger(a: u64, b: u64) -> u64
-    ensures { result ≡ larger_of a b }
-{
-    if a < b {
-        return b;
-    }
-    a
-}
-
 // Whether k is among the keys of the first m records from start on; its kind is not before that of the largest of them.
 fn stood(f: &[u8], start: usize, m: usize, top: u64, k: u64, t: &mut [u8], w: &mut usize) -> bool
-    requires f_len_bound { (length f.now ≤ 16777216) × (start ≤ length f.now) × Comes f.now start m k × Ahead f.now start m w.old }
+    requires ahead { (length f.now ≤ 16777216) × (start ≤ length f.now) × Comes f.now start m k × Ahead f.now start m w.old }
     requires once { (Once f.now start m top t.old) × (kind_in top ≤ kind_in k) }
     ensures { (result ≡ seen_from f.now start m k) × Sees f.now start w.new × Spared t.old t.new }
 {
@@ -32,10 +21,7 @@ fn stood(f: &[u8], start: usize, m: usize, top: u64, k: u64, t: &mut [u8], w: &m
         return false;
     }
     let j = (k % 262144) as usize;
-    if j / 8 < t.len() {
-        if flag(t, j) {
-            return stood_by(f, start, m, k, t, w);
-        }
+    if j / 8 < t.len() && !flag(t, j) {
         return false;
     }
     stood_by(f, start, m, k, t, w)
@@ -45,10 +31,9 @@ fn stood(f: &[u8], start: usize, m: usize, top: u64, k: u64, t: &mut [u8], w: &m
 fn renew(t: &mut [u8], old: u64, new: u64)
     ensures { Renewed old new t.old t.new }
 {
-    if old == new {
-        return;
+    if old != new {
+        zero(t);
     }
-    zero(t);
 }
 
 // Whether the key k of the record after the first m from start on stood earlier; if not, it joins the map.
@@ -61,7 +46,7 @@ pub fn repeats(
     t: &mut [u8],
     w: &mut usize,
 ) -> bool
-    requires f_len_bound { (length f.now ≤ 16777216) × (start ≤ length f.now) × Ahead f.now start m w.old }
+    requires ahead { (length f.now ≤ 16777216) × (start ≤ length f.now) × Ahead f.now start m w.old }
     requires once { (Once f.now start m top t.old) × (Comes f.now start m k) × (kind_in top ≤ kind_in k) }
     ensures { Said f.now start m top k t.old t.new w.new result }
 {

@@ -20,13 +20,7 @@ pub fn rcid_of(key: u64) -> u32
 fn bit(b: &[u32], rcid: u32, j: usize) -> usize
     ensures { (result ≡ bit_at b.now rcid j) × (result ≤ 1) }
 {
-    if j < b.len() {
-        if b[j] <= rcid {
-            return 1;
-        }
-        return 0;
-    }
-    0
+    usize::from(j < b.len() && b[j] <= rcid)
 }
 
 // The first six bits of the number of the last entry that is not above the RCID, where the entries ascend. It comes bit by bit, so that nothing is to be
@@ -95,10 +89,7 @@ fn sifted(v: &[u8], rcid: u32) -> bool
     ensures { result ≡ flag_of v.now (mesh_of (length v.now) rcid) }
 {
     let j = mesh(v.len(), rcid);
-    if j / 8 < v.len() {
-        return flag(v, j);
-    }
-    false
+    j / 8 < v.len() && flag(v, j)
 }
 
 // The flag of a key that the book has; 0 for any other.
@@ -107,10 +98,7 @@ pub fn spot(b: &[u32], v: &[u8], key: u64) -> usize
     ensures { result ≡ spot_of b.now v.now key }
 {
     let rcid = rcid_of(key);
-    if !sifted(v, rcid) {
-        return 0;
-    }
-    if 21474836479 < key {
+    if !sifted(v, rcid) || 21474836479 < key {
         return 0;
     }
     let j = leaf(b, rcid);
@@ -129,47 +117,4 @@ pub fn enter(b: &[u32], v: &mut [u8], key: u64)
     if 0 < j {
         raise(v, j);
     }
-}
-
-// Moves the entry at i down by gaps, to behind one that is not above it.
-fn sink(b: &mut [u32], i: usize, gap: usize)
-    requires { (i < length b.old) × (0 < gap) }
-{
-    let v = b[i];
-    let mut j = i;
-    while gap <= j {
-        let w = b[j - gap];
-        if w <= v {
-            b[j] = v;
-            return;
-        }
-        b[j] = w;
-        j -= gap;
-    }
-    b[j] = v;
-}
-
-// Puts the entries that are a gap apart in order.
-fn settle(b: &mut [u32], gap: usize)
-    requires { 0 < gap }
-{
-    let mut i = gap;
-    while i < b.len() {
-        sink(b, i, gap);
-        i += 1;
-    }
-}
-
-// Puts the entries in order.
-pub fn sort(b: &mut [u32]) {
-    settle(b, 3937);
-    settle(b, 1750);
-    settle(b, 701);
-    settle(b, 301);
-    settle(b, 132);
-    settle(b, 57);
-    settle(b, 23);
-    settle(b, 10);
-    settle(b, 4);
-    settle(b, 1);
 }

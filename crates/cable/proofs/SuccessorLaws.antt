@@ -9,6 +9,8 @@ use borrow.Author.Tests.{le-leb, lt-leb, eq-eqb, ne_eqb, not-true}
 use lib.Dec.{eqb}
 use lib.ListN.{length, take, drop, length-drop}
 use lib.Seq.{drop-drop}
+use Rattle.std.specs.Prelude.{Some, None, Result, Ok, Err}
+use Rattle.base.specs.declared.Refusal.{Refusal}
 use Rattle.base.specs.Keys.{same}
 use Rattle.base.proofs.ChoiceLaws.{both_hold, both_too}
 use Rattle.base.proofs.KeysLaws.{same_sound, same_refl}
@@ -35,13 +37,9 @@ use Rattle.following.specs.Naming.{Identified}
 use Rattle.parcels.specs.Front.{general_in}
 use Rattle.parcels.specs.Holding.{edition_told, number_told, name_told, follows_as, follows_by, follows}
 use Rattle.parcels.proofs.FrontLaws.{front_is}
-use Rattle.cable.specs.Glance.{glance_of, ends_next, may_follow_by, may_follow}
+use Rattle.cable.specs.Glance.{Glance, glance_of, ends_next, may_follow_by, may_follow}
 use Rattle.cable.specs.Naming.{dsid_follows}
-use Rattle.cable.specs.Front.{DsidAt, StoppedAt, FrontIn}
-use Rattle.cable.specs.declared.glance.Glance.{Glance}
-use Rattle.cable.specs.declared.glance.Glance.TheVariants.{At, Nothing}
-use Rattle.cable.specs.declared.front.Front.{Front}
-use Rattle.cable.specs.declared.front.Front.TheVariants.{At as FrontAt, Stopped}
+use Rattle.cable.specs.Front.{DsidAt, FrontIn}
 use Rattle.skeleton.proofs.RecordLaws.{rest, rest_is}
 use Rattle.cable.proofs.FrontLaws.{Seen, seen}
 use Rattle.cable.proofs.GlanceLaws.{seen_runs, seen_inside}
@@ -162,11 +160,11 @@ never_follows h b g e =
 -- ---- `may_follow`
 
 module _ (h f : List ℕ) (g : Glance) (eg : g ≡ glance_of f) where
-  pub may_so : (i j : ℕ) → g ≡ At i j → (r : Bool) → r ≡ ends_next h (between f i j) → r ≡ may_follow h f
+  pub may_so : (i j : ℕ) → g ≡ Some (i, j) → (r : Bool) → r ≡ ends_next h (between f i j) → r ≡ may_follow h f
   unfolding may_follow may_follow_by
   may_so i j x r e = rw (← eg, x) e
 
-  pub may_not : g ≡ Nothing → false ≡ may_follow h f
+  pub may_not : g ≡ None → false ≡ may_follow h f
   unfolding may_follow may_follow_by
   may_not x = rw (← eg, x) refl
 
@@ -174,8 +172,8 @@ pub ruleset may_ways = (seen_runs, seen_inside, may_so, may_not, arith)
 
 -- ---- `follows`
 
-module _ (h f : List ℕ) (q : Front) (eq : FrontIn InUpdate f q) where
-  module _ (i j : ℕ) (x : q ≡ FrontAt i j) where
+module _ (h f : List ℕ) (q : Result (ℕ × ℕ) Refusal) (eq : FrontIn InUpdate f q) where
+  module _ (i j : ℕ) (x : q ≡ Ok (i, j)) where
     dsid : DsidAt InUpdate f i j
     dsid = subst (FrontIn InUpdate f) x eq
 
@@ -192,9 +190,9 @@ module _ (h f : List ℕ) (q : Front) (eq : FrontIn InUpdate f q) where
     unfolding follows follows_by follows_as dsid_follows name_of edition_of number_of dsid_of
     follows_so r e = rw (dsid.read, dsid.body) e
 
-  pub follows_not : (k n : ℕ) → q ≡ Stopped k n → false ≡ follows h f
+  pub follows_not : (y : Refusal) → q ≡ Err y → false ≡ follows h f
   unfolding follows follows_by
-  follows_not k n x = let s : StoppedAt InUpdate f k n = subst (FrontIn InUpdate f) x eq in rw s.refuses
+  follows_not y x = let s : general_in InUpdate f ≡ refused 2 y.rec y.fault = subst (FrontIn InUpdate f) x eq in rw s
 
 -- a file that does not at a glance
 passes_over : (h f : List ℕ) → may_follow h f ≡ false → false ≡ follows h f
@@ -208,7 +206,7 @@ passes_over h f e = go (general_in InUpdate f) refl
         let (k, o, w) = and_then_inv (first_two 2 InUpdate f) _ fs (sym (front_is InUpdate f) ∙ x) in
         let s = seen InUpdate f k o in
         let z : false ≡ ends_next h (between f s.from s.to) = sym e ∙ by_glance s in
-        follows_so h f (FrontAt s.from s.to) s.dsid s.from s.to refl false (sym (never_follows h (between f s.from s.to) s.dsid.filled (sym z)))
+        follows_so h f (Ok (s.from, s.to)) s.dsid s.from s.to refl false (sym (never_follows h (between f s.from s.to) s.dsid.filled (sym z)))
     go (refused file n y) x = unfold follows follows_by in rw x refl
 
 pub passed_over : (h f : List ℕ) (t : Bool) → t ≡ may_follow h f → not t ≡ true → false ≡ follows h f

@@ -5,13 +5,14 @@ use Prim.Native.Nat.{ℕ, zero, suc, ◌+◌, ◌-◌, ◌/◌, ◌%◌, ◌^◌
 use native.Mathlib.Omega.{arith}
 use borrow.Author.Tests.{lt-ltb, le-ltb}
 use lib.ListN.{length, drop, length-take, length-drop}
+use Rattle.std.specs.Prelude.{Some, Result, Ok, Err}
 use Rattle.base.specs.declared.Fault.{Fault}
+use Rattle.base.specs.declared.Refusal.{Refusal}
 use Rattle.fields.specs.Bytes.{bytes, run}
 use Rattle.fields.specs.Table.{head_of}
 use Rattle.fields.specs.Values.{values, num_at, text_at}
 use Rattle.fields.specs.Places.{head_place}
 use Rattle.fields.specs.declared.Format.TheVariants.{Dsid}
-use Rattle.fields.specs.declared.Stop.TheVariants.{At as StopAt}
 use Rattle.memory.specs.Put.{part}
 use Rattle.memory.specs.Hold.{zeros, hold}
 use Rattle.memory.specs.Digits.{digits, little_endian}
@@ -29,11 +30,9 @@ use Rattle.following.proofs.NamingLaws.{name_in, name_runs, name_ends, name_is}
 use Rattle.parcels.specs.Holding.{holding, told, told_in, tell}
 use Rattle.parcels.specs.Front.{general_in}
 use Rattle.parcels.proofs.GeneralLaws.{named}
-use Rattle.cable.specs.Front.{DsidAt, StoppedAt, FrontIn}
+use Rattle.cable.specs.Front.{DsidAt, FrontIn}
 use Rattle.cable.specs.Naming.{holding_of, TellsAs}
 use Rattle.cable.specs.Promise.{Tells}
-use Rattle.cable.specs.declared.front.Front.{Front}
-use Rattle.cable.specs.declared.front.Front.TheVariants.{At, Stopped}
 
 -- numbers written are the fields' bytes
 digits_bytes : (w n : ℕ) → digits 256 w n ≡ bytes w n
@@ -47,7 +46,7 @@ written_bytes_lem w n = digits_bytes w n
 
 -- ---- `put_holding`
 
-module _ (b : List ℕ) (g : Identified b) (p : ℕ) (ep : StopAt p ≡ head_place (head_of Dsid) 7 b) (e : ℕ) (ee : e ≡ p + run (drop p b)) where
+module _ (b : List ℕ) (g : Identified b) (p : ℕ) (ep : Some p ≡ head_place (head_of Dsid) 7 b) (e : ℕ) (ee : e ≡ p + run (drop p b)) where
   name_part : part p (e - p) b ≡ text_at (values (head_of Dsid) b) 7
   unfolding part
   name_part = name_is b g p ep e ee
@@ -104,8 +103,8 @@ pub ruleset dsid_ways = (name_in, name_runs, name_ends, name_fits, tell_short, t
 
 -- ---- `tell`
 
-module _ (f : List ℕ) (q : Front) (eq : FrontIn InDataset f q) where
-  module _ (i j : ℕ) (x : q ≡ At i j) where
+module _ (f : List ℕ) (q : Result (ℕ × ℕ) Refusal) (eq : FrontIn InDataset f q) where
+  module _ (i j : ℕ) (x : q ≡ Ok (i, j)) where
     dsid : DsidAt InDataset f i j
     dsid = subst (FrontIn InDataset f) x eq
 
@@ -134,17 +133,14 @@ module _ (f : List ℕ) (q : Front) (eq : FrontIn InDataset f q) where
   unfolding tell told and_then output_of zeros
   refused_as n x e room = rw e refl
 
-  module _ (k n : ℕ) (x : q ≡ Stopped k n) (room : ℕ) where
-    stopped : StoppedAt InDataset f k n
+  module _ (y : Refusal) (x : q ≡ Err y) (room : ℕ) where
+    stopped : general_in InDataset f ≡ refused 1 y.rec y.fault
     stopped = subst (FrontIn InDataset f) x eq
 
-    pub tells_refusal : (a : Answer) (o : List ℕ) → a ≡ record { number = k; file = 1; rec = n; length = 0; count = 0 } → o ≡ zeros room → Tells f room a o
+    pub tells_refusal : (a : Answer) (o : List ℕ) → a ≡ record { number = y.fault.number; file = 1; rec = y.rec; length = 0; count = 0 } → o ≡ zeros room → Tells f room a o
     unfolding refusal
     tells_refusal a o ea eo =
-        let s = refused_as n stopped.fault stopped.refuses room in
-        record {
-          answers = ea ∙ ap (λ (m : ℕ). record { number = m; file = 1; rec = n; length = 0; count = 0 }) (sym stopped.number) ∙ sym (ap (λ (w : Output). w.answer) s);
-          fills = eo ∙ sym (ap (λ (w : Output). w.out) s);
-        }
+        let s = refused_as y.rec y.fault stopped room in
+        record { answers = ea ∙ sym (ap (λ (w : Output). w.answer) s); fills = eo ∙ sym (ap (λ (w : Output). w.out) s) }
 
 pub ruleset tell_ways = (tell_runs, tell_in, tell_filled, tell_small, tells_holding_lem, tells_refusal, arith)

@@ -5,8 +5,8 @@ ghost use Rattle.parcels.specs.Holding.{follows as follows_of};
 ghost use Rattle.cable.specs.Naming.{dsid_follows};
 ghost use Rattle.cable.specs.Glance.{ends_next, may_follow};
 
-use crate::front::{Front, dsid_in};
-use crate::glance::{Glance, glanced};
+use crate::front::dsid_in;
+use crate::glance::glanced;
 use fields::{le16, text_end};
 use following::naming::{number_in, place_in, same_bytes};
 use rules::Mode;
@@ -56,8 +56,8 @@ fn may_follow(h: &[u8], f: &[u8]) -> bool
     ensures { result ≡ may_follow h.now f.now }
 {
     match glanced(f) {
-        Glance::At(i, j) => ends_next(h, &f[i..j]),
-        Glance::Nothing => false,
+        Some((i, j)) => ends_next(h, &f[i..j]),
+        None => false,
     }
 }
 
@@ -70,7 +70,7 @@ pub fn follows(h: &[u8], f: &[u8]) -> bool
         return false;
     }
     match dsid_in(f, Mode::InUpdate) {
-        Front::At(i, j) => dsid_follows(h, &f[i..j]),
-        Front::Stopped(_, _) => false,
+        Ok((i, j)) => dsid_follows(h, &f[i..j]),
+        Err(_) => false,
     }
 }

@@ -21,13 +21,7 @@ pub fn take(
         return hand(chart, first, second, &parcel[6..], work);
     }
     zero(work);
-    let answer = Answer {
-        number: 27,
-        file: 0,
-        rec: 0,
-        length: 0,
-        count: 0,
-    };
+    let answer = Answer::refused(27, 0, 0);
     if chart.second {
         zero(first);
         return Shown { answer, chart };

@@ -5,25 +5,12 @@ ghost use Rattle.following.specs.Naming.{Identified};
 ghost use Rattle.cable.specs.Naming.{holding_of, name_at, TellsAs};
 ghost use Rattle.cable.specs.Promise.{Tells};
 
-use crate::front::{Front, dsid_in};
+use crate::front::dsid_in;
 use fields::text_end;
 use following::naming::{number_in, place_in};
 use memory::clearing::zero;
 use memory::writing::{put_little_endian, put_part};
 use rules::{Answer, Mode};
-
-// A refusal.
-fn refuse(number: u8, file: u8, rec: usize) -> Answer
-    ensures { result ≡ record { number = number; file = file; rec = rec; length = 0; count = 0 } }
-{
-    Answer {
-        number,
-        file,
-        rec,
-        length: 0,
-        count: 0,
-    }
-}
 
 // The holding of the DSID b, whose DSNM runs from p up to e.
 fn put_holding(b: &[u8], p: usize, e: usize, out: &mut [u8]) -> usize
@@ -48,16 +35,10 @@ fn tell_dsid(b: &[u8], out: &mut [u8]) -> Answer
     let e = text_end(b, p);
     zero(out);
     if out.len() < 10 + (e - p) {
-        return refuse(13, 3, 0);
+        return Answer::refused(13, 3, 0);
     }
     let n = put_holding(b, p, e, out);
-    Answer {
-        number: 0,
-        file: 0,
-        rec: 0,
-        length: n,
-        count: 0,
-    }
+    Answer::done(n, 0)
 }
 
 // The holding of a chart.
@@ -65,10 +46,10 @@ pub fn tell(chart: &[u8], out: &mut [u8]) -> Answer
     ensures { Tells chart.now (length out.old) result out.new }
 {
     match dsid_in(chart, Mode::InDataset) {
-        Front::At(i, j) => tell_dsid(&chart[i..j], out),
-        Front::Stopped(k, n) => {
+        Ok((i, j)) => tell_dsid(&chart[i..j], out),
+        Err(refusal) => {
             zero(out);
-            refuse(k, 1, n)
+            Answer::refused(refusal.fault.number, 1, refusal.rec)
         }
     }
 }

@@ -1,13 +1,15 @@
 -- Laws of bodies found by their keys, of joining and of leaving. Assumes nothing.
 use Prim.Native.Nat.{ℕ, zero, suc, ◌+◌, ◌-◌, ◌*◌, ◌≤◌, ◌<◌}
 use mathlib.Core.Path.{◌≡◌, refl, sym, ap, ◌∙◌}
-use mathlib.Core.Bool.{Bool, true, false}
+use mathlib.Core.Bool.{Bool, true, false, true≢false}
 use mathlib.Core.List.{List, [], ◌∷◌, ◌++◌}
 use native.Mathlib.Nat.{zero-add, sub-zero}
 use native.Mathlib.Omega.{arith}
 use lib.ListN.{length, take, drop, length-take, length-drop}
 use lib.Dec.{eqb}
-use borrow.Author.Tests.{eq-eqb, ne_eqb}
+use borrow.Author.Tests.{lt-ltb, le-ltb, eq-eqb, ne_eqb}
+use Rattle.std.specs.Prelude.{Option, Some, None, is_some}
+use Rattle.std.proofs.lemmas.Option.{none-some, same_Some}
 use Rattle.base.specs.Choice.{pick}
 use Rattle.base.specs.Check.{ok, bind, refuse}
 use Rattle.base.specs.Keys.{same, among, leave}
@@ -18,7 +20,7 @@ use Rattle.fields.proofs.ByteLaws.{bytes_drop, bytes_take}
 use Rattle.fields.proofs.TupleLaws.{split}
 use Rattle.items.specs.Items.{source}
 use Rattle.cells.specs.Cells.{u24, start_of, slice_of, size_of, body_at, bodies_from}
-use Rattle.cells.specs.Keys.{key_in, key_size, first_with, Long}
+use Rattle.cells.specs.Keys.{key_in, key_size, first_with, found_in, Long}
 use Rattle.cells.proofs.CellLaws.{bodies_more}
 use Rattle.cells.proofs.KeyLaws.{key_part, key_least}
 
@@ -101,14 +103,35 @@ first_none : (key : List ℕ → List ℕ) (k : List ℕ) → first_with key k [
 unfolding first_with
 first_none key k = refl
 
+-- what a search answers
+module _ (n i : ℕ) where
+  found_there : i < n → found_in n i ≡ Some i
+  unfolding found_in
+  found_there h = rw (lt-ltb i n h)
+
+  found_nowhere : n ≤ i → found_in n i ≡ None
+  unfolding found_in
+  found_nowhere h = rw (le-ltb i n h)
+
+  pub found_at : (j : ℕ) → Some j ≡ found_in n i → (i < n) × (j ≡ i)
+  found_at j e = split n i (λ l. absurd (none-some j (sym (e ∙ found_nowhere l)))) (λ l. (l, same_Some j i (e ∙ found_there l)))
+
+  pub found_one : (r : Option ℕ) → r ≡ found_in n i → is_some r ≡ true → i < n
+  found_one (Some j) e t = (found_at j e).0
+  found_one None e t = absurd (true≢false (sym t))
+
+  pub found_none : (r : Option ℕ) → r ≡ found_in n i → is_some r ≡ false → i < n → ⊥
+  found_none (Some j) e t l = true≢false t
+  found_none None e t l = none-some i (e ∙ found_there l)
+
 -- a search that has come to cell i
 module _ (d u c : List ℕ) (n i : ℕ) (key : List ℕ → List ℕ) (k : List ℕ) (whole : ℕ) (inv : i + first_with key k (bodies_from d u c i (n - i)) ≡ whole) where
-  pub search_over : i ≤ n → n ≤ i → n ≡ whole
+  pub search_over : i ≤ n → n ≤ i → None ≡ found_in n whole
   unfolding bodies_from
   search_over h g =
       let z : n - i ≡ 0 = omega arith in
       let e : first_with key k (bodies_from d u c i (n - i)) ≡ 0 = rw z (first_none key k) in
-      omega arith
+      sym (found_nowhere n whole (omega arith))
 
   module _ (h : i < n) (r : Bool) (er : r ≡ same (key (body_at d u c i)) k) where
     rest : n - i - 1 ≡ n - (i + 1)
@@ -117,8 +140,10 @@ module _ (d u c : List ℕ) (n i : ℕ) (key : List ℕ → List ℕ) (k : List 
     first : first_with key k (bodies_from d u c i (n - i)) ≡ first_with key k (body_at d u c i ∷ bodies_from d u c (i + 1) (n - (i + 1)))
     first = rw (bodies_more d u c i (n - i) (omega arith), rest)
 
-    pub search_here : r ≡ true → i ≡ whole
-    search_here x = omega (arith, first, first_here key k (body_at d u c i) (bodies_from d u c (i + 1) (n - (i + 1))) (sym er ∙ x))
+    pub search_here : r ≡ true → Some i ≡ found_in n whole
+    search_here x =
+        let e : i ≡ whole = omega (arith, first, first_here key k (body_at d u c i) (bodies_from d u c (i + 1) (n - (i + 1))) (sym er ∙ x)) in
+        rw (found_there n whole (omega arith), e)
 
     pub search_on : r ≡ false → i + 1 + first_with key k (bodies_from d u c (i + 1) (n - (i + 1))) ≡ whole
     search_on x = omega (arith, first, first_later key k (body_at d u c i) (bodies_from d u c (i + 1) (n - (i + 1))) (sym er ∙ x))

@@ -9,7 +9,9 @@ use lib.ListN.{length, get_or, drop, length-take, length-drop}
 use lib.Seq.{get_or-take, get_or-drop}
 use lib.Dec.{eqb}
 use Rattle.base.specs.Choice.{pick}
+use Rattle.std.specs.Prelude.{Result, Ok, Err}
 use Rattle.base.specs.Check.{ok, bind}
+use Rattle.base.specs.declared.Fault.{Fault}
 use Rattle.base.specs.Keys.{join, leave}
 use Rattle.base.specs.Lists.{each, Each}
 use Rattle.base.proofs.EachLaws.{each_map}
@@ -28,8 +30,6 @@ use Rattle.rules.specs.Modify.{assoc_key, act_inas}
 use Rattle.cells.specs.Cells.{bodies_of}
 use Rattle.cells.specs.Keys.{key_in, Long, InasBody}
 use Rattle.cells.specs.Acts.{act_on, Acts, InasActs}
-use Rattle.cells.specs.declared.acting.Acted.{Acted}
-use Rattle.cells.specs.declared.acting.Acted.TheVariants.{Refused, Now}
 use Rattle.cells.proofs.LiftLaws.{joins_by, leaves_by, act_each}
 
 -- ---- the key of an INAS, inserted or deleted
@@ -90,11 +90,11 @@ unfolding act_inas assoc_of
 acts_each b bs = act_each assoc_of assoc_key 0 (eqb (get_or b 9 0) 1) b bs
 
 -- the code's answer for the bodies is that for what they say
-answered : (b : List ℕ) (bs : List (List ℕ)) (d u c : List ℕ) (most n : ℕ) → most ≤ n + 1 → (r : Acted)
+answered : (b : List ℕ) (bs : List (List ℕ)) (d u c : List ℕ) (most n : ℕ) → most ≤ n + 1 → (r : Result ℕ Fault)
     → Acts (act_on inas_key (eqb (get_or b 9 0) 1) 0 b bs) d u c most r → InasActs b bs d u c n r
 unfolding Acts InasActs bind
-answered b bs d u c most n h (Refused k j) e = acts_each b bs ∙ rw e
-answered b bs d u c most n h (Now m) e = (record { bodies = e.0; is = acts_each b bs ∙ rw e.0 }, omega (arith, e.1))
+answered b bs d u c most n h (Err f) e = acts_each b bs ∙ rw e
+answered b bs d u c most n h (Ok m) e = (record { bodies = e.0; is = acts_each b bs ∙ rw e.0 }, omega (arith, e.1))
 
 -- an INAS of a modify from at to end of u
 module _ (d u c : List ℕ) (at end n : ℕ) (g : at ≤ end) (l : end ≤ length u)
@@ -121,7 +121,7 @@ module _ (d u c : List ℕ) (at end n : ℕ) (g : at ≤ end) (l : end ≤ lengt
   tenth : get_or body 9 0 ≡ get_or u (at + 9) 0
   tenth = get_or-take (end - at) (drop at u) 9 0 (omega (arith, inas_end)) ∙ get_or-drop at u 9 0
 
-  module _ (right : Each InasBody (bodies_of d u c n)) (e : List ℕ) (r : Acted) where
+  module _ (right : Each InasBody (bodies_of d u c n)) (e : List ℕ) (r : Result ℕ Fault) where
     key_is : key_in true body ≡ inas_key body
     key_is = inas_key_lem (eqb (get_or body 9 0) 2) body by_format
 

@@ -1,11 +1,11 @@
 -- Laws of the keys that bodies begin with. Assumes nothing.
 use Prim.Native.Nat.{ℕ, zero, suc, ◌+◌, ◌*◌, ◌≤◌}
 use mathlib.Core.Path.{◌≡◌, refl, ap}
-use mathlib.Core.Bool.{Bool, true, false, not}
+use mathlib.Core.Bool.{Bool, true, false}
 use mathlib.Core.List.{List, [], ◌∷◌}
 use native.Mathlib.Nat.{not-suc-le-zero, le_of_suc-le-suc}
 use native.Mathlib.Omega.{arith}
-use borrow.Author.Tests.{eq-eqb, ne_eqb, not-true, not-false}
+use borrow.Author.Tests.{eq-eqb, ne_eqb}
 use lib.ListN.{take, drop}
 use lib.Seq.{drop-drop}
 use lib.Dec.{eqb}
@@ -50,15 +50,15 @@ module _ (a b : List ℕ) (i j : ℕ) (x y : ℕ) (ex : x ≡ le 1 (drop i a)) (
     second_differs inas n = simp (drop-drop, ← ex, ← ey, eq-eqb x y e, ← ez, ← ew, ne_eqb z w n)
 
     module _ (f : z ≡ w) where
-      pub short_same : (inas : Bool) → not inas ≡ true → true ≡ same (key_in inas (drop i a)) (key_in inas (drop j b))
+      pub short_same : (inas : Bool) → inas ≡ false → true ≡ same (key_in inas (drop i a)) (key_in inas (drop j b))
       unfolding key_in same
-      short_same inas n = rw (not-true inas n) (simp (drop-drop, ← ex, ← ey, eq-eqb x y e, ← ez, ← ew, eq-eqb z w f))
+      short_same inas n = rw n (simp (drop-drop, ← ex, ← ey, eq-eqb x y e, ← ez, ← ew, eq-eqb z w f))
 
-      module _ (inas : Bool) (long : not inas ≡ false) (p q : ℕ) (ep : p ≡ le 2 (drop (i + 5) a)) (eq : q ≡ le 2 (drop (j + 5) b)) where
+      module _ (inas : Bool) (long : inas ≡ true) (p q : ℕ) (ep : p ≡ le 2 (drop (i + 5) a)) (eq : q ≡ le 2 (drop (j + 5) b)) where
         pub third_differs : (p ≡ q → ⊥) → false ≡ same (key_in inas (drop i a)) (key_in inas (drop j b))
         unfolding key_in same
         third_differs n =
-            rw (not-false inas long) (simp (drop-drop, ← ex, ← ey, eq-eqb x y e, ← ez, ← ew, eq-eqb z w f, ← ep, ← eq, ne_eqb p q n))
+            rw long (simp (drop-drop, ← ex, ← ey, eq-eqb x y e, ← ez, ← ew, eq-eqb z w f, ← ep, ← eq, ne_eqb p q n))
 
         last_both : (t : Bool) → t ≡ both t true
         last_both true = refl
@@ -68,7 +68,7 @@ module _ (a b : List ℕ) (i j : ℕ) (x y : ℕ) (ex : x ≡ le 1 (drop i a)) (
             → eqb r s ≡ same (key_in inas (drop i a)) (key_in inas (drop j b))
         unfolding key_in same
         fourth_decides g r s er es =
-            rw (not-false inas long)
+            rw long
             (simp (drop-drop, ← ex, ← ey, eq-eqb x y e, ← ez, ← ew, eq-eqb z w f, ← ep, ← eq, eq-eqb p q g, ← er, ← es) (last_both (eqb r s)))
 
 -- ---- the bytes of a key are there
@@ -84,14 +84,13 @@ module _ (inas : Bool) (i n : ℕ) (h : i + key_size inas ≤ n) where
   pub second_there : i + 1 + 4 ≤ n
   second_there = omega (arith, key_least inas)
 
-  long_size : (t : Bool) → not t ≡ false → key_size t ≡ 9
-  long_size true e = refl
-  long_size false e = absurd (let z : ◌≡◌ {A = ℕ} 0 1 = cc in omega arith)
+  long_size : (t : Bool) → t ≡ true → key_size t ≡ 9
+  long_size t e = rw e
 
-  pub third_there : not inas ≡ false → i + 5 + 2 ≤ n
+  pub third_there : inas ≡ true → i + 5 + 2 ≤ n
   third_there e = omega (arith, long_size inas e)
 
-  pub fourth_there : not inas ≡ false → i + 7 + 2 ≤ n
+  pub fourth_there : inas ≡ true → i + 7 + 2 ≤ n
   fourth_there e = omega (arith, long_size inas e)
 
 pub ruleset key_ways = (

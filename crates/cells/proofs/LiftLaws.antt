@@ -3,14 +3,15 @@ use Prim.Native.Nat.{ℕ}
 use mathlib.Core.Path.{◌≡◌, refl, sym, ap}
 use mathlib.Core.Bool.{Bool, true, false}
 use mathlib.Core.List.{List, [], ◌∷◌, ◌++◌}
+use Rattle.std.specs.Prelude.{Result}
 use Rattle.base.specs.Choice.{pick}
 use Rattle.base.specs.Check.{Check, ok, no, bind, refuse}
+use Rattle.base.specs.declared.Fault.{Fault}
 use Rattle.base.specs.Keys.{same, among, join, leave}
 use Rattle.base.specs.Lists.{each, Each}
 use Rattle.base.proofs.ListLaws.{each_append, each_each}
 use Rattle.base.proofs.KeysLaws.{joined_each, left_each}
 use Rattle.cells.specs.Acts.{act_on, Acts}
-use Rattle.cells.specs.declared.acting.Acted.{Acted}
 
 -- ---- keys that are alike
 
@@ -34,7 +35,7 @@ module _ (key other : List ℕ → List ℕ) (j : ℕ) where
   leave_key k (b ∷ bs) p = rw (p.0, leave_key k bs p.1)
 
   -- what the code answers by one key it answers by the other
-  module _ (b : List ℕ) (bs : List (List ℕ)) (e : Alike b) (p : Each Alike bs) (d u c : List ℕ) (most : ℕ) (r : Acted) (t : Bool) where
+  module _ (b : List ℕ) (bs : List (List ℕ)) (e : Alike b) (p : Each Alike bs) (d u c : List ℕ) (most : ℕ) (r : Result ℕ Fault) (t : Bool) where
     pub joins_by : t ≡ true → Acts (join key j b bs) d u c most r → Acts (act_on other t j b bs) d u c most r
     unfolding act_on
     joins_by x a = rw x (rw (join_key b bs e p) at a)

@@ -9,7 +9,9 @@ use borrow.Author.Tests.{eq-eqb, ne_eqb, eqb-true}
 use lib.ListN.{length, get_or, drop}
 use lib.Seq.{get_or-take, get_or-drop}
 use lib.Dec.{eqb}
+use Rattle.std.specs.Prelude.{Result, Ok, Err}
 use Rattle.base.specs.Check.{Check, ok, bind}
+use Rattle.base.specs.declared.Fault.{Fault}
 use Rattle.base.specs.Keys.{join, leave}
 use Rattle.base.specs.Lists.{each, Each}
 use Rattle.base.proofs.EachLaws.{each_map}
@@ -35,8 +37,6 @@ use Rattle.rules.specs.Modify.{spatial_key, act_spas}
 use Rattle.cells.specs.Cells.{bodies_of, spatial_in}
 use Rattle.cells.specs.Keys.{key_in, Long, SpasBody}
 use Rattle.cells.specs.Acts.{act_on, Acts, act_tuple, SpasNow, SpasActs}
-use Rattle.cells.specs.declared.acting.Acted.{Acted}
-use Rattle.cells.specs.declared.acting.Acted.TheVariants.{Refused, Now}
 use Rattle.cells.proofs.LiftLaws.{joins_by, leaves_by, act_each, acted_every}
 use Rattle.cells.proofs.FrontLaws.{last_insert, one_tuple}
 use Rattle.cells.proofs.TupleLaws.{Step, step, step_fill, no_tuple}
@@ -92,16 +92,16 @@ unfolding act_tuple
 acts_each j b bs = act_each spatial_in spatial_key j (inserts b) b bs
 
 -- the code's answer for the bodies is that for what they say
-answered : (j : ℕ) (b : List ℕ) (bs : List (List ℕ)) (d u c : List ℕ) (most n : ℕ) → most ≤ n + 1 → Each SpasBody bs → (inserts b ≡ true → SpasBody b) → (r : Acted)
+answered : (j : ℕ) (b : List ℕ) (bs : List (List ℕ)) (d u c : List ℕ) (most n : ℕ) → most ≤ n + 1 → Each SpasBody bs → (inserts b ≡ true → SpasBody b) → (r : Result ℕ Fault)
     → Acts (act_on tuple_key (inserts b) j b bs) d u c most r → SpasActs (act_tuple j b (each spatial_in bs)) d u c (n + 1) r
 unfolding Acts SpasActs bind
-answered j b bs d u c most n h q p (Refused k i) e = acts_each j b bs ∙ rw e
-answered j b bs d u c most n h q p (Now m) e =
+answered j b bs d u c most n h q p (Err f) e = acts_each j b bs ∙ rw e
+answered j b bs d u c most n h q p (Ok m) e =
     record { is = acts_each j b bs ∙ rw e.0; few = omega (arith, e.1); right = acted_every SpasBody tuple_key j (inserts b) b bs (bodies_of d u c m) q p e.0 }
 
 -- tuple j of a modify, at p of u
 module _ (d u c : List ℕ) (p j n : ℕ) (l : p + 15 ≤ length u) (filled : fill (head_of Spas) (tuple_of Spas) (between u p (p + 15)) ≡ true) (right : Each SpasBody (bodies_of d u c n))
-    (e : List ℕ) (r : Acted) where
+    (e : List ℕ) (r : Result ℕ Fault) where
   abbrev body : List ℕ
   body = between u p (p + 15)
 
@@ -152,7 +152,7 @@ module _ (d u : List ℕ) (at end : ℕ) (c₀ : List ℕ) (n : ℕ) (c : List �
   abbrev whole : Check (List Spatial)
   whole = act_spas 1 (many (tuple_of Spas) (between u at end)) (each spatial_in (bodies_of d u c₀ n))
 
-  pub spas_done : end ≤ p → SpasActs whole d u c (n + (end - at) / 15) (Now m)
+  pub spas_done : end ≤ p → SpasActs whole d u c (n + (end - at) / 15) (Ok m)
   unfolding SpasActs act_spas tuple_of
   spas_done h =
       record {
@@ -190,11 +190,11 @@ module _ (d u : List ℕ) (at end : ℕ) (c₀ : List ℕ) (n : ℕ) (c : List �
     unfolding act_spas act_tuple
     more = rw first.first at s.same
 
-    pub spas_refused : (e : List ℕ) (r : Acted) → SpasActs here d u e (m + 1) r → (k i : ℕ) → r ≡ Refused k i → SpasActs whole d u e (n + (end - at) / 15) (Refused k i)
+    pub spas_refused : (e : List ℕ) (r : Result ℕ Fault) → SpasActs here d u e (m + 1) r → (f : Fault) → r ≡ Err f → SpasActs whole d u e (n + (end - at) / 15) (Err f)
     unfolding SpasActs bind
-    spas_refused e r a k i x = sym more ∙ rw (rw x at a)
+    spas_refused e r a f x = sym more ∙ rw (rw x at a)
 
-    pub spas_turn : (e : List ℕ) → length e ≡ length c → (r : Acted) → SpasActs here d u e (m + 1) r → (k : ℕ) → r ≡ Now k → SpasAt d u at end c₀ n e (p + 15) (j + 1) k
+    pub spas_turn : (e : List ℕ) → length e ≡ length c → (r : Result ℕ Fault) → SpasActs here d u e (m + 1) r → (k : ℕ) → r ≡ Ok k → SpasAt d u at end c₀ n e (p + 15) (j + 1) k
     unfolding SpasActs bind
     spas_turn e le r a k x =
         let y : SpasNow here d u e (m + 1) k = rw x at a in

@@ -1,7 +1,8 @@
 -- What loading and a modify's fields do to the associations in lent memory.
-use Rattle.std.specs.Prelude.{ℕ, ◌+◌, ◌-◌, ◌/◌, ◌≤◌, ◌≡◌, Bool, true, List, ◌++◌, length, get_or, eqb}
+use Rattle.std.specs.Prelude.{ℕ, ◌+◌, ◌-◌, ◌/◌, ◌≤◌, ◌≡◌, Bool, true, List, ◌++◌, length, get_or, eqb, Result, Ok, Err}
 use Rattle.base.specs.Choice.{pick}
-use Rattle.base.specs.Check.{Check, ok, refuse}
+use Rattle.base.specs.Check.{Check, ok, no}
+use Rattle.base.specs.declared.Fault.{Fault}
 use Rattle.base.specs.Keys.{join, leave}
 use Rattle.base.specs.Lists.{each, gather, Each}
 use Rattle.skeleton.specs.Place.{between}
@@ -15,10 +16,6 @@ use Rattle.rules.specs.Modify.{act_inas, spatial_key}
 use Rattle.items.specs.Items.{source}
 use Rattle.cells.specs.Cells.{bodies_of, fields_size, spatial_in, tuple_bodies}
 use Rattle.cells.specs.Keys.{SpasBody}
-use Rattle.cells.specs.declared.acting.Acted.{Acted}
-use Rattle.cells.specs.declared.acting.Acted.TheVariants.{Refused, Now}
-use Rattle.cells.specs.declared.inas.ActedInas.{ActedInas}
-use Rattle.cells.specs.declared.inas.ActedInas.TheVariants.{Refused as Unfit, Now as Fit}
 
 -- ---- loading
 
@@ -38,30 +35,30 @@ unfoldable pub act_on : (List ℕ → List ℕ) → Bool → ℕ → List ℕ �
 act_on key inserted j b bs = pick inserted (join key j b bs) (leave key j (key b) bs)
 
 -- the code's answer: the refusal, or how many cells of c there are now, at most `most`, and they hold the bodies that are left
-unfoldable pub Acts : Check (List (List ℕ)) → (d u c : List ℕ) → ℕ → Acted → Type 0
-Acts x d u c most (Refused k j) = x ≡ refuse k j
-Acts x d u c most (Now m) = (x ≡ ok (bodies_of d u c m)) × (m ≤ most)
+unfoldable pub Acts : Check (List (List ℕ)) → (d u c : List ℕ) → ℕ → Result ℕ Fault → Type 0
+Acts x d u c most (Err f) = x ≡ no f
+Acts x d u c most (Ok m) = (x ≡ ok (bodies_of d u c m)) × (m ≤ most)
 
 -- ---- an INAS
 
 -- its answer without the bytes of the bodies
-abbrev pub counts : ActedInas → Acted
-counts (Unfit k j) = Refused k j
-counts (Fit m t) = Now m
+abbrev pub counts : Result (ℕ × ℕ) Fault → Result ℕ Fault
+counts (Err f) = Err f
+counts (Ok a) = Ok a.0
 
 -- the bytes of the bodies as fields are those of the m cells of c, at most `most`
-unfoldable pub Totals : (d u c : List ℕ) → ℕ → ActedInas → Type 0
-Totals d u c most (Unfit k j) = Unit {0}
-Totals d u c most (Fit m t) = (t ≡ fields_size (bodies_of d u c m)) × (t ≤ most)
+unfoldable pub Totals : (d u c : List ℕ) → ℕ → Result (ℕ × ℕ) Fault → Type 0
+Totals d u c most (Err f) = Unit {0}
+Totals d u c most (Ok a) = (a.1 ≡ fields_size (bodies_of d u c a.0)) × (a.1 ≤ most)
 
 -- what an INAS b makes of associations bs: of the bodies, and of what they say
 pub record InasNow (b : List ℕ) (bs cs : List (List ℕ)) : Type 0 where
   pub bodies : act_on inas_key (eqb (get_or b 9 0) 1) 0 b bs ≡ ok cs
   pub is : act_inas b (each assoc_of bs) ≡ ok (each assoc_of cs)
 
-unfoldable pub InasActs : (b : List ℕ) (bs : List (List ℕ)) (d u c : List ℕ) → ℕ → Acted → Type 0
-InasActs b bs d u c n (Refused k j) = act_inas b (each assoc_of bs) ≡ refuse k j
-InasActs b bs d u c n (Now m) = InasNow b bs (bodies_of d u c m) × (m ≤ n + 1)
+unfoldable pub InasActs : (b : List ℕ) (bs : List (List ℕ)) (d u c : List ℕ) → ℕ → Result ℕ Fault → Type 0
+InasActs b bs d u c n (Err f) = act_inas b (each assoc_of bs) ≡ no f
+InasActs b bs d u c n (Ok m) = InasNow b bs (bodies_of d u c m) × (m ≤ n + 1)
 
 -- ---- a SPAS
 
@@ -77,6 +74,6 @@ pub record SpasNow (x : Check (List Spatial)) (d u c : List ℕ) (most m : ℕ) 
   pub few : m ≤ most
   pub right : Each SpasBody (bodies_of d u c m)
 
-unfoldable pub SpasActs : (x : Check (List Spatial)) (d u c : List ℕ) → ℕ → Acted → Type 0
-SpasActs x d u c most (Refused k j) = x ≡ refuse k j
-SpasActs x d u c most (Now m) = SpasNow x d u c most m
+unfoldable pub SpasActs : (x : Check (List Spatial)) (d u c : List ℕ) → ℕ → Result ℕ Fault → Type 0
+SpasActs x d u c most (Err f) = x ≡ no f
+SpasActs x d u c most (Ok m) = SpasNow x d u c most m

@@ -1,5 +1,5 @@
 -- The keys of associations as their bytes hold them, and bodies found by key.
-use Rattle.std.specs.Prelude.{ℕ, suc, ◌≤◌, ◌≡◌, Bool, true, false, List, [], ◌∷◌, length, drop}
+use Rattle.std.specs.Prelude.{ℕ, suc, ◌≤◌, ◌≡◌, Bool, true, false, List, [], ◌∷◌, length, drop, ltb, Option, Some, None}
 use Rattle.base.specs.Choice.{pick}
 use Rattle.base.specs.Keys.{same}
 use Rattle.fields.specs.Bytes.{le}
@@ -22,6 +22,10 @@ key_size false = 5
 unfoldable pub first_with : (List ℕ → List ℕ) → List ℕ → List (List ℕ) → ℕ
 first_with key k [] = 0
 first_with key k (b ∷ bs) = pick (same (key b) k) 0 (suc (first_with key k bs))
+
+-- number i, where that is one of n bodies, else none
+unfoldable pub found_in : ℕ → ℕ → Option ℕ
+found_in n i = pick (ltb i n) (Some i) None
 
 -- ---- what is known of bodies
 

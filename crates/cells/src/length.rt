@@ -9,14 +9,7 @@ use crate::cell::u24_at;
 pub fn inside(b: &[u8], start: usize, n: usize) -> usize
     ensures { (result ≡ length (between b.now start (start + n))) × (result ≤ n) }
 {
-    if b.len() <= start {
-        return 0;
-    }
-    let left = b.len() - start;
-    if n <= left {
-        return n;
-    }
-    left
+    b.len().saturating_sub(start).min(n)
 }
 
 // How long the body of cell i is.

@@ -1,14 +1,16 @@
 -- Insert, delete and modify. Assumes nothing.
 use Prim.Native.Nat.{ℕ, ◌+◌, ◌≤◌, ◌<◌}
 use mathlib.Core.Path.{◌≡◌, refl, sym, ap, ◌∙◌, subst}
-use mathlib.Core.Bool.{Bool, true, false}
+use mathlib.Core.Bool.{Bool, true, false, true≢false}
 use mathlib.Core.Option.{Option, some, none}
 use mathlib.Core.List.{List}
 use borrow.Author.Tests.{eq-eqb, ne_eqb, lt-ltb, le-ltb}
 use lib.Dec.{eqb}
 use lib.ListN.{length}
+use Rattle.std.specs.Prelude.{Option as StdOption, Some, None, is_some, Result, Ok, Err}
 use Rattle.base.specs.Choice.{pick, both}
 use Rattle.base.specs.Check.{Check, no, bind, fault, pass}
+use Rattle.base.specs.declared.Fault.{Fault}
 use Rattle.base.specs.Lists.{gather}
 use Rattle.skeleton.specs.File.{Field}
 use Rattle.rules.specs.ByTag.{front}
@@ -22,15 +24,9 @@ use Rattle.items.specs.Items.{source}
 use Rattle.version.specs.Held.{Held, foid_bodies}
 use Rattle.version.specs.Present.{HeldAs, ChangedTo, FlagsKept}
 use Rattle.version.specs.declared.Version.{Version}
-use Rattle.version.specs.declared.Present.{Present}
-use Rattle.version.specs.declared.Present.TheVariants.{Absent, Here}
-use Rattle.version.specs.declared.Changed.{Changed}
-use Rattle.version.specs.declared.Changed.TheVariants.{Refused, Now}
 use Rattle.changing.specs.Given.{Says, reworked}
 use Rattle.changing.specs.Foids.{foid_test, same_from}
 use Rattle.changing.specs.declared.identity.Said.{Said}
-use Rattle.changing.specs.declared.foid.Foids.{Foids}
-use Rattle.changing.specs.declared.foid.Foids.TheVariants.{Same, Other}
 use Rattle.changing.proofs.SameLaws.{same_rule}
 
 -- a workspace that was lent keeps its length
@@ -44,11 +40,11 @@ unfolding number12
 short_twelve fs y = rw (le-ltb 99999 (written_length fs) y) refl
 
 module _ (d u w : List ℕ) (v : Version) (n : ℕ) (is : (r : Rec) → Held d u w v r → n ≡ written_length (written_fields r)) where
-  pub too_long : 99999 < n → (r : Rec) → Held d u w v r → ChangedTo d u w (fitting r) (Refused 12 0 0)
+  pub too_long : 99999 < n → (r : Rec) → Held d u w v r → ChangedTo d u w (fitting r) (Err (fault 12 0 0))
   unfolding ChangedTo fitting number12 bind
   too_long x r h = let y : 99999 < written_length (written_fields r) = subst (λ (m : ℕ). 99999 < m) (is r h) x in rw (lt-ltb 99999 (written_length (written_fields r)) y) refl
 
-  pub long_fits : n ≤ 99999 → (r : Rec) → Held d u w v r → ChangedTo d u w (fitting r) (Now (Here v))
+  pub long_fits : n ≤ 99999 → (r : Rec) → Held d u w v r → ChangedTo d u w (fitting r) (Ok (Some v))
   unfolding ChangedTo HeldAs fitting bind
   long_fits x r h =
       let twelve = short_twelve (written_fields r) (subst (λ (m : ℕ). m ≤ 99999) (is r h) x) in
@@ -56,22 +52,30 @@ module _ (d u w : List ℕ) (v : Version) (n : ℕ) (is : (r : Rec) → Held d u
 
 -- ---- what stands there
 
-module _ (d u w : List ℕ) (p : Present) (o : Option Rec) where
+pub some_there : (p : StdOption Version) → is_some p ≡ true → (v : Version) × (p ≡ Some v)
+some_there (Some v) e = (v, refl)
+some_there None e = absurd (true≢false (sym e))
+
+pub none_there : (p : StdOption Version) → is_some p ≡ false → p ≡ None
+none_there (Some v) e = absurd (true≢false e)
+none_there None e = refl
+
+module _ (d u w : List ℕ) (p : StdOption Version) (o : Option Rec) where
   pub record Stands (v : Version) : Type 0 where
     pub old : Rec
     pub is : o ≡ some old
     pub held : Held d u w v old
     pub twelve : number12 (written_fields old) ≡ pass
 
-  pub here_stands : (v : Version) → p ≡ Here v → HeldAs d u w p o → Stands v
+  pub here_stands : (v : Version) → p ≡ Some v → HeldAs d u w p o → Stands v
   unfolding HeldAs
   here_stands v e x =
-      let (r, a, b, c) : HeldAs d u w (Here v) o = subst (λ (q : Present). HeldAs d u w q o) e x in
+      let (r, a, b, c) : HeldAs d u w (Some v) o = subst (λ (q : StdOption Version). HeldAs d u w q o) e x in
       record { old = r; is = a; held = b; twelve = c }
 
-  pub absent_none : p ≡ Absent → HeldAs d u w p o → o ≡ none
+  pub absent_none : p ≡ None → HeldAs d u w p o → o ≡ none
   unfolding HeldAs
-  absent_none e x = subst (λ (q : Present). HeldAs d u w q o) e x
+  absent_none e x = subst (λ (q : StdOption Version). HeldAs d u w q o) e x
 
 -- ---- `insert`
 
@@ -80,16 +84,16 @@ pub source_new : (d u : List ℕ) → source 1 d u ≡ u
 unfolding source
 source_new d u = refl
 
-module _ (k : Kind) (fs : List Field) (s : Said) (x : Says k fs s) (d u w : List ℕ) (p : Present) where
-  pub insert_present : (v : Version) → p ≡ Here v → ((o : Option Rec) → HeldAs d u w p o → ChangedTo d u w (inserted k fs o) (Refused 7 1 0)) × FlagsKept w w
+module _ (k : Kind) (fs : List Field) (s : Said) (x : Says k fs s) (d u w : List ℕ) (p : StdOption Version) where
+  pub insert_present : (v : Version) → p ≡ Some v → ((o : Option Rec) → HeldAs d u w p o → ChangedTo d u w (inserted k fs o) (Err (fault 7 1 0))) × FlagsKept w w
   unfolding ChangedTo inserted
   insert_present v e = (λ o a. let t = here_stands d u w p o v e a in rw t.is refl, refl)
 
-  pub insert_late : p ≡ Absent → (s.rver ≡ 1 → ⊥) → ((o : Option Rec) → HeldAs d u w p o → ChangedTo d u w (inserted k fs o) (Refused 10 1 0)) × FlagsKept w w
+  pub insert_late : p ≡ None → (s.rver ≡ 1 → ⊥) → ((o : Option Rec) → HeldAs d u w p o → ChangedTo d u w (inserted k fs o) (Err (fault 10 1 0))) × FlagsKept w w
   unfolding ChangedTo inserted
   insert_late e n = (λ o a. rw (absent_none d u w p o e a, ← x.rver, ne_eqb s.rver 1 n) refl, refl)
 
-  pub insert_made : p ≡ Absent → s.rver ≡ 1 → (w' : List ℕ) (c : Changed) → ChangedTo d u w' (fitting (rec_of k fs)) c → FlagsKept w w'
+  pub insert_made : p ≡ None → s.rver ≡ 1 → (w' : List ℕ) (c : Result (StdOption Version) Fault) → ChangedTo d u w' (fitting (rec_of k fs)) c → FlagsKept w w'
       → ((o : Option Rec) → HeldAs d u w p o → ChangedTo d u w' (inserted k fs o) c) × FlagsKept w w'
   unfolding inserted
   insert_made e n w' c y f = (λ o a. rw (absent_none d u w p o e a, ← x.rver, n) y, f)
@@ -100,7 +104,7 @@ module _ (a b : ℕ) (t : Bool) where
   pub both_first : a ≡ b → t ≡ both (eqb a b) t
   both_first e = rw (eq-eqb a b e) refl
 
-  pub first_not : (a ≡ b → ⊥) → false ≡ both (eqb a b) t
+  pub first_not : (a ≡ b → ⊥) → eqb a b ≡ both (eqb a b) t
   first_not n = rw (ne_eqb a b n) refl
 
 -- ---- RVER and code
@@ -119,19 +123,19 @@ module _ (k : Kind) (fs : List Field) (s : Said) (x : Says k fs s) (d u w : List
 
 -- ---- `delete`
 
-module _ (s : Said) (p : Present) (k : Kind) (fs : List Field) (d u w : List ℕ) (o : Option Rec) (x : Says k fs s) (a : HeldAs d u w p o) where
-  pub delete_absent : p ≡ Absent → ChangedTo d u w (deleted k fs o) (Refused 9 1 0)
+module _ (s : Said) (p : StdOption Version) (k : Kind) (fs : List Field) (d u w : List ℕ) (o : Option Rec) (x : Says k fs s) (a : HeldAs d u w p o) where
+  pub delete_absent : p ≡ None → ChangedTo d u w (deleted k fs o) (Err (fault 9 1 0))
   unfolding ChangedTo deleted
   delete_absent e = rw (absent_none d u w p o e a) refl
 
-  module _ (v : Version) (e : p ≡ Here v) (t : Bool) (is : t ≡ both (eqb s.rver (v.rver + 1)) (eqb s.code v.code)) where
-    pub delete_made : t ≡ true → ChangedTo d u w (deleted k fs o) (Now Absent)
+  module _ (v : Version) (e : p ≡ Some v) (t : Bool) (is : t ≡ both (eqb s.rver (v.rver + 1)) (eqb s.code v.code)) where
+    pub delete_made : t ≡ true → ChangedTo d u w (deleted k fs o) (Ok None)
     unfolding ChangedTo HeldAs deleted bind
     delete_made y =
         let z = here_stands d u w p o v e a in
         (none, rw (z.is, follows_pass k fs s x d u w v z.old z.held t is y) refl, refl)
 
-    pub delete_not : t ≡ false → ChangedTo d u w (deleted k fs o) (Refused 10 1 0)
+    pub delete_not : t ≡ false → ChangedTo d u w (deleted k fs o) (Err (fault 10 1 0))
     unfolding ChangedTo deleted bind
     delete_not y =
         let z = here_stands d u w p o v e a in
@@ -139,24 +143,24 @@ module _ (s : Said) (p : Present) (k : Kind) (fs : List Field) (d u w : List ℕ
 
 -- ---- `modify`
 
-module _ (k : Kind) (fs : List Field) (s : Said) (x : Says k fs s) (d u w : List ℕ) (p : Present) where
-  pub modify_absent : p ≡ Absent → ((o : Option Rec) → HeldAs d u w p o → ChangedTo d u w (modified k fs o) (Refused 9 1 0)) × FlagsKept w w
+module _ (k : Kind) (fs : List Field) (s : Said) (x : Says k fs s) (d u w : List ℕ) (p : StdOption Version) where
+  pub modify_absent : p ≡ None → ((o : Option Rec) → HeldAs d u w p o → ChangedTo d u w (modified k fs o) (Err (fault 9 1 0))) × FlagsKept w w
   unfolding ChangedTo modified
   modify_absent e = (λ o a. rw (absent_none d u w p o e a) refl, refl)
 
-  module _ (v : Version) (e : p ≡ Here v) (t : Bool) (is : t ≡ both (eqb s.rver (v.rver + 1)) (eqb s.code v.code)) where
-    pub modify_not : t ≡ false → ((o : Option Rec) → HeldAs d u w p o → ChangedTo d u w (modified k fs o) (Refused 10 1 0)) × FlagsKept w w
+  module _ (v : Version) (e : p ≡ Some v) (t : Bool) (is : t ≡ both (eqb s.rver (v.rver + 1)) (eqb s.code v.code)) where
+    pub modify_not : t ≡ false → ((o : Option Rec) → HeldAs d u w p o → ChangedTo d u w (modified k fs o) (Err (fault 10 1 0))) × FlagsKept w w
     unfolding ChangedTo modified bind
     modify_not y = (
       λ o a. let z = here_stands d u w p o v e a in rw (z.is, follows_not k fs s x d u w v z.old z.held t is y) refl,
       refl,
     )
 
-    module _ (y : t ≡ true) (f : Foids) (ef : foid_test f ≡ same_from (gather foid_of (foid_bodies d u v)) 1 fs) where
+    module _ (y : t ≡ true) (f : StdOption ℕ) (ef : foid_test f ≡ same_from (gather foid_of (foid_bodies d u v)) 1 fs) where
       foid_tested : (o : Option Rec) (z : Stands d u w p o v) → same_foid 1 fs z.old ≡ foid_test f
       foid_tested o z = same_rule 1 fs z.old ∙ ap (λ (b : List ℕ). same_from b 1 fs) z.held.foid ∙ sym ef
 
-      pub modify_other : (i : ℕ) → f ≡ Other i → ((o : Option Rec) → HeldAs d u w p o → ChangedTo d u w (modified k fs o) (Refused 10 i 0)) × FlagsKept w w
+      pub modify_other : (i : ℕ) → f ≡ Some i → ((o : Option Rec) → HeldAs d u w p o → ChangedTo d u w (modified k fs o) (Err (fault 10 i 0))) × FlagsKept w w
       unfolding ChangedTo modified bind foid_test
       modify_other i g = (
         λ o a. let z = here_stands d u w p o v e a in
@@ -164,7 +168,7 @@ module _ (k : Kind) (fs : List Field) (s : Said) (x : Says k fs s) (d u w : List
         refl,
       )
 
-      pub modify_made : f ≡ Same → (w' : List ℕ) (c : Changed) → ((r : Rec) → Held d u w v r → ChangedTo d u w' (reworked s.rver fs r) c) × FlagsKept w w'
+      pub modify_made : f ≡ None → (w' : List ℕ) (c : Result (StdOption Version) Fault) → ((r : Rec) → Held d u w v r → ChangedTo d u w' (reworked s.rver fs r) c) × FlagsKept w w'
           → ((o : Option Rec) → HeldAs d u w p o → ChangedTo d u w' (modified k fs o) c) × FlagsKept w w'
       unfolding modified reworked bind foid_test
       modify_made g w' c made = (
@@ -175,7 +179,7 @@ module _ (k : Kind) (fs : List Field) (s : Said) (x : Says k fs s) (d u w : List
 
 -- ---- `change`
 
-module _ (k : Kind) (fs : List Field) (s : Said) (x : Says k fs s) (d u w o : List ℕ) (p : Present) (c : Changed) where
+module _ (k : Kind) (fs : List Field) (s : Said) (x : Says k fs s) (d u w o : List ℕ) (p : StdOption Version) (c : Result (StdOption Version) Fault) where
   -- what an update record makes of what stands under its key, where it is what `act` makes of it
   changed_by_lem : (act : Option Rec → Check (Option Rec)) → ((r : Option Rec) → change k fs r ≡ act r)
       → ((r : Option Rec) → HeldAs d u w p r → ChangedTo d u o (act r) c) × FlagsKept w o

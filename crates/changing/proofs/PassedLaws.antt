@@ -5,6 +5,7 @@ use mathlib.Core.Bool.{Bool, true}
 use mathlib.Core.List.{List, [], ◌∷◌}
 use native.Mathlib.Omega.{arith}
 use lib.ListN.{length}
+use Rattle.std.specs.Prelude.{Option, Some, None}
 use Rattle.base.specs.Check.{ok}
 use Rattle.base.specs.Lists.{Each}
 use Rattle.base.proofs.CheckLaws.{bind_inv, refused}
@@ -12,12 +13,11 @@ use Rattle.base.proofs.OptionLaws.{never}
 use Rattle.base.proofs.EachLaws.{each_map}
 use Rattle.skeleton.specs.File.{Field}
 use Rattle.skeleton.specs.Place.{between, place_at, fields_at}
+use Rattle.skeleton.specs.Leader.{good}
 use Rattle.skeleton.specs.Record.{record_at}
 use Rattle.skeleton.specs.Shape.{Bounded}
 use Rattle.skeleton.specs.declared.directory.Shape.{Shape}
-use Rattle.skeleton.specs.declared.leader.Head.TheVariants.{Good}
 use Rattle.skeleton.specs.declared.place.Place.{Place}
-use Rattle.skeleton.specs.declared.place.Place.TheVariants.{At, Done}
 use Rattle.skeleton.proofs.PlaceLaws.{place_runs, place_in_lem, fields_more, fields_done}
 use Rattle.skeleton.proofs.RecordLaws.{right}
 use Rattle.fields.specs.Table.{head_of, tuple_of}
@@ -111,34 +111,34 @@ module _ (k : Kind) (fs : List Field) (e : update_record fs ≡ ok k) (s : Said)
 -- ---- `read_ident`
 
 module _ (u : List ℕ) (at len : ℕ) (h : Shape) (k : Kind)
-    (pre : (record_at u at ≡ Good len h.base h.a h.b) × (length u ≤ 16777216) × (update_record (fields_at (between u at (at + len)) h 24) ≡ ok k)) where
+    (pre : (record_at u at ≡ good len h) × (length u ≤ 16777216) × (update_record (fields_at (between u at (at + len)) h 24) ≡ ok k)) where
   pub ident_inside : at + len ≤ length u
-  ident_inside = (right u at (record_at u at) refl len h.base h.a h.b pre.0).inside
+  ident_inside = (right u at (record_at u at) refl _ pre.0).inside
 
   pub ident_word : at + len < 2 ^ 64
   ident_word = omega (arith, ident_inside, pre.1)
 
   pub ident_bounded : Bounded h
-  ident_bounded = (right u at (record_at u at) refl len h.base h.a h.b pre.0).bounded
+  ident_bounded = (right u at (record_at u at) refl _ pre.0).bounded
 
-  module _ (e : Place) (en : e ≡ place_at (between u at (at + len)) h 24) where
-    pub ident_some : {X : Type 0} → e ≡ Done → X
+  module _ (e : Option Place) (en : e ≡ place_at (between u at (at + len)) h 24) where
+    pub ident_some : {X : Type 0} → e ≡ None → X
     ident_some y = none_passed k (subst (λ (fs : List Field). update_record fs ≡ ok k) (fields_done (between u at (at + len)) h 24 e en y) pre.2)
 
-    module _ (tag start end next : ℕ) (y : e ≡ At tag start end next) where
-      front_is : front (fields_at (between u at (at + len)) h 24) ≡ between (between u at (at + len)) start end
+    module _ (d : Place) (y : e ≡ Some d) where
+      front_is : front (fields_at (between u at (at + len)) h 24) ≡ between (between u at (at + len)) d.start d.end
       unfolding front
-      front_is = ap front (fields_more (between u at (at + len)) h 24 e en tag start end next y)
+      front_is = ap front (fields_more (between u at (at + len)) h 24 e en d y)
 
-      pub ident_ready : (start ≤ end) × (end ≤ length (between u at (at + len))) × (identified k (between (between u at (at + len)) start end) ≡ true)
+      pub ident_ready : (d.start ≤ d.end) × (d.end ≤ length (between u at (at + len))) × (identified k (between (between u at (at + len)) d.start d.end) ≡ true)
       ident_ready = (
-        place_runs (between u at (at + len)) h 24 e en tag start end next y,
-        place_in_lem (between u at (at + len)) h 24 e en tag start end next y,
+        place_runs (between u at (at + len)) h 24 e en d y,
+        place_in_lem (between u at (at + len)) h 24 e en d y,
         subst (λ (b : List ℕ). identified k b ≡ true) front_is (passed_ident k (fields_at (between u at (at + len)) h 24) pre.2),
       )
 
-      pub ident_says : (c v r : ℕ) → c ≡ (ident_of k (between (between u at (at + len)) start end)).code → v ≡ (ident_of k (between (between u at (at + len)) start end)).rver
-          → r ≡ (ident_of k (between (between u at (at + len)) start end)).ruin
+      pub ident_says : (c v r : ℕ) → c ≡ (ident_of k (between (between u at (at + len)) d.start d.end)).code → v ≡ (ident_of k (between (between u at (at + len)) d.start d.end)).rver
+          → r ≡ (ident_of k (between (between u at (at + len)) d.start d.end)).ruin
           → Says k (fields_at (between u at (at + len)) h 24) (record { code = c; rver = v; ruin = r })
       ident_says c v r a b z =
           let same = ap (ident_of k) (sym front_is) in

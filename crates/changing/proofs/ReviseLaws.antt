@@ -4,7 +4,9 @@ use mathlib.Core.Path.{◌≡◌, refl, sym, ap, ◌∙◌, subst}
 use mathlib.Core.Option.{Option, some as there}
 use mathlib.Core.List.{List}
 use native.Mathlib.Omega.{arith}
+use Rattle.std.specs.Prelude.{Option as StdOption, Some, Result, Ok, Err}
 use Rattle.base.specs.Check.{ok, bind}
+use Rattle.base.specs.declared.Fault.{Fault}
 use Rattle.base.specs.Lists.{gather, Each}
 use Rattle.skeleton.specs.File.{Field}
 use Rattle.skeleton.specs.Place.{between, fields_at}
@@ -23,14 +25,8 @@ use Rattle.emission.proofs.SmallLaws.{small_attr, small_inas, small_coord, small
 use Rattle.version.specs.Held.{RightFoid, foid_bodies, HeldParts, Held}
 use Rattle.version.specs.Present.{HeldAs, ChangedTo, FlagsKept}
 use Rattle.version.specs.declared.Version.{Version}
-use Rattle.version.specs.declared.Present.{Present}
-use Rattle.version.specs.declared.Present.TheVariants.{Here}
-use Rattle.version.specs.declared.Changed.{Changed}
-use Rattle.version.specs.declared.Changed.TheVariants.{Refused}
 use Rattle.acting.specs.Ready.{Small, Modifies}
 use Rattle.acting.specs.Acted.{SameIdent, ActedBy}
-use Rattle.acting.specs.declared.Acts.{Acts}
-use Rattle.acting.specs.declared.Acts.TheVariants.{Refused as Stopped, Now as Done}
 use Rattle.changing.specs.Given.{Given, Says, reworked}
 use Rattle.changing.specs.declared.identity.Said.{Said}
 use Rattle.changing.proofs.PassedLaws.{ruin_three}
@@ -95,35 +91,35 @@ held_revised d u w o v e n r q h s p =
 
 -- ---- `revise`
 
-module _ (d u w : List ℕ) (v : Version) (fs : List Field) (o : List ℕ) (a : Acts) (acted : ActedBy d u w v (act_fields (sent fs) 1 fs) o a × FlagsKept w o) where
-  pub revise_stops : (n i j : ℕ) → a ≡ Stopped n i j → (rver : ℕ)
-      → ((r : Rec) → Held d u w v r → ChangedTo d u o (reworked rver fs r) (Refused n i j)) × FlagsKept w o
+module _ (d u w : List ℕ) (v : Version) (fs : List Field) (o : List ℕ) (a : Result Version Fault) (acted : ActedBy d u w v (act_fields (sent fs) 1 fs) o a × FlagsKept w o) where
+  pub revise_stops : (f : Fault) → a ≡ Err f → (rver : ℕ)
+      → ((r : Rec) → Held d u w v r → ChangedTo d u o (reworked rver fs r) (Err f)) × FlagsKept w o
   unfolding ActedBy ChangedTo reworked bind
-  revise_stops n i j e rver =
-      let stops : ActedBy d u w v (act_fields (sent fs) 1 fs) o (Stopped n i j) = subst (ActedBy d u w v (act_fields (sent fs) 1 fs) o) e acted.0 in
+  revise_stops f e rver =
+      let stops : ActedBy d u w v (act_fields (sent fs) 1 fs) o (Err f) = subst (ActedBy d u w v (act_fields (sent fs) 1 fs) o) e acted.0 in
       (λ r h. rw (stops r.parts h.parts) refl, acted.1)
 
-  module _ (b : Version) (e : a ≡ Done b) (rver : ℕ) where
+  module _ (b : Version) (e : a ≡ Ok b) (rver : ℕ) where
     made : (r : Rec) → Held d u w v r → (q : Parts) × (act_fields (sent fs) 1 fs r.parts ≡ ok q) × Held d u o (rver_now b rver) (revised rver q r)
     unfolding ActedBy
     made r h =
-        let (all, same) : ActedBy d u w v (act_fields (sent fs) 1 fs) o (Done b) = subst (ActedBy d u w v (act_fields (sent fs) 1 fs) o) e acted.0 in
+        let (all, same) : ActedBy d u w v (act_fields (sent fs) 1 fs) o (Ok b) = subst (ActedBy d u w v (act_fields (sent fs) 1 fs) o) e acted.0 in
         let (q, x, y) = all r.parts h.parts in
         (q, x, held_revised d u w o v b rver r q h same y)
 
     pub revise_holds : (r : Rec) × Held d u w v r → (r : Rec) × Held d u o (rver_now b rver) r
     revise_holds g = let (q, x, y) = made g.0 g.1 in (revised rver q g.0, y)
 
-    pub revise_made : (c : Changed) → ((r : Rec) → Held d u o (rver_now b rver) r → ChangedTo d u o (fitting r) c)
+    pub revise_made : (c : Result (StdOption Version) Fault) → ((r : Rec) → Held d u o (rver_now b rver) r → ChangedTo d u o (fitting r) c)
         → ((r : Rec) → Held d u w v r → ChangedTo d u o (reworked rver fs r) c) × FlagsKept w o
     unfolding reworked bind
     revise_made c f = (λ r h. let (q, x, y) = made r h in rw x (f (revised rver q r) y), acted.1)
 
 -- ---- what `modify` stands on
 
-module _ (d u w : List ℕ) (at len : ℕ) (h : Shape) (k : Kind) (s : Said) (p : Present) (v : Version)
+module _ (d u w : List ℕ) (at len : ℕ) (h : Shape) (k : Kind) (s : Said) (p : StdOption Version) (v : Version)
     (g : Given d u w at len h k × Says k (fields_at (between u at (at + len)) h 24) s × (s.ruin ≡ 1 → ⊥) × (s.ruin ≡ 2 → ⊥))
-    (some : (o : Option Rec) × HeldAs d u w p o × Under chart (key_named k (fields_at (between u at (at + len)) h 24)) o) (e : p ≡ Here v) where
+    (some : (o : Option Rec) × HeldAs d u w p o × Under chart (key_named k (fields_at (between u at (at + len)) h 24)) o) (e : p ≡ Some v) where
   abbrev fs : List Field
   fs = fields_at (between u at (at + len)) h 24
 

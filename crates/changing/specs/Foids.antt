@@ -1,5 +1,5 @@
 -- The FOIDs of an update record beside that of a version.
-use Rattle.std.specs.Prelude.{ℕ, ◌+◌, ◌≡◌, Bool, true, List, [], ◌∷◌, eqb}
+use Rattle.std.specs.Prelude.{ℕ, ◌+◌, ◌≡◌, Bool, true, List, [], ◌∷◌, eqb, Option, Some, None}
 use Rattle.base.specs.Choice.{pick}
 use Rattle.base.specs.Check.{no, fault, Passed, pass}
 use Rattle.base.specs.Keys.{same}
@@ -9,8 +9,6 @@ use Rattle.fields.specs.Content.{fill}
 use Rattle.fields.specs.declared.Format.TheVariants.{Foid}
 use Rattle.rules.specs.Tags.{FOID}
 use Rattle.rules.specs.Record.{foid_of}
-use Rattle.changing.specs.declared.foid.Foids.{Foids}
-use Rattle.changing.specs.declared.foid.Foids.TheVariants.{Same, Other}
 
 -- a FOID has its format
 abbrev pub FoidFilled : Field → Type 0
@@ -21,9 +19,9 @@ unfoldable pub agreeing : List ℕ → Field → Bool
 agreeing old f = pick (eqb f.tag FOID) (same (foid_of f.body) old) true
 
 -- what the code answers, as a test: it passed, or 10 at that field
-unfoldable pub foid_test : Foids → Passed
-foid_test Same = pass
-foid_test (Other i) = no (fault 10 i 0)
+unfoldable pub foid_test : Option ℕ → Passed
+foid_test None = pass
+foid_test (Some i) = no (fault 10 i 0)
 
 -- the fields from number i on are so, else 10 at the first that is not
 unfoldable pub same_from : List ℕ → ℕ → List Field → Passed

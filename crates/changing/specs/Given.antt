@@ -4,9 +4,9 @@ use Rattle.std.proofs.Math.Option.{Option}
 use Rattle.base.specs.Check.{Check, ok, bind}
 use Rattle.skeleton.specs.File.{Field}
 use Rattle.skeleton.specs.Place.{between, fields_at}
+use Rattle.skeleton.specs.Leader.{good}
 use Rattle.skeleton.specs.Record.{record_at}
 use Rattle.skeleton.specs.declared.directory.Shape.{Shape}
-use Rattle.skeleton.specs.declared.leader.Head.TheVariants.{Good}
 use Rattle.rules.specs.ByTag.{front}
 use Rattle.rules.specs.Coordinates.{sent}
 use Rattle.rules.specs.Record.{Rec, ident_of, update_record}
@@ -17,7 +17,7 @@ use Rattle.changing.specs.declared.identity.Said.{Said}
 
 -- the record u[at..at + len] of an update, of kind k, has passed its tests; d the dataset, w the workspace
 pub record Given (d u w : List ℕ) (at len : ℕ) (h : Shape) (k : Kind) : Type 0 where
-  pub there : record_at u at ≡ Good len h.base h.a h.b
+  pub there : record_at u at ≡ good len h
   pub old : length d ≤ 16777216
   pub new : length u ≤ 16777216
   pub wide : 400000 ≤ length w

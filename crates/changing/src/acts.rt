@@ -1,4 +1,4 @@
-// What an update record makes of what stands under its key, by its instruction.
+// What an update record makes of what stands under its key, by its instruction: each function answers what stands there then, or the fault.
 ghost use Rattle.std.specs.Prelude.{◌≡◌, List, ℕ, ◌+◌, ◌≤◌, length};
 ghost use Rattle.std.proofs.Math.Option.{Option};
 ghost use Rattle.skeleton.specs.File.{Field};
@@ -13,25 +13,30 @@ ghost use Rattle.version.specs.Present.{HeldAs, ChangedTo, FlagsKept};
 ghost use Rattle.acting.specs.Ready.{Small, Modifies};
 ghost use Rattle.changing.specs.Given.{Given, Says, reworked};
 
-use crate::foid::{Foids, same_foid};
+use crate::foid::other_foid;
 use crate::identity::{Said, follows};
-use acting::{Acts, act_fields};
+use acting::act_fields;
+use base::Fault;
 use emission::version_length;
 use loading::record::load_record;
 use rules::Kind;
 use skeleton::directory::Shape;
-use version::{Changed, Present, Version};
+use version::Version;
 
 // The version stands there, if it can be written: 12.
-fn fits(d: &[u8], u: &[u8], v: Version, work: &[u8]) -> Changed
-    requires d_len_bound { (length d.now ≤ 16777216) × (length u.now ≤ 16777216) × (400000 ≤ length work.now) }
+fn fits(d: &[u8], u: &[u8], v: Version, work: &[u8]) -> Result<Option<Version>, Fault>
+    requires sizes { (length d.now ≤ 16777216) × (length u.now ≤ 16777216) × (400000 ≤ length work.now) }
     requires held { (r : Rec) × Held d.now u.now work.now v r }
     ensures { (r : Rec) → Held d.now u.now work.now v r → ChangedTo d.now u.now work.now (fitting r) result }
 {
     if 99999 < version_length(d, u, work, v) {
-        return Changed::Refused(12, 0, 0);
+        return Err(Fault {
+            number: 12,
+            field: 0,
+            tuple: 0,
+        });
     }
-    Changed::Now(Present::Here(v))
+    Ok(Some(v))
 }
 
 // Insert: nothing stands there (7), RVER is 1 (10), and then 12.
@@ -43,39 +48,51 @@ pub fn insert(
     h: Shape,
     k: Kind,
     s: Said,
-    p: Present,
+    p: Option<Version>,
     work: &mut [u8],
-) -> Changed
+) -> Result<Option<Version>, Fault>
     requires { Given d.now u.now work.old at len h k × Says k (fields_at (between u.now at (at + len)) h 24) s × (s.ruin ≡ 1) }
     ensures { ((o : Option Rec) → HeldAs d.now u.now work.old p o
         → ChangedTo d.now u.now work.new (inserted k (fields_at (between u.now at (at + len)) h 24) o) result)
         × FlagsKept work.old work.new }
 {
-    match p {
-        Present::Here(_) => Changed::Refused(7, 1, 0),
-        Present::Absent => {
-            if s.rver != 1 {
-                return Changed::Refused(10, 1, 0);
-            }
-            let v = load_record(u, at, len, h, 1, k, work);
-            fits(d, u, v, work)
-        }
+    if p.is_some() {
+        return Err(Fault {
+            number: 7,
+            field: 1,
+            tuple: 0,
+        });
     }
+    if s.rver != 1 {
+        return Err(Fault {
+            number: 10,
+            field: 1,
+            tuple: 0,
+        });
+    }
+    let v = load_record(u, at, len, h, 1, k, work);
+    fits(d, u, v, work)
 }
 
 // Delete: a record stands there (9), which RVER and the code follow (10).
-pub fn delete(s: Said, p: Present) -> Changed
+pub fn delete(s: Said, p: Option<Version>) -> Result<Option<Version>, Fault>
     ensures { (k : KindOf) (fs : List Field) (d u w : List ℕ) (o : Option Rec) → Says k fs s → HeldAs d u w p o → ChangedTo d u w (deleted k fs o) result }
 {
-    match p {
-        Present::Absent => Changed::Refused(9, 1, 0),
-        Present::Here(v) => {
-            if follows(s, v) {
-                return Changed::Now(Present::Absent);
-            }
-            Changed::Refused(10, 1, 0)
-        }
+    let Some(v) = p else {
+        return Err(Fault {
+            number: 9,
+            field: 1,
+            tuple: 0,
+        });
+    };
+    if !follows(s, v) {
+        return Err(Fault {
+            number: 10,
+            field: 1,
+            tuple: 0,
+        });
     }
+    Ok(None)
 }
 
 // The fields of a modify act on version v, which then has the new RVER.
@@ -88,21 +105,15 @@ fn revise(
     rver: u16,
     v: Version,
     work: &mut [u8],
-) -> Changed
+) -> Result<Option<Version>, Fault>
     requires modifies { Modifies u.now at len h v × (length d.now ≤ 16777216) × (length u.now ≤ 16777216) × (400000 ≤ length work.old) × Small v }
     requires held { (r : Rec) × Held d.now u.now work.old v r }
     ensures { ((r : Rec) → Held d.now u.now work.old v r
         → ChangedTo d.now u.now work.new (reworked rver (fields_at (between u.now at (at + len)) h 24) r) result)
         × FlagsKept work.old work.new }
 {
-    match act_fields(d, u, at, len, h, v, work) {
-        Acts::Refused(n, i, j) => Changed::Refused(n, i, j),
-        Acts::Now(e) => {
-            let mut r = e;
-            r.rver = rver;
-            fits(d, u, r, work)
-        }
-    }
+    let e = act_fields(d, u, at, len, h, v, work)?;
+    fits(d, u, Version { rver, ..e }, work)
 }
 
 // Modify: a record stands there (9), which RVER and the code follow and whose FOID is sent, if one is (10); its fields act in order; and then 12.
@@ -114,29 +125,35 @@ pub fn modify(
     h: Shape,
     k: Kind,
     s: Said,
-    p: Present,
+    p: Option<Version>,
     work: &mut [u8],
-) -> Changed
+) -> Result<Option<Version>, Fault>
     requires given { Given d.now u.now work.old at len h k × Says k (fields_at (between u.now at (at + len)) h 24) s × (s.ruin ≡ 1 → ⊥) × (s.ruin ≡ 2 → ⊥) }
     requires held_as { (o : Option Rec) × HeldAs d.now u.now work.old p o × Under chart (key_named k (fields_at (between u.now at (at + len)) h 24)) o }
     ensures { ((o : Option Rec) → HeldAs d.now u.now work.old p o
         → ChangedTo d.now u.now work.new (modified k (fields_at (between u.now at (at + len)) h 24) o) result)
         × FlagsKept work.old work.new }
 {
-    match p {
-        Present::Absent => Changed::Refused(9, 1, 0),
-        Present::Here(v) => {
-            if follows(s, v) {
-                match same_foid(d, u, at, len, h, v) {
-                    Foids::Other(i) => {
-                        return Changed::Refused(10, i, 0);
-                    }
-                    Foids::Same => {
-                        return revise(d, u, at, len, h, s.rver, v, work);
-                    }
-                }
-            }
-            Changed::Refused(10, 1, 0)
-        }
+    let Some(v) = p else {
+        return Err(Fault {
+            number: 9,
+            field: 1,
+            tuple: 0,
+        });
+    };
+    if !follows(s, v) {
+        return Err(Fault {
+            number: 10,
+            field: 1,
+            tuple: 0,
+        });
     }
+    if let Some(i) = other_foid(d, u, at, len, h, v) {
+        return Err(Fault {
+            number: 10,
+            field: i,
+            tuple: 0,
+        });
+    }
+    revise(d, u, at, len, h, s.rver, v, work)
 }

@@ -3,8 +3,8 @@ ghost use Rattle.std.specs.Prelude.{◌≡◌, true, [], ◌+◌, ◌≤◌, len
 ghost use Rattle.base.specs.Keys.{same};
 ghost use Rattle.base.specs.Lists.{gather, Each};
 ghost use Rattle.skeleton.specs.Place.{between, fields_at};
+ghost use Rattle.skeleton.specs.Leader.{good};
 ghost use Rattle.skeleton.specs.Record.{record_at};
-ghost use Rattle.skeleton.specs.declared.leader.Head.TheVariants.{Good};
 ghost use Rattle.fields.specs.Table.{head_of};
 ghost use Rattle.fields.specs.Content.{fill};
 ghost use Rattle.fields.specs.declared.Format.TheVariants.{Foid};
@@ -14,28 +14,17 @@ ghost use Rattle.version.specs.Held.{RightFoid, foid_bodies};
 ghost use Rattle.changing.specs.Foids.{FoidFilled, agreeing, foid_test, same_from};
 
 use fields::number::{le16, le32};
+use rules::tags;
 use skeleton::directory::Shape;
-use skeleton::place::{Place, place_at};
+use skeleton::place::place_at;
 use version::Version;
-
-// Each FOID is the version's; or the number of the field that is another (10).
-#[derive(Clone, Copy)]
-pub enum Foids {
-    Same,
-    Other(usize),
-}
 
 // Two FOIDs are equal: AGEN, FIDN, FIDS.
 fn equal_foids(a: &[u8], b: &[u8]) -> bool
     requires { (fill (head_of Foid) [] a.now ≡ true) × (fill (head_of Foid) [] b.now ≡ true) }
     ensures { result ≡ same (foid_of a.now) (foid_of b.now) }
 {
-    if le16(a, 0) == le16(b, 0) {
-        if le32(a, 2) == le32(b, 2) {
-            return le16(a, 6) == le16(b, 6);
-        }
-    }
-    false
+    le16(a, 0) == le16(b, 0) && le32(a, 2) == le32(b, 2) && le16(a, 6) == le16(b, 6)
 }
 
 // The FOID from `from` up to `to` of u is that of version v, if v has one.
@@ -54,45 +43,30 @@ fn held_foid(d: &[u8], u: &[u8], from: usize, to: usize, v: Version) -> bool
     equal_foids(&u[from..to], &u[i..i + 8])
 }
 
-// A field from `from` up to `to` of u agrees with version v: it is no FOID (0x464f4944), or that of v.
+// A field from `from` up to `to` of u agrees with version v: it is no FOID, or that of v.
 fn agrees(d: &[u8], u: &[u8], tag: u32, from: usize, to: usize, v: Version) -> bool
     requires { (from ≤ to) × (to ≤ length u.now) × (length d.now ≤ 16777216) × (length u.now ≤ 16777216)
         × FoidFilled (field_as tag (between u.now from to)) × Each RightFoid (foid_bodies d.now u.now v) }
     ensures { result ≡ agreeing (gather foid_of (foid_bodies d.now u.now v)) (field_as tag (between u.now from to)) }
 {
-    if tag == 0x464f4944 {
-        return held_foid(d, u, from, to, v);
-    }
-    true
+    tag != tags::FOID || held_foid(d, u, from, to, v)
 }
 
-// The fields of the record u[at..at + len], numbered from 1, agree with version v.
-pub fn same_foid(d: &[u8], u: &[u8], at: usize, len: usize, h: Shape, v: Version) -> Foids
-    requires { (record_at u.now at ≡ Good len h.base h.a h.b) × (length d.now ≤ 16777216) × (length u.now ≤ 16777216)
+// The number, from 1, of the first field of the record u[at..at + len] that is another FOID than that of version v (10); none where each FOID is the version's.
+pub fn other_foid(d: &[u8], u: &[u8], at: usize, len: usize, h: Shape, v: Version) -> Option<usize>
+    requires { (record_at u.now at ≡ good len h) × (length d.now ≤ 16777216) × (length u.now ≤ 16777216)
         × Each FoidFilled (fields_at (between u.now at (at + len)) h 24) × Each RightFoid (foid_bodies d.now u.now v) }
     ensures { foid_test result ≡ same_from (gather foid_of (foid_bodies d.now u.now v)) 1 (fields_at (between u.now at (at + len)) h 24) }
 {
     let stop = at + len;
     let mut q = 24;
     let mut i = 1;
-    loop {
-        match place_at(&u[at..stop], h, q) {
-            Place::At {
-                tag,
-                start,
-                end,
-                next,
-            } => {
-                if agrees(d, u, tag, at + start, at + end, v) {
-                    q = next;
-                    i += 1;
-                } else {
-                    return Foids::Other(i);
-                }
-            }
-            Place::Done => {
-                return Foids::Same;
-            }
+    while let Some(field) = place_at(&u[at..stop], h, q) {
+        if !agrees(d, u, field.tag, at + field.start, at + field.end, v) {
+            return Some(i);
         }
+        q = field.next;
+        i += 1;
     }
+    None
 }

@@ -2,10 +2,11 @@
 #![tactic(auto)]
 
 use acts::{delete, insert, modify};
+use base::Fault;
 use identity::read_ident;
 use rules::Kind;
 use skeleton::directory::Shape;
-use version::{Changed, Present};
+use version::Version;
 
 pub mod acts;
 pub mod foid;
@@ -15,15 +16,16 @@ ghost use Rattle.std.specs.Prelude.{◌≡◌, ◌+◌, ◌≤◌, length};
 ghost use Rattle.std.proofs.Math.Option.{Option};
 ghost use Rattle.base.specs.Check.{ok};
 ghost use Rattle.skeleton.specs.Place.{between, fields_at};
+ghost use Rattle.skeleton.specs.Leader.{good};
 ghost use Rattle.skeleton.specs.Record.{record_at};
-ghost use Rattle.skeleton.specs.declared.leader.Head.TheVariants.{Good};
 ghost use Rattle.rules.specs.Record.{Rec, key_named, update_record};
 ghost use Rattle.rules.specs.Change.{change as change_of};
 ghost use Rattle.sequence.specs.Keyed.{Under};
 ghost use Rattle.updates.specs.Acts.{chart};
 ghost use Rattle.version.specs.Present.{HeldAs, ChangedTo, FlagsKept};
 
-// The record u[at..at + len] of kind k acts, by its instruction, on what stands under the key that it names; d is the dataset.
+// The record u[at..at + len] of kind k acts, by its instruction, on what stands under the key that it names, if anything does; d is the
+// dataset. The answer is what stands there then, or the fault.
 pub fn change(
     d: &[u8],
     u: &[u8],
@@ -31,10 +33,10 @@ pub fn change(
     len: usize,
     h: Shape,
     k: Kind,
-    p: Present,
+    p: Option<Version>,
     work: &mut [u8],
-) -> Changed
-    requires at_value { (record_at u.now at ≡ Good len h.base h.a h.b) × (length d.now ≤ 16777216) × (length u.now ≤ 16777216) × (400000 ≤ length work.old) }
+) -> Result<Option<Version>, Fault>
+    requires at_value { (record_at u.now at ≡ good len h) × (length d.now ≤ 16777216) × (length u.now ≤ 16777216) × (400000 ≤ length work.old) }
     requires h_value { (update_record (fields_at (between u.now at (at + len)) h 24) ≡ ok k)
         × ((o : Option Rec) × HeldAs d.now u.now work.old p o × Under chart (key_named k (fields_at (between u.now at (at + len)) h 24)) o) }
     ensures { ((o : Option Rec) → HeldAs d.now u.now work.old p o → Under chart (key_named k (fields_at (between u.now at (at + len)) h 24)) o

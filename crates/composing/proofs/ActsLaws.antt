@@ -7,6 +7,7 @@ use native.Mathlib.Omega.{arith}
 use borrow.Author.Tests.{eq-eqb, ne_eqb}
 use lib.ListN.{length, get_or}
 use lib.Dec.{eqb}
+use Rattle.std.specs.Prelude.{Option, Some, None, Result, Ok, Err}
 use Rattle.base.specs.Choice.{pick, both, either}
 use Rattle.base.specs.Walk.{Got}
 use Rattle.base.proofs.ChoiceLaws.{either_false}
@@ -16,9 +17,8 @@ use Rattle.skeleton.specs.Record.{record_at, stated_at}
 use Rattle.skeleton.specs.Shape.{Bounded}
 use Rattle.skeleton.specs.declared.directory.Shape.{Shape}
 use Rattle.skeleton.specs.declared.leader.Head.{Head}
-use Rattle.skeleton.specs.declared.leader.Head.TheVariants.{Good, Refused}
+use Rattle.skeleton.specs.declared.leader.Broken.{Broken}
 use Rattle.skeleton.specs.declared.place.Place.{Place}
-use Rattle.skeleton.specs.declared.place.Place.TheVariants.{At, Done}
 use Rattle.skeleton.proofs.AgainLaws.{again, again_not, records_some}
 use Rattle.skeleton.proofs.FileLaws.{records_over, records_more}
 use Rattle.skeleton.proofs.PlaceLaws.{fields_more, fields_done, place_runs, place_in_lem}
@@ -39,8 +39,8 @@ use Rattle.composing.specs.Acts.{ruin_with, fate_of, deleted_of, fate_from, dele
 -- ---- one update record
 
 -- RUIN
-module _ (r : List ℕ) (h : Shape) (key : ℕ) (e : Place) (en : e ≡ place_at r h 24) where
-  pub ruin_none : e ≡ Done → 0 ≡ ruin_with key (fields_at r h 24)
+module _ (r : List ℕ) (h : Shape) (key : ℕ) (e : Option Place) (en : e ≡ place_at r h 24) where
+  pub ruin_none : e ≡ None → 0 ≡ ruin_with key (fields_at r h 24)
   unfolding ruin_with front ruin_byte
   ruin_none x = rw (fields_done r h 24 e en x) (go (coded (kind_ranked (key / 4294967296))))
     where
@@ -48,10 +48,10 @@ module _ (r : List ℕ) (h : Shape) (key : ℕ) (e : Place) (en : e ≡ place_at
       go true = refl
       go false = refl
 
-  pub ruin_there : (tag start end next : ℕ) → e ≡ At tag start end next → (k : Kind) → k ≡ kind_ranked (key / 4294967296) → (n : ℕ) → n ≡ ruin_byte k (between r start end)
+  pub ruin_there : (p : Place) → e ≡ Some p → (k : Kind) → k ≡ kind_ranked (key / 4294967296) → (n : ℕ) → n ≡ ruin_byte k (between r p.start p.end)
       → n ≡ ruin_with key (fields_at r h 24)
   unfolding ruin_with front
-  ruin_there tag start end next x k ek n y = rw (fields_more r h 24 e en tag start end next x, ← ek) y
+  ruin_there p x k ek n y = rw (fields_more r h 24 e en p x, ← ek) y
 
 pub ruleset ruin_ways = (ruin_none, ruin_there, place_runs, place_in_lem)
 
@@ -70,7 +70,7 @@ module _ (found key m : ℕ) where
     pub deletes_named : found ≡ key → (n : ℕ) → n ≡ m → eqb n 2 ≡ either b (both (eqb found key) (eqb m 2))
     deletes_named e n y = rw (z, eq-eqb found key e, y)
 
-    pub deletes_other : (found ≡ key → ⊥) → false ≡ either b (both (eqb found key) (eqb m 2))
+    pub deletes_other : (found ≡ key → ⊥) → eqb found key ≡ either b (both (eqb found key) (eqb m 2))
     deletes_other e = rw (z, ne_eqb found key e)
 
 -- one of three
@@ -80,74 +80,74 @@ either_three false b c = refl
 
 -- ---- the loops: the record at p
 
-module _ (f : List ℕ) (p : ℕ) (s : Sound f p) (l : p < length f) (h : Head) (eh : h ≡ stated_at f p) where
+module _ (f : List ℕ) (p : ℕ) (s : Sound f p) (l : p < length f) (h : Result Head Broken) (eh : h ≡ stated_at f p) where
   found : h ≡ record_at f p
   found = again f p (records_some f p l s.clean) h eh
 
-  pub turn_not : (n : ℕ) → h ≡ Refused n → ⊥
-  turn_not n x = again_not f p (records_some f p l s.clean) h eh n x
+  pub turn_not : (x : Broken) → h ≡ Err x → ⊥
+  turn_not x y = again_not f p (records_some f p l s.clean) h eh x y
 
-  module _ (len base a b : ℕ) (x : h ≡ Good len base a b) where
-    whole : Right f p len base a b
-    whole = right f p h found len base a b x
+  module _ (head : Head) (x : h ≡ Ok head) where
+    whole : Right f p head
+    whole = right f p h found head x
 
     -- its fields
     abbrev fields : List Field
-    fields = fields_at (between f p (p + len)) (record { base = base; a = a; b = b }) 24
+    fields = fields_at (between f p (p + head.len)) head.shape 24
 
-    items : (records_from f p).items ≡ fields ∷ (records_from f (p + len)).items
-    items = ap (λ (g : Got (List Field)). g.items) (records_more f p l h found len base a b x)
+    items : (records_from f p).items ≡ fields ∷ (records_from f (p + head.len)).items
+    items = ap (λ (g : Got (List Field)). g.items) (records_more f p l h found head x)
 
-    unlisted : listed 0 (key_of fields ∷ keys_from f (p + len)) ≡ false
+    unlisted : listed 0 (key_of fields ∷ keys_from f (p + head.len)) ≡ false
     unfolding has_from
-    unlisted = rw (keys_good f p l h found len base a b x) at s.keyed
+    unlisted = rw (keys_good f p l h found head x) at s.keyed
 
-    key_is : key_at f (p + base) ≡ key_of fields
-    key_is = first_key f p len base a b whole.walked (not_first 0 (key_of fields) (keys_from f (p + len)) unlisted)
+    key_is : key_at f (p + head.shape.base) ≡ key_of fields
+    key_is = first_key f p head.len head.shape whole.walked (not_first 0 (key_of fields) (keys_from f (p + head.len)) unlisted)
 
-    pub turn_bounded : Bounded (record { base = base; a = a; b = b })
+    pub turn_bounded : Bounded head.shape
     turn_bounded = whole.bounded
 
-    pub turn_in : p + len ≤ length f
+    pub turn_in : p + head.len ≤ length f
     turn_in = whole.inside
 
-    pub turn_runs : p ≤ p + len
+    pub turn_runs : p ≤ p + head.len
     turn_runs = omega arith
 
-    pub turn_word : p + len < 2 ^ 64
+    pub turn_word : p + head.len < 2 ^ 64
     turn_word = let i = turn_in in let k = s.small in omega arith
 
-    pub turn_falls : length f - (p + len) < length f - p
+    pub turn_falls : length f - (p + head.len) < length f - p
     turn_falls = let g = whole.long in let i = turn_in in omega arith
 
-    pub turn_key : p + base < 2 ^ 63
-    turn_key = look_word f p h eh len base a b x s.inside s.small
+    pub turn_key : p + head.shape.base < 2 ^ 63
+    turn_key = look_word f p h eh head x s.inside s.small
 
-    pub turn_place : p + base < 2 ^ 64
-    turn_place = look_fits f p h eh len base a b x s.inside s.small
+    pub turn_place : p + head.shape.base < 2 ^ 64
+    turn_place = look_fits f p h eh head x s.inside s.small
 
-    pub turn_sound : Sound f (p + len)
+    pub turn_sound : Sound f (p + head.len)
     turn_sound =
         record {
           small = s.small;
           inside = turn_in;
-          clean = rw (records_more f p l h found len base a b x) at s.clean;
-          keyed = unfold has_from in not_later 0 (key_of fields) (keys_from f (p + len)) unlisted;
+          clean = rw (records_more f p l h found head x) at s.clean;
+          keyed = unfold has_from in not_later 0 (key_of fields) (keys_from f (p + head.len)) unlisted;
         }
 
-    module _ (k : ℕ) (ek : k ≡ key_at f (p + base)) (key : ℕ) where
-      pub fate_on : (before w t : Bool) → fate_from f p key before ≡ w → t ≡ pick (eqb k key) (not (eqb (ruin_with key fields) 2)) before → fate_from f (p + len) key t ≡ w
+    module _ (k : ℕ) (ek : k ≡ key_at f (p + head.shape.base)) (key : ℕ) where
+      pub fate_on : (before w t : Bool) → fate_from f p key before ≡ w → t ≡ pick (eqb k key) (not (eqb (ruin_with key fields) 2)) before → fate_from f (p + head.len) key t ≡ w
       unfolding fate_from fate_of
       fate_on before w t inv et =
-          let y : fate_of key (fields ∷ (records_from f (p + len)).items) before ≡ w = rw items at inv in
+          let y : fate_of key (fields ∷ (records_from f (p + head.len)).items) before ≡ w = rw items at inv in
           rw (et, ek, key_is) y
 
       pub deleted_on : (gone w t : Bool) → either gone (deleted_from f p key) ≡ w → t ≡ either gone (both (eqb k key) (eqb (ruin_with key fields) 2))
-          → either t (deleted_from f (p + len) key) ≡ w
+          → either t (deleted_from f (p + head.len) key) ≡ w
       unfolding deleted_from deleted_of
       deleted_on gone w t inv et =
-          let y : either gone (deleted_of key (fields ∷ (records_from f (p + len)).items)) ≡ w = rw items at inv in
-          rw (et, ek, key_is) (either_three gone (both (eqb (key_of fields) key) (eqb (ruin_with key fields) 2)) (deleted_of key (records_from f (p + len)).items) ∙ y)
+          let y : either gone (deleted_of key (fields ∷ (records_from f (p + head.len)).items)) ≡ w = rw items at inv in
+          rw (et, ek, key_is) (either_three gone (both (eqb (key_of fields) key) (eqb (ruin_with key fields) 2)) (deleted_of key (records_from f (p + head.len)).items) ∙ y)
 
 -- where the update ends
 module _ (f : List ℕ) (p key : ℕ) (h : length f ≤ p) (w : Bool) where

@@ -154,15 +154,15 @@ module _ (d : List ℕ) (ds : ℕ) (u : List ℕ) (us : ℕ) (flags w : List ℕ
   unfolding TellsCells
   inas_told r h = t inas_key (each_map (bodies_of d u (inas_area w) v.inas) inas_begins h.parts.inas_right)
 
-  pub held_loose : not x ≡ true → TellsHeld d ds u us flags w v false
+  pub held_loose : x ≡ false → TellsHeld d ds u us flags w v x
   unfolding TellsHeld TellsOf TellsAll
   held_loose y r h recs s =
       let e = inas_told r h recs s in
-      sym (held_linked (standing chart recs (records_from u us).items) d u w v r h ∙ rw (← e, not-true x y))
+      sym (held_linked (standing chart recs (records_from u us).items) d u w v r h ∙ rw (← e, y))
 
-  pub held_told : not x ≡ false → (z : Bool) → TellsCells d ds u us flags (bodies_of d u (spas_area w) v.spas) z → TellsHeld d ds u us flags w v z
+  pub held_told : x ≡ true → (z : Bool) → TellsCells d ds u us flags (bodies_of d u (spas_area w) v.spas) z → TellsHeld d ds u us flags w v z
   unfolding TellsHeld TellsOf TellsAll TellsCells
   held_told y z q r h recs s =
       let e = inas_told r h recs s in
       let g = q tuple_key (each_map (bodies_of d u (spas_area w) v.spas) spas_begins h.parts.spas_right) recs s in
-      sym (held_linked (standing chart recs (records_from u us).items) d u w v r h ∙ rw (← e, not-false x y, ← g))
+      sym (held_linked (standing chart recs (records_from u us).items) d u w v r h ∙ rw (← e, y, ← g))

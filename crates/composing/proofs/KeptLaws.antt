@@ -4,6 +4,7 @@ use mathlib.Core.Path.{◌≡◌}
 use mathlib.Core.Bool.{Bool, true, false, not}
 use mathlib.Core.List.{List}
 use lib.ListN.{length}
+use Rattle.std.specs.Prelude.{Some, None}
 use Rattle.memory.specs.Wrote.{Wrote}
 use Rattle.skeleton.specs.Emit.{emit}
 use Rattle.rules.specs.Record.{Rec}
@@ -13,7 +14,6 @@ use Rattle.version.specs.declared.Version.{Version}
 use Rattle.composing.specs.Kept.{Kept, Lasts, EmitsHeld, MadeHeld}
 use Rattle.composing.specs.Made.{Surely}
 use Rattle.composing.specs.Told.{TellsHeld}
-use Rattle.composing.specs.declared.making.Made.TheVariants.{Loose, Next}
 use Rattle.composing.proofs.EmittedLaws.{emitted_not, emitted_room, emitted_there, emitted_word}
 use Rattle.composing.proofs.MadeLaws.{held_made_loose, held_made_next}
 
@@ -42,11 +42,11 @@ module _ (d u w : List ℕ) (v : Version) where
     kept_there h n out g r e = emitted_there (written_fields r) to before l (el.is r e) h n out (g r e).0 (g r e).1
 
   module _ (ds us : ℕ) (flags : List ℕ) (sure : Bool) (to : ℕ) (before out : List ℕ) (x : Bool) (t : Surely sure (TellsHeld d ds u us flags w v x) x) where
-    pub kept_loose : not x ≡ true → MadeHeld d ds u us flags sure w v to before out Loose
+    pub kept_loose : not x ≡ true → MadeHeld d ds u us flags sure w v to before out None
     unfolding MadeHeld
     kept_loose y r h s = held_made_loose d ds u us flags sure to before out w v x t r h s y
 
-    pub kept_next : not x ≡ false → (n : ℕ) → EmitsHeld d u w v to before n out → MadeHeld d ds u us flags sure w v to before out (Next n)
+    pub kept_next : not x ≡ false → (n : ℕ) → EmitsHeld d u w v to before n out → MadeHeld d ds u us flags sure w v to before out (Some n)
     unfolding MadeHeld EmitsHeld
     kept_next y n e r h s = held_made_next d ds u us flags sure to before out w v x t r h s y n (e r h)
 

@@ -4,6 +4,7 @@ use mathlib.Core.Path.{◌≡◌, refl, sym, subst, ◌∙◌}
 use mathlib.Core.Bool.{Bool, true, false, not, true≢false}
 use mathlib.Core.List.{List}
 use borrow.Author.Tests.{not-true, not-false}
+use Rattle.std.specs.Prelude.{Some, None}
 use Rattle.base.specs.Lists.{gather}
 use Rattle.skeleton.specs.File.{Field, records_from}
 use Rattle.rules.specs.Record.{Rec, rec_of}
@@ -21,7 +22,6 @@ use Rattle.composing.specs.Tied.{TiedIn, StaysAll}
 use Rattle.composing.specs.Told.{TellsHeld}
 use Rattle.composing.specs.Emitted.{Emitted}
 use Rattle.composing.specs.Made.{Surely, MadeOf, Carries, CarriesTied}
-use Rattle.composing.specs.declared.making.Made.TheVariants.{Loose, Next}
 use Rattle.composing.proofs.LinkedLaws.{linked_pass, linked_no, fields_linked}
 
 -- ---- `passes`, `version_passes`
@@ -50,11 +50,11 @@ module _ (d : List ℕ) (ds : ℕ) (u : List ℕ) (us : ℕ) (flags : List ℕ) 
     unsure y true e = absurd (true≢false (sym (t.known e) ∙ not-true x y))
     unsure y false e = e
 
-    made_loose : not x ≡ true → MadeOf d ds u us flags sure r to before out Loose
+    made_loose : not x ≡ true → MadeOf d ds u us flags sure r to before out None
     unfolding MadeOf TellsOf
     made_loose y recs z = linked_no (final recs) r s (sym (t.told (unsure y sure refl) recs z) ∙ not-true x y)
 
-    made_next : not x ≡ false → (n : ℕ) → Emitted (written_fields r) to before n out → MadeOf d ds u us flags sure r to before out (Next n)
+    made_next : not x ≡ false → (n : ℕ) → Emitted (written_fields r) to before n out → MadeOf d ds u us flags sure r to before out (Some n)
     unfolding MadeOf TellsOf
     made_next y n e = ((λ h recs z. linked_pass (final recs) r s (sym (t.told h recs z) ∙ not-false x y)), e)
 
@@ -67,11 +67,11 @@ module _ (d : List ℕ) (ds : ℕ) (u : List ℕ) (us : ℕ) (flags : List ℕ) 
         surely_as sure (TellsAll d ds u us flags (gather field_keys fs) x) (TellsOf d ds u us flags (rec_of k fs) x) x
         (λ a recs s. a recs s ∙ sym (fields_linked (final recs) k fs)) t
 
-    carries_loose : not x ≡ true → Carries d ds u us flags sure fs to before out Loose
+    carries_loose : not x ≡ true → Carries d ds u us flags sure fs to before out None
     unfolding Carries
     carries_loose y k s e = made_loose (rec_of k fs) s x (of_fields k) y
 
-    carries_next : not x ≡ false → (n : ℕ) → Emitted (in_house_form true fs) to before n out → Carries d ds u us flags sure fs to before out (Next n)
+    carries_next : not x ≡ false → (n : ℕ) → Emitted (in_house_form true fs) to before n out → Carries d ds u us flags sure fs to before out (Some n)
     unfolding Carries
     carries_next y n w k s e = made_next (rec_of k fs) s x (of_fields k) y n (subst (λ (gs : List Field). Emitted gs to before n out) (sym e) w)
 
@@ -82,10 +82,10 @@ module _ (d : List ℕ) (ds : ℕ) (u : List ℕ) (us : ℕ) (flags : List ℕ) 
     unfolding TellsHeld
     of_held = surely_as sure (TellsHeld d ds u us flags w v x) (TellsOf d ds u us flags r x) x (λ a. a r h) t
 
-    pub held_made_loose : not x ≡ true → MadeOf d ds u us flags sure r to before out Loose
+    pub held_made_loose : not x ≡ true → MadeOf d ds u us flags sure r to before out None
     held_made_loose y = made_loose r s x of_held y
 
-    pub held_made_next : not x ≡ false → (n : ℕ) → Emitted (written_fields r) to before n out → MadeOf d ds u us flags sure r to before out (Next n)
+    pub held_made_next : not x ≡ false → (n : ℕ) → Emitted (written_fields r) to before n out → MadeOf d ds u us flags sure r to before out (Some n)
     held_made_next y n e = made_next r s x of_held y n e
 
 -- ---- of the dataset, which has what it names
@@ -96,11 +96,11 @@ module _ (u : List ℕ) (us : ℕ) (flags : List ℕ) (sure : Bool) (to : ℕ) (
   unfolding StaysAll
   stays_in d ds i = surely_as sure (StaysAll u us flags (gather field_keys fs) x) (TellsAll d ds u us flags (gather field_keys fs) x) x (λ a. a d ds i) t
 
-  pub tied_loose : not x ≡ true → CarriesTied u us flags sure fs to before out Loose
+  pub tied_loose : not x ≡ true → CarriesTied u us flags sure fs to before out None
   unfolding CarriesTied
   tied_loose y d ds i = carries_loose d ds u us flags sure to before out fs x (stays_in d ds i) y
 
-  pub tied_next : not x ≡ false → (n : ℕ) → Emitted (in_house_form true fs) to before n out → CarriesTied u us flags sure fs to before out (Next n)
+  pub tied_next : not x ≡ false → (n : ℕ) → Emitted (in_house_form true fs) to before n out → CarriesTied u us flags sure fs to before out (Some n)
   unfolding CarriesTied
   tied_next y n w d ds i = carries_next d ds u us flags sure to before out fs x (stays_in d ds i) y n w
 

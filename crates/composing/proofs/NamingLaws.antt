@@ -6,6 +6,7 @@ use mathlib.Core.List.{List, [], ◌∷◌, ◌++◌}
 use native.Mathlib.Omega.{arith}
 use borrow.Author.Tests.{eq-eqb, ne_eqb, not-true, not-false}
 use lib.ListN.{length, take, drop}
+use Rattle.std.specs.Prelude.{Option, Some, None}
 use Rattle.base.specs.Choice.{both}
 use Rattle.base.specs.Lists.{each, gather, Each}
 use Rattle.base.specs.Walk.{Got}
@@ -21,7 +22,6 @@ use Rattle.skeleton.specs.File.{records_from}
 use Rattle.skeleton.specs.Place.{between, place_at, fields_at}
 use Rattle.skeleton.specs.declared.directory.Shape.{Shape}
 use Rattle.skeleton.specs.declared.place.Place.{Place}
-use Rattle.skeleton.specs.declared.place.Place.TheVariants.{At, Done}
 use Rattle.skeleton.proofs.PlaceLaws.{fields_more, fields_done}
 use Rattle.rules.specs.Associations.{inas_key, spas_key, field_keys, spas_keys}
 use Rattle.rules.specs.Record.{Rec}
@@ -187,21 +187,21 @@ module _ (u : List ℕ) (us : ℕ) (flags : List ℕ) where
 
   -- ---- the loop over the fields of a record: the next at place q
 
-  module _ (r : List ℕ) (h : Shape) (q : ℕ) (whole : List (List ℕ)) (inv : Remain u us flags (gather field_keys (fields_at r h q)) whole) (e : Place) (en : e ≡ place_at r h q) where
-    pub fields_over : e ≡ Done → StaysAll u us flags whole true
+  module _ (r : List ℕ) (h : Shape) (q : ℕ) (whole : List (List ℕ)) (inv : Remain u us flags (gather field_keys (fields_at r h q)) whole) (e : Option Place) (en : e ≡ place_at r h q) where
+    pub fields_over : e ≡ None → StaysAll u us flags whole true
     unfolding gather
     fields_over x = remain_over whole (rw (fields_done r h q e en x) at inv)
 
-    module _ (tag from end next : ℕ) (x : e ≡ At tag from end next) (v : Bool) (s : StaysAll u us flags (field_keys (record { tag = tag; body = between r from end })) v) where
-      parted : Remain u us flags (field_keys (record { tag = tag; body = between r from end }) ++ gather field_keys (fields_at r h next)) whole
+    module _ (p : Place) (x : e ≡ Some p) (v : Bool) (s : StaysAll u us flags (field_keys (record { tag = p.tag; body = between r p.start p.end })) v) where
+      parted : Remain u us flags (field_keys (record { tag = p.tag; body = between r p.start p.end }) ++ gather field_keys (fields_at r h p.next)) whole
       unfolding gather
-      parted = rw (fields_more r h q e en tag from end next x) at inv
+      parted = rw (fields_more r h q e en p x) at inv
 
-      pub fields_on : not v ≡ false → Remain u us flags (gather field_keys (fields_at r h next)) whole
-      fields_on y = rest_more (field_keys (record { tag = tag; body = between r from end })) (gather field_keys (fields_at r h next)) whole parted v s (not-false v y)
+      pub fields_on : not v ≡ false → Remain u us flags (gather field_keys (fields_at r h p.next)) whole
+      fields_on y = rest_more (field_keys (record { tag = p.tag; body = between r p.start p.end })) (gather field_keys (fields_at r h p.next)) whole parted v s (not-false v y)
 
       pub fields_loose : not v ≡ true → StaysAll u us flags whole false
-      fields_loose y = rest_loose (field_keys (record { tag = tag; body = between r from end })) (gather field_keys (fields_at r h next)) whole parted v s (not-true v y)
+      fields_loose y = rest_loose (field_keys (record { tag = p.tag; body = between r p.start p.end })) (gather field_keys (fields_at r h p.next)) whole parted v s (not-true v y)
 
 pub ruleset inas_ways = (inas_told, arith)
 

@@ -7,17 +7,17 @@ use native.Mathlib.Omega.{arith}
 use borrow.Author.Tests.{eq-eqb, ne_eqb}
 use lib.ListN.{length}
 use lib.Dec.{eqb}
+use Rattle.std.specs.Prelude.{Result, Ok}
 use Rattle.base.specs.Choice.{pick, both, either}
 use Rattle.base.specs.Lists.{each}
 use Rattle.skeleton.specs.File.{Field, records_from}
 use Rattle.skeleton.specs.Place.{between, fields_at}
 use Rattle.skeleton.specs.Record.{stated_at}
 use Rattle.skeleton.specs.declared.leader.Head.{Head}
-use Rattle.skeleton.specs.declared.leader.Head.TheVariants.{Good}
+use Rattle.skeleton.specs.declared.leader.Broken.{Broken}
 use Rattle.keys.specs.Key.{key_at}
 use Rattle.keys.specs.Listed.{key_of, listed}
-use Rattle.keys.specs.Look.{look_at, Sound}
-use Rattle.keys.specs.declared.look.Look.TheVariants.{At}
+use Rattle.keys.specs.Look.{look_at, looked, Sound}
 use Rattle.keys.proofs.ListLaws.{not_first, not_later}
 use Rattle.keys.specs.Places.{Leads, here, over}
 use Rattle.sorting.specs.Places.{Skips, Next, Late, at_start, at_one}
@@ -84,28 +84,28 @@ going_start u us key from r before s t n = record {
   answer = sym (fate_late u us key from before s t ∙ fate_skip u key from r before n.skips);
 }
 
-module _ (u : List ℕ) (us key : ℕ) (before : Bool) (p : ℕ) (stands : Bool) (a : Going u us key before p stands) (l : p < length u) (h : Head) (eh : h ≡ stated_at u p)
-    (len base s b : ℕ) (x : h ≡ Good len base s b) where
-  pub going_leads : Leads u us (p + len)
+module _ (u : List ℕ) (us key : ℕ) (before : Bool) (p : ℕ) (stands : Bool) (a : Going u us key before p stands) (l : p < length u) (h : Result Head Broken) (eh : h ≡ stated_at u p)
+    (head : Head) (x : h ≡ Ok head) where
+  pub going_leads : Leads u us (p + head.len)
   unfolding look_at
   going_leads =
-      let e : look_at u p ≡ At len (key_at u (p + base)) = rw (← eh, x) refl in
+      let e : look_at u p ≡ looked head.len (key_at u (p + head.shape.base)) = rw (← eh, x) refl in
       leads_then a.leads (over e here)
 
-  pub going_falls : (r : ℕ) → Next u key (p + len) r → length u - r < length u - p
+  pub going_falls : (r : ℕ) → Next u key (p + head.len) r → length u - r < length u - p
   going_falls r n =
-      let f = turn_falls u p a.sound l h eh len base s b x in
-      let g = next_up (turn_sound u p a.sound l h eh len base s b x) n in
+      let f = turn_falls u p a.sound l h eh head x in
+      let g = next_up (turn_sound u p a.sound l h eh head x) n in
       omega arith
 
-  pub going_more : (k : ℕ) → k ≡ key_at u (p + base) → (t : Bool)
-      → t ≡ pick (eqb k key) (not (eqb (ruin_with key (fields_at (between u p (p + len)) (record { base = base; a = s; b = b }) 24)) 2)) stands
-      → (r : ℕ) → Next u key (p + len) r → Going u us key before r t
+  pub going_more : (k : ℕ) → k ≡ key_at u (p + head.shape.base) → (t : Bool)
+      → t ≡ pick (eqb k key) (not (eqb (ruin_with key (fields_at (between u p (p + head.len)) head.shape 24)) 2)) stands
+      → (r : ℕ) → Next u key (p + head.len) r → Going u us key before r t
   going_more k ek t et r n = record {
     sound = n.sound;
     leads = next_leads going_leads n;
-    answer = sym (fate_skip u key (p + len) r t n.skips)
-        ∙ fate_on u p a.sound l h eh len base s b x k ek key stands (fate_from u us key before) t a.answer et;
+    answer = sym (fate_skip u key (p + head.len) r t n.skips)
+        ∙ fate_on u p a.sound l h eh head x k ek key stands (fate_from u us key before) t a.answer et;
   }
 
 -- `gone` is what was found before the record at p, which is one of those from us on
@@ -117,31 +117,31 @@ pub record Seeking (u : List ℕ) (us from key p : ℕ) (gone : Bool) : Type 0 w
 pub seeking_start : (u : List ℕ) (us from key r : ℕ) → Leads u us from → Next u key from r → Seeking u us from key r false
 seeking_start u us from key r l n = record { sound = n.sound; leads = next_leads l n; answer = sym (deleted_skip u key from r n.skips) }
 
-module _ (u : List ℕ) (us from key p : ℕ) (gone : Bool) (a : Seeking u us from key p gone) (l : p < length u) (h : Head) (eh : h ≡ stated_at u p)
-    (len base s b : ℕ) (x : h ≡ Good len base s b) where
-  pub seeking_leads : Leads u us (p + len)
+module _ (u : List ℕ) (us from key p : ℕ) (gone : Bool) (a : Seeking u us from key p gone) (l : p < length u) (h : Result Head Broken) (eh : h ≡ stated_at u p)
+    (head : Head) (x : h ≡ Ok head) where
+  pub seeking_leads : Leads u us (p + head.len)
   unfolding look_at
   seeking_leads =
-      let e : look_at u p ≡ At len (key_at u (p + base)) = rw (← eh, x) refl in
+      let e : look_at u p ≡ looked head.len (key_at u (p + head.shape.base)) = rw (← eh, x) refl in
       leads_then a.leads (over e here)
 
-  pub seeking_falls : (r : ℕ) → Next u key (p + len) r → length u - r < length u - p
+  pub seeking_falls : (r : ℕ) → Next u key (p + head.len) r → length u - r < length u - p
   seeking_falls r n =
-      let f = turn_falls u p a.sound l h eh len base s b x in
-      let g = next_up (turn_sound u p a.sound l h eh len base s b x) n in
+      let f = turn_falls u p a.sound l h eh head x in
+      let g = next_up (turn_sound u p a.sound l h eh head x) n in
       omega arith
 
-  module _ (k : ℕ) (ek : k ≡ key_at u (p + base)) (t : Bool)
-      (et : t ≡ either gone (both (eqb k key) (eqb (ruin_with key (fields_at (between u p (p + len)) (record { base = base; a = s; b = b }) 24)) 2))) where
-    so_far : either t (deleted_from u (p + len) key) ≡ deleted_from u from key
-    so_far = deleted_on u p a.sound l h eh len base s b x k ek key gone (deleted_from u from key) t a.answer et
+  module _ (k : ℕ) (ek : k ≡ key_at u (p + head.shape.base)) (t : Bool)
+      (et : t ≡ either gone (both (eqb k key) (eqb (ruin_with key (fields_at (between u p (p + head.len)) head.shape 24)) 2))) where
+    so_far : either t (deleted_from u (p + head.len) key) ≡ deleted_from u from key
+    so_far = deleted_on u p a.sound l h eh head x k ek key gone (deleted_from u from key) t a.answer et
 
     pub seeking_found : t ≡ true → true ≡ deleted_from u from key
     seeking_found y = rw y at so_far
 
-    pub seeking_more : (r : ℕ) → Next u key (p + len) r → Seeking u us from key r t
+    pub seeking_more : (r : ℕ) → Next u key (p + head.len) r → Seeking u us from key r t
     seeking_more r n = record {
       sound = n.sound;
       leads = next_leads seeking_leads n;
-      answer = ap (either t) (sym (deleted_skip u key (p + len) r n.skips)) ∙ so_far;
+      answer = ap (either t) (sym (deleted_skip u key (p + head.len) r n.skips)) ∙ so_far;
     }

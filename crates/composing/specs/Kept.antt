@@ -1,5 +1,5 @@
 -- A record in the workspace that can be written, and what is told of it as one of the result.
-use Rattle.std.specs.Prelude.{ℕ, ◌≤◌, ◌≡◌, Bool, List}
+use Rattle.std.specs.Prelude.{ℕ, ◌≤◌, ◌≡◌, Bool, List, Option}
 use Rattle.rules.specs.Record.{Rec}
 use Rattle.rules.specs.Written.{written_fields, written_length}
 use Rattle.sound.specs.Sound.{SoundRec}
@@ -7,7 +7,6 @@ use Rattle.version.specs.Held.{Held}
 use Rattle.version.specs.declared.Version.{Version}
 use Rattle.composing.specs.Emitted.{Emitted}
 use Rattle.composing.specs.Made.{MadeOf}
-use Rattle.composing.specs.declared.making.Made.{Made}
 
 -- there is such a record
 pub record Kept (d u w : List ℕ) (v : Version) : Type 0 where
@@ -24,5 +23,5 @@ unfoldable pub EmitsHeld : List ℕ → List ℕ → List ℕ → Version → �
 EmitsHeld d u w v to before n out = (r : Rec) → Held d u w v r → Emitted (written_fields r) to before n out
 
 -- the same, with what it names
-unfoldable pub MadeHeld : List ℕ → ℕ → List ℕ → ℕ → List ℕ → Bool → List ℕ → Version → ℕ → List ℕ → List ℕ → Made → Type 0
+unfoldable pub MadeHeld : List ℕ → ℕ → List ℕ → ℕ → List ℕ → Bool → List ℕ → Version → ℕ → List ℕ → List ℕ → Option ℕ → Type 0
 MadeHeld d ds u us flags sure w v to before out m = (r : Rec) → Held d u w v r → SoundRec r → MadeOf d ds u us flags sure r to before out m

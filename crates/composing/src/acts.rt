@@ -12,8 +12,7 @@ use keys::look::{key_at, kind_of};
 use records::grammar::ruin_byte;
 use skeleton::directory::Shape;
 use skeleton::file::stated_at;
-use skeleton::leader::Head;
-use skeleton::place::{Place, place_at};
+use skeleton::place::place_at;
 use sorting::index::{late, next};
 
 // RUIN of the update record r, which names the key.
@@ -22,13 +21,8 @@ pub fn ruin(r: &[u8], h: Shape, key: u64) -> u8
     ensures { result ≡ ruin_with key (fields_at r.now h 24) }
 {
     match place_at(r, h, 24) {
-        Place::At {
-            tag: _,
-            start,
-            end,
-            next: _,
-        } => ruin_byte(r, start, end, kind_of(key)),
-        Place::Done => 0,
+        Some(ident) => ruin_byte(r, ident.start, ident.end, kind_of(key)),
+        None => 0,
     }
 }
 
@@ -38,9 +32,10 @@ fn leaves(r: &[u8], h: Shape, found: u64, key: u64, before: bool) -> bool
     ensures { result ≡ pick (eqb found key) (not (eqb (ruin_with key (fields_at r.now h 24)) 2)) before }
 {
     if found == key {
-        return ruin(r, h, key) != 2;
+        ruin(r, h, key) != 2
+    } else {
+        before
     }
-    before
 }
 
 // Whether the update record r, which names `found`, deletes the key, or one before it did.
@@ -48,13 +43,7 @@ fn deletes(r: &[u8], h: Shape, found: u64, key: u64, before: bool) -> bool
     requires { Bounded h }
     ensures { result ≡ either before (both (eqb found key) (eqb (ruin_with key (fields_at r.now h 24)) 2)) }
 {
-    if before {
-        return true;
-    }
-    if found == key {
-        return ruin(r, h, key) == 2;
-    }
-    false
+    before || found == key && ruin(r, h, key) == 2
 }
 
 // Whether one of the update records from `from` on deletes the key, found by an index of those from us on.
@@ -65,19 +54,15 @@ pub fn deleted_from(u: &[u8], us: usize, index: &[u8], from: usize, key: u64) ->
     let mut p = next(u, us, index, from, key);
     let mut gone = false;
     while p < u.len() {
-        match stated_at(u, p) {
-            Head::Good { len, base, a, b } => {
-                let found = key_at(u, p + base);
-                gone = deletes(&u[p..p + len], Shape { base, a, b }, found, key, gone);
-                if gone {
-                    return true;
-                }
-                p = next(u, us, index, p + len, key);
-            }
-            Head::Refused(_) => {
-                return gone;
-            }
+        let Ok(head) = stated_at(u, p) else {
+            return gone;
+        };
+        let found = key_at(u, p + head.shape.base);
+        gone = deletes(&u[p..p + head.len], head.shape, found, key, gone);
+        if gone {
+            return true;
         }
+        p = next(u, us, index, p + head.len, key);
     }
     gone
 }
@@ -92,16 +77,12 @@ pub fn fate(u: &[u8], us: usize, index: &[u8], key: u64, before: bool) -> bool
     let mut p = next(u, us, index, from, key);
     let mut stands = before;
     while p < u.len() {
-        match stated_at(u, p) {
-            Head::Good { len, base, a, b } => {
-                let found = key_at(u, p + base);
-                stands = leaves(&u[p..p + len], Shape { base, a, b }, found, key, stands);
-                p = next(u, us, index, p + len, key);
-            }
-            Head::Refused(_) => {
-                return stands;
-            }
-        }
+        let Ok(head) = stated_at(u, p) else {
+            return stands;
+        };
+        let found = key_at(u, p + head.shape.base);
+        stands = leaves(&u[p..p + head.len], head.shape, found, key, stands);
+        p = next(u, us, index, p + head.len, key);
     }
     stands
 }

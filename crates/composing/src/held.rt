@@ -20,9 +20,10 @@ fn cell_key(d: &[u8], u: &[u8], c: &[u8], i: usize) -> u64
 {
     let at = u24_at(c, 7 * i);
     if c[7 * i + 3] == 0 {
-        return key_at(d, at);
+        key_at(d, at)
+    } else {
+        key_at(u, at)
     }
-    key_at(u, at)
 }
 
 // Those that the bodies of the first m cells name.
@@ -43,13 +44,11 @@ fn cells_stand(
     requires { Asks d.now ds t.now n map.now u.now us flags.now lim out.now × (7 * m ≤ length c.now) × (length c.now ≤ 16777216) }
     ensures { TellsCells d.now ds u.now us flags.now (bodies_of d.now u.now c.now m) result }
 {
-    let mut i = 0;
-    while i < m {
+    for i in 0..m {
         let key = cell_key(d, u, c, i);
         if !stands(d, ds, t, n, map, u, us, flags, out, lim, key) {
             return false;
         }
-        i += 1;
     }
     true
 }
@@ -95,16 +94,13 @@ fn version_stands(
     requires { Asks d.now ds t.now n map.now u.now us flags.now lim out.now × (400000 ≤ length work.now) × (7 * v.inas ≤ 92000) × (7 * v.spas ≤ 94000) }
     ensures { TellsHeld d.now ds u.now us flags.now work.now v result }
 {
-    let from = 200000;
-    let to = 292000;
-    let m = v.inas;
-    if !area_stands(d, ds, t, n, map, u, us, flags, out, lim, work, from, to, m) {
-        return false;
-    }
-    let from = 292000;
-    let to = 386000;
-    let m = v.spas;
-    area_stands(d, ds, t, n, map, u, us, flags, out, lim, work, from, to, m)
+    let inas = v.inas;
+    let spas = v.spas;
+    area_stands(
+        d, ds, t, n, map, u, us, flags, out, lim, work, 200000, 292000, inas,
+    ) && area_stands(
+        d, ds, t, n, map, u, us, flags, out, lim, work, 292000, 386000, spas,
+    )
 }
 
 // The same, where that is not known before.
@@ -125,8 +121,5 @@ pub fn version_passes(
     requires { Asks d.now ds t.now n map.now u.now us flags.now lim out.now × (400000 ≤ length work.now) × (7 * v.inas ≤ 92000) × (7 * v.spas ≤ 94000) }
     ensures { Surely lim.sure (TellsHeld d.now ds u.now us flags.now work.now v result) result }
 {
-    if lim.sure {
-        return true;
-    }
-    version_stands(d, ds, t, n, map, u, us, flags, out, lim, work, v)
+    lim.sure || version_stands(d, ds, t, n, map, u, us, flags, out, lim, work, v)
 }

@@ -15,25 +15,15 @@ use crate::naming::fields_stand;
 use skeleton::directory::Shape;
 use sorting::limits::Limits;
 
-// It names a record that does not stand (11); or where the next one begins.
-#[derive(Clone, Copy)]
-pub enum Made {
-    Loose,
-    Next(usize),
-}
-
 // Whether the records that the record r names stand, where that is not known before.
 fn passes(u: &[u8], us: usize, flags: &[u8], out: &[u8], lim: Limits, r: &[u8], h: Shape) -> bool
     requires { Noted u.now us lim out.now × (14000 ≤ length flags.now) × Bounded h × (length r.now ≤ 16777216) × (all_readable (fields_at r.now h 24) ≡ true) }
     ensures { Surely lim.sure (StaysAll u.now us flags.now (gather field_keys (fields_at r.now h 24)) result) result }
 {
-    if lim.sure {
-        return true;
-    }
-    fields_stand(u, us, flags, out, lim, r, h)
+    lim.sure || fields_stand(u, us, flags, out, lim, r, h)
 }
 
-// The record r of the dataset, which no update record names.
+// The record r of the dataset, which no update record names: where the next one begins; or none, since r names a record that does not stand (11).
 pub fn make_untouched(
     u: &[u8],
     us: usize,
@@ -43,13 +33,13 @@ pub fn make_untouched(
     out: &mut [u8],
     to: usize,
     lim: Limits,
-) -> Made
+) -> Option<usize>
     requires noted { Noted u.now us lim out.old × (14000 ≤ length flags.now) × Bounded h × (length r.now ≤ 16777216) × (all_readable (fields_at r.now h 24) ≡ true) }
-    requires to_bound { (to ≤ 4611686018427387904) × (written_length (in_house_form true (fields_at r.now h 24)) ≤ 99999) }
+    requires short { (to ≤ 4611686018427387904) × (written_length (in_house_form true (fields_at r.now h 24)) ≤ 99999) }
     ensures { CarriesTied u.now us flags.now lim.sure (fields_at r.now h 24) to out.old out.new result }
 {
     if !passes(u, us, flags, out, lim, r, h) {
-        return Made::Loose;
+        return None;
     }
-    Made::Next(carry(r, h, out, to))
+    Some(carry(r, h, out, to))
 }

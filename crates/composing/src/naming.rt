@@ -1,4 +1,4 @@
-// Whether the records that the associations of one record name, INAS (0x494e4153) and SPAS (0x53504153), stand in the end, where the dataset has them all.
+// Whether the records that the associations of one record name, INAS and SPAS, stand in the end, where the dataset has them all.
 ghost use Rattle.std.specs.Prelude.{◌≡◌, true, [], ◌∷◌, ◌≤◌, length};
 ghost use Rattle.base.specs.Lists.{gather};
 ghost use Rattle.fields.specs.Table.{head_of, tuple_of};
@@ -12,8 +12,9 @@ ghost use Rattle.composing.specs.Tied.{Noted, StaysAll};
 
 use crate::standing::stays;
 use keys::look::key_at;
+use rules::tags;
 use skeleton::directory::Shape;
-use skeleton::place::{Place, place_at};
+use skeleton::place::place_at;
 use sorting::limits::Limits;
 
 // The record that the INAS b names.
@@ -31,6 +32,7 @@ fn spas_stand(u: &[u8], us: usize, flags: &[u8], out: &[u8], lim: Limits, b: &[u
     ensures { StaysAll u.now us flags.now (spas_keys b.now) result }
 {
     let mut at = 0;
+    // A `while`: each key is the front of a tuple of 15 bytes, and is read where it stands.
     while at < b.len() {
         let key = key_at(b, at);
         if !stays(u, us, flags, out, lim, key) {
@@ -54,10 +56,10 @@ fn field_stands(
     requires { Noted u.now us lim out.now × (14000 ≤ length flags.now) × (length b.now ≤ 16777216) × (readable (record { tag = tag; body = b.now }) ≡ true) }
     ensures { StaysAll u.now us flags.now (field_keys (record { tag = tag; body = b.now })) result }
 {
-    if tag == 0x494e4153 {
+    if tag == tags::INAS {
         return inas_stands(u, us, flags, out, lim, b);
     }
-    if tag == 0x53504153 {
+    if tag == tags::SPAS {
         return spas_stand(u, us, flags, out, lim, b);
     }
     true
@@ -77,22 +79,12 @@ pub fn fields_stand(
     ensures { StaysAll u.now us flags.now (gather field_keys (fields_at r.now h 24)) result }
 {
     let mut q = 24;
-    loop {
-        match place_at(r, h, q) {
-            Place::At {
-                tag,
-                start,
-                end,
-                next,
-            } => {
-                if !field_stands(u, us, flags, out, lim, tag, &r[start..end]) {
-                    return false;
-                }
-                q = next;
-            }
-            Place::Done => {
-                return true;
-            }
+    while let Some(field) = place_at(r, h, q) {
+        let b = &r[field.start..field.end];
+        if !field_stands(u, us, flags, out, lim, field.tag, b) {
+            return false;
         }
+        q = field.next;
     }
+    true
 }

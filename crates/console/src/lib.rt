@@ -17,7 +17,6 @@ use cable::taking::take;
 use cable::telling::tell;
 use display::{Chart, Shown, begin, hand};
 use fieldwise::file::field_of_record;
-use fieldwise::numbered::Found;
 use month::month;
 use parcels::Reply;
 use reader::read;
@@ -65,10 +64,7 @@ fn put_three(a: usize, b: usize, c: usize, out: &mut [u64])
 fn place_of(second: bool) -> usize
     ensures { result ≡ pick second 1 0 }
 {
-    if second {
-        return 1;
-    }
-    0
+    if second { 1 } else { 0 }
 }
 
 // The place of a chart and its length there go into the first two places of `out`. A shorter slice is left as it is.
@@ -141,11 +137,11 @@ pub extern "C" fn ezdurvash_field(file: &[u8], m: usize, n: usize, field: &mut [
     ensures { SaysField file.now m n field.old result field.new }
 {
     match field_of_record(file, m, n) {
-        Found::Field { tag, start, end } => {
-            put_three(tag as usize, start, end, field);
+        Some(found) => {
+            put_three(found.tag as usize, found.start, found.end, field);
             1
         }
-        Found::Nothing => 0,
+        None => 0,
     }
 }
 
@@ -195,10 +191,7 @@ pub extern "C" fn ezdurvash_hand(
 fn pool_number(second: bool) -> usize
     ensures { result ≡ pick second 2 1 }
 {
-    if second {
-        return 2;
-    }
-    1
+    if second { 2 } else { 1 }
 }
 
 // A month of updates: the files of a list, each preceded by its length in four bytes, are applied one by one to the dataset of `size` bytes in the

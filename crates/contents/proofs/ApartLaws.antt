@@ -8,12 +8,12 @@ use borrow.Author.Tests.{eq-eqb, ltb-true, ltb-false, le-leb, not-true}
 use lib.ListN.{length, get_or, take, drop, length-drop}
 use lib.Seq.{drop-cons, drop-drop}
 use lib.Dec.{eqb, ltb, leb}
+use Rattle.std.specs.Prelude.{Option, Some, None, Ok}
 use Rattle.base.specs.Choice.{pick, either}
 use Rattle.base.specs.Check.{no, fault, pass}
 use Rattle.base.specs.Keys.{same, among}
 use Rattle.base.specs.Lists.{each, gather}
 use Rattle.base.specs.Verdict.{verdict_of}
-use Rattle.base.specs.declared.Verdict.TheVariants.{Passed as Passes}
 use Rattle.base.proofs.ChoiceLaws.{either_true}
 use Rattle.base.proofs.KeysLaws.{same_sound}
 use Rattle.base.proofs.ListLaws.{each_append}
@@ -32,8 +32,6 @@ use Rattle.contents.specs.Fit.{all_fit}
 use Rattle.contents.specs.Keys.{keys_in, once_from}
 use Rattle.contents.specs.Codes.{code_of, codes_in, walk_from, codes_from, Apart, Walks, Behind, Steps, Gathers, Joins}
 use Rattle.contents.specs.declared.codes.Walk.{Walk}
-use Rattle.contents.specs.declared.codes.Step.{Step}
-use Rattle.contents.specs.declared.codes.Step.TheVariants.{Next, Over}
 use Rattle.contents.specs.declared.once.Gathered.{Gathered}
 use Rattle.contents.proofs.CodeLaws.{from_codes, from_walks}
 
@@ -102,7 +100,7 @@ module _ (l : List ℕ) (m : ℕ) (a : Apart l m) (all : length l ≤ m) where
           absurd (true≢false (sym (c k.key h) ∙ rw (code_is l n n (code_of k.key) _ e) at f))
       go false h later = later
 
-pub apart_once : (r : List ℕ) (h : Shape) (p m : ℕ) → Apart (codes_in (fields_at r h p)) m → length (codes_in (fields_at r h p)) ≤ m → once_from r h p 0 ≡ Passes
+pub apart_once : (r : List ℕ) (h : Shape) (p m : ℕ) → Apart (codes_in (fields_at r h p)) m → length (codes_in (fields_at r h p)) ≤ m → once_from r h p 0 ≡ Ok tt
 unfolding once_from verdict_of codes_in keys_in gather among
 apart_once r h p m a all =
     let s = once (codes_in (fields_at r h p)) m a all (marks 2 (fields_at r h p)) [] 0 (ap (each code_of) (sym (marked 2 (fields_at r h p)))) (λ k e. absurd (true≢false (sym e))) in
@@ -114,8 +112,8 @@ module _ (r : List ℕ) (h : Shape) (w v : Walk) (k : ℕ) (rest : codes_from r 
   pub gather_full : Walks r h v → (n room : ℕ) → n ≡ room → k ≤ room → n ≤ k → 0 < room → Gathers r h w room (record { count = k; on = v })
   gather_full s n room z l g o = record { walks = s; rest = rest; few = l; some = λ y. absurd (omega arith) }
 
-  module _ (e : Step) (s : Steps r h v e) where
-    pub gather_over : Walks r h v → e ≡ Over → (room : ℕ) → k ≤ room → Gathers r h w room (record { count = k; on = v })
+  module _ (e : Option (ℕ × Walk)) (s : Steps r h v e) where
+    pub gather_over : Walks r h v → e ≡ None → (room : ℕ) → k ≤ room → Gathers r h w room (record { count = k; on = v })
     gather_over g x room l = record {
       walks = g;
       rest = rest;
@@ -123,7 +121,7 @@ module _ (r : List ℕ) (h : Shape) (w v : Walk) (k : ℕ) (rest : codes_from r 
       some = λ z. ap (λ (i : ℕ). drop i (codes_from r h w)) (sym z) ∙ sym rest ∙ (rw x at s);
     }
 
-    module _ (code : ℕ) (on : Walk) (x : e ≡ Next code on) where
+    module _ (code : ℕ) (on : Walk) (x : e ≡ Some (code, on)) where
       pub gather_walks : Walks r h on
       gather_walks = (rw x at s).1
 
@@ -154,7 +152,7 @@ behind_none r h p w e f = rw e (record { walks = from_walks r h p f; rest = sym 
 pub hold_clear : (b l t : List ℕ) (n : ℕ) → t ≡ zeros n → Met b (take 0 l) t
 hold_clear b l t n e = rw e (met_none b n)
 
-module _ (r : List ℕ) (h : Shape) (p y : ℕ) (w : Walk) (g : Behind r h p y w) (e : Step) (s : Steps r h w e) (code : ℕ) (on : Walk) (x : e ≡ Next code on) where
+module _ (r : List ℕ) (h : Shape) (p y : ℕ) (w : Walk) (g : Behind r h p y w) (e : Option (ℕ × Walk)) (s : Steps r h w e) (code : ℕ) (on : Walk) (x : e ≡ Some (code, on)) where
   abbrev l : List ℕ
   l = codes_in (fields_at r h p)
 
@@ -175,16 +173,12 @@ module _ (r : List ℕ) (h : Shape) (p y : ℕ) (w : Walk) (g : Behind r h p y w
     hold_apart from en af ay =
         apart_more l from y code (codes_from r h on) next af ay (λ g. joined.fresh (en ∙ le-leb from y g) (take y l) ms)
 
-pub hold_end : (l : List ℕ) (y e : ℕ) → Apart l y → e ≤ y → Apart l e
-unfolding Apart
-hold_end l y e a g i h = a i (omega arith)
-
 pub ruleset hold_turn = (behind_none, behind_more, hold_clear, apart_none, arith)
 
 -- ---- `all_once`
 
 module _ (r : List ℕ) (h : Shape) (p x : ℕ) (w : Walk) (b : Behind r h p x w) (room : ℕ) (g : Gathered) (k : Gathers r h w room g) where
-  pub all_over : Apart (codes_in (fields_at r h p)) x → g.count ≡ 0 → once_from r h p 0 ≡ Passes
+  pub all_over : Apart (codes_in (fields_at r h p)) x → g.count ≡ 0 → once_from r h p 0 ≡ Ok tt
   all_over a z =
       let l = codes_in (fields_at r h p) in
       apart_once r h p x a (omega (arith, length-drop x l, ap length (b.rest ∙ k.some z)))

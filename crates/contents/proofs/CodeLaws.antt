@@ -6,6 +6,7 @@ use Prim.Native.Nat.{ℕ, ◌+◌, ◌-◌, ◌*◌, ◌^◌, ◌≤◌, ◌<◌
 use native.Mathlib.Omega.{arith}
 use borrow.Author.Tests.{eq-eqb, ne_eqb}
 use lib.ListN.{length, drop, length-take, length-drop}
+use Rattle.std.specs.Prelude.{Option, Some, None}
 use Rattle.base.specs.Lists.{each, gather}
 use Rattle.base.specs.Walk.{Got}
 use Rattle.base.proofs.ListLaws.{each_append}
@@ -20,7 +21,6 @@ use Rattle.skeleton.specs.File.{Field}
 use Rattle.skeleton.specs.Place.{between, place_at, fields_at}
 use Rattle.skeleton.specs.declared.directory.Shape.{Shape}
 use Rattle.skeleton.specs.declared.place.Place.{Place}
-use Rattle.skeleton.specs.declared.place.Place.TheVariants.{At, Done}
 use Rattle.skeleton.proofs.BetweenLaws.{length_between}
 use Rattle.skeleton.proofs.PlaceLaws.{fields_more, fields_done, place_falls, place_runs, place_in_lem}
 use Rattle.rules.specs.Content.{inas_format}
@@ -34,8 +34,6 @@ use Rattle.contents.proofs.FitLaws.{fit_here, fit_next}
 use Rattle.contents.proofs.SpatialLaws.{spas_ends, spas_next, spas_more}
 use Rattle.contents.specs.Codes.{code_of, codes_in, walk_from, codes_from, Walks, Steps}
 use Rattle.contents.specs.declared.codes.Walk.{Walk}
-use Rattle.contents.specs.declared.codes.Step.{Step}
-use Rattle.contents.specs.declared.codes.Step.TheVariants.{Next, Over}
 
 -- ---- the code of a key
 
@@ -86,7 +84,7 @@ module _ (r : List ℕ) (h : Shape) (w : Walk) (k : Walks r h w) where
         omega arith
 
     pub tuple_steps : (c : ℕ) → c ≡ code_of (le 1 (drop w.at body) ∷ le 4 (drop (w.at + 1) body) ∷ [])
-        → Steps r h w (Next c (record { next = w.next; start = w.start; end = w.end; at = w.at + 15 }))
+        → Steps r h w (Some (c, record { next = w.next; start = w.start; end = w.end; at = w.at + 15 }))
     unfolding codes_from each
     tuple_steps c ec = (
       rw (spas_more body w.at k.even inside, ec) refl,
@@ -116,72 +114,72 @@ from_walks r h p f = record {
 }
 
 -- the same codes are before it
-pub steps_same : (r : List ℕ) (h : Shape) (v w : Walk) → codes_from r h v ≡ codes_from r h w → (e : Step) → Steps r h v e → Steps r h w e
-steps_same r h v w s (Next code on) k = (sym s ∙ k.0, k.1)
-steps_same r h v w s Over k = sym s ∙ k
+pub steps_same : (r : List ℕ) (h : Shape) (v w : Walk) → codes_from r h v ≡ codes_from r h w → (e : Option (ℕ × Walk)) → Steps r h v e → Steps r h w e
+steps_same r h v w s (Some a) k = (sym s ∙ k.0, k.1)
+steps_same r h v w s None k = sym s ∙ k
 
-module _ (r : List ℕ) (h : Shape) (p q : ℕ) (inv : codes_in (fields_at r h p) ≡ codes_in (fields_at r h q)) (e : Place) (en : e ≡ place_at r h q) where
-  pub first_done : e ≡ Done → Steps r h (walk_from p) Over
+module _ (r : List ℕ) (h : Shape) (p q : ℕ) (inv : codes_in (fields_at r h p) ≡ codes_in (fields_at r h q)) (e : Option Place) (en : e ≡ place_at r h q) where
+  pub first_done : e ≡ None → Steps r h (walk_from p) None
   unfolding codes_in keys_in gather each
   first_done x = from_codes r h p ∙ inv ∙ rw (fields_done r h q e en x) refl
 
-  module _ (tag start end next : ℕ) (x : e ≡ At tag start end next) where
+  module _ (d : Place) (x : e ≡ Some d) where
     abbrev field : Field
-    field = record { tag = tag; body = between r start end }
+    field = record { tag = d.tag; body = between r d.start d.end }
 
-    parted : codes_in (fields_at r h p) ≡ each code_of (field_keys field) ++ codes_in (fields_at r h next)
+    parted : codes_in (fields_at r h p) ≡ each code_of (field_keys field) ++ codes_in (fields_at r h d.next)
     unfolding codes_in keys_in gather
-    parted = inv ∙ rw (fields_more r h q e en tag start end next x) (each_append code_of (field_keys field) (gather field_keys (fields_at r h next)))
+    parted = inv ∙ rw (fields_more r h q e en d x) (each_append code_of (field_keys field) (gather field_keys (fields_at r h d.next)))
 
-    pub first_inas : all_fit false (fields_at r h q) ≡ true → tag ≡ 0x494e4153 → (c : ℕ) → c ≡ code_of (inas_key (between r start end)) → (on : Walk) → on ≡ walk_from next
-        → Steps r h (walk_from p) (Next c on)
+    pub first_inas : all_fit false (fields_at r h q) ≡ true → d.tag ≡ 0x494e4153 → (c : ℕ) → c ≡ code_of (inas_key (between r d.start d.end)) → (on : Walk) → on ≡ walk_from d.next
+        → Steps r h (walk_from p) (Some (c, on))
     unfolding field_keys each
     first_inas f t c ec on eo =
-        let s : each code_of (field_keys field) ≡ code_of (inas_key (between r start end)) ∷ [] = simp (eq-eqb tag 0x494e4153 t) in
+        let s : each code_of (field_keys field) ≡ code_of (inas_key (between r d.start d.end)) ∷ [] = simp (eq-eqb d.tag 0x494e4153 t) in
         rw (eo, ec) (
-          from_codes r h p ∙ parted ∙ rw (s, from_codes r h next) refl,
-          from_walks r h next (fit_next r h q e en tag start end next x false f),
+          from_codes r h p ∙ parted ∙ rw (s, from_codes r h d.next) refl,
+          from_walks r h d.next (fit_next r h q e en d x false f),
         )
 
-    module _ (t : tag ≡ 0x53504153) where
-      at_spas : each code_of (field_keys field) ≡ each code_of (spas_keys (between r start end))
+    module _ (t : d.tag ≡ 0x53504153) where
+      at_spas : each code_of (field_keys field) ≡ each code_of (spas_keys (between r d.start d.end))
       unfolding field_keys
-      at_spas = let n : tag ≡ 0x494e4153 → ⊥ = λ z. omega arith in simp (ne_eqb tag 0x494e4153 n, eq-eqb tag 0x53504153 t)
+      at_spas = let n : d.tag ≡ 0x494e4153 → ⊥ = λ z. omega arith in simp (ne_eqb d.tag 0x494e4153 n, eq-eqb d.tag 0x53504153 t)
 
-      pub first_walks : all_fit false (fields_at r h q) ≡ true → Walks r h (record { next = next; start = start; end = end; at = 0 })
+      pub first_walks : all_fit false (fields_at r h q) ≡ true → Walks r h (record { next = d.next; start = d.start; end = d.end; at = 0 })
       first_walks f = record {
-        fit = fit_next r h q e en tag start end next x false f;
-        even = spas_ends (between r start end) (spas_filled (between r start end) tag (fit_here r h q e en tag start end next x false f) t);
-        runs = place_runs r h q e en tag start end next x;
-        inside = place_in_lem r h q e en tag start end next x;
+        fit = fit_next r h q e en d x false f;
+        even = spas_ends (between r d.start d.end) (spas_filled (between r d.start d.end) d.tag (fit_here r h q e en d x false f) t);
+        runs = place_runs r h q e en d x;
+        inside = place_in_lem r h q e en d x;
       }
 
-      pub first_tuple : (s : Step) → Steps r h (record { next = next; start = start; end = end; at = 0 }) s → Steps r h (walk_from p) s
+      pub first_tuple : (s : Option (ℕ × Walk)) → Steps r h (record { next = d.next; start = d.start; end = d.end; at = 0 }) s → Steps r h (walk_from p) s
       unfolding codes_from
       first_tuple s k =
-          steps_same r h (record { next = next; start = start; end = end; at = 0 }) (walk_from p)
+          steps_same r h (record { next = d.next; start = d.start; end = d.end; at = 0 }) (walk_from p)
           (sym (from_codes r h p ∙ parted ∙ rw at_spas refl)) s k
 
-      pub first_empty : end ≤ start → codes_in (fields_at r h p) ≡ codes_in (fields_at r h next)
+      pub first_empty : d.end ≤ d.start → codes_in (fields_at r h p) ≡ codes_in (fields_at r h d.next)
       unfolding each
       first_empty l =
-          parted ∙ rw (at_spas, no_keys (between r start end) 0 (simp (length-take, length-drop) (omega arith))) refl
+          parted ∙ rw (at_spas, no_keys (between r d.start d.end) 0 (simp (length-take, length-drop) (omega arith))) refl
 
-    pub first_other : (tag ≡ 0x494e4153 → ⊥) → (tag ≡ 0x53504153 → ⊥) → codes_in (fields_at r h p) ≡ codes_in (fields_at r h next)
+    pub first_other : (d.tag ≡ 0x494e4153 → ⊥) → (d.tag ≡ 0x53504153 → ⊥) → codes_in (fields_at r h p) ≡ codes_in (fields_at r h d.next)
     unfolding field_keys each
-    first_other n m = parted ∙ simp (ne_eqb tag 0x494e4153 n, ne_eqb tag 0x53504153 m)
+    first_other n m = parted ∙ simp (ne_eqb d.tag 0x494e4153 n, ne_eqb d.tag 0x53504153 m)
 
 -- the field at q is an INAS that has its format
-pub inas_here : (r : List ℕ) (h : Shape) (q : ℕ) (e : Place) → e ≡ place_at r h q → (tag start end next : ℕ) → e ≡ At tag start end next
-    → all_fit false (fields_at r h q) ≡ true → tag ≡ 0x494e4153
-    → fill (head_of (inas_format false (between r start end))) (tuple_of (inas_format false (between r start end))) (between r start end) ≡ true
-inas_here r h q e en tag start end next x f t = inas_filled (between r start end) tag (fit_here r h q e en tag start end next x false f) t
+pub inas_here : (r : List ℕ) (h : Shape) (q : ℕ) (e : Option Place) → e ≡ place_at r h q → (d : Place) → e ≡ Some d
+    → all_fit false (fields_at r h q) ≡ true → d.tag ≡ 0x494e4153
+    → fill (head_of (inas_format false (between r d.start d.end))) (tuple_of (inas_format false (between r d.start d.end))) (between r d.start d.end) ≡ true
+inas_here r h q e en d x f t = inas_filled (between r d.start d.end) d.tag (fit_here r h q e en d x false f) t
 
 pub ruleset first_turn = (first_done, first_inas, first_walks, first_tuple, first_empty, first_other, inas_here, fit_next, place_falls, place_runs, place_in_lem, arith)
 
 -- ---- one step
 
-pub advance_first : (r : List ℕ) (h : Shape) (w : Walk) → Walks r h w → w.end - w.start ≤ w.at → (e : Step) → Steps r h (walk_from w.next) e → Steps r h w e
+pub advance_first : (r : List ℕ) (h : Shape) (w : Walk) → Walks r h w → w.end - w.start ≤ w.at → (e : Option (ℕ × Walk)) → Steps r h (walk_from w.next) e → Steps r h w e
 advance_first r h w k l e s = steps_same r h (walk_from w.next) w (from_codes r h w.next ∙ sym (past_tuples r h w k l)) e s
 
 pub ruleset advance_ways = (advance_first, arith)

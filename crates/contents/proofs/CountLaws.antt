@@ -8,11 +8,12 @@ use native.Mathlib.Omega.{arith}
 use borrow.Author.Tests.{eq-eqb, ne_eqb, eqb-true, eqb-false}
 use lib.Dec.{eqb}
 use lib.ListN.{length, drop, length-append}
+use Rattle.std.specs.Prelude.{Option, Some, None, Result, Ok, Err}
 use Rattle.base.specs.Choice.{pick, both, either}
 use Rattle.base.specs.Lists.{each, gather}
+use Rattle.base.specs.Check.{fault}
 use Rattle.base.specs.Verdict.{verdict_of}
-use Rattle.base.specs.declared.Verdict.{Verdict}
-use Rattle.base.specs.declared.Verdict.TheVariants.{Passed, Refused}
+use Rattle.base.specs.declared.Fault.{Fault}
 use Rattle.fields.specs.Bytes.{le}
 use Rattle.fields.specs.Table.{head_of, tuple_of}
 use Rattle.fields.specs.Content.{fill}
@@ -22,7 +23,6 @@ use Rattle.skeleton.specs.File.{Field}
 use Rattle.skeleton.specs.Place.{between, place_at, fields_at}
 use Rattle.skeleton.specs.declared.directory.Shape.{Shape}
 use Rattle.skeleton.specs.declared.place.Place.{Place}
-use Rattle.skeleton.specs.declared.place.Place.TheVariants.{At, Done}
 use Rattle.skeleton.proofs.PlaceLaws.{fields_more, fields_done, place_in_lem}
 use Rattle.skeleton.proofs.BetweenLaws.{length_between}
 use Rattle.rules.specs.Tags.{COCC, C2IL}
@@ -60,25 +60,25 @@ take_off a b c h = go (eqb (a - b) c) refl
     go true e = let z : a - b ≡ c = eqb-true (a - b) c e in e ∙ sym (eq-eqb a (b + c) (omega arith))
     go false e = let z : a - b ≡ c → ⊥ = eqb-false (a - b) c e in e ∙ sym (ne_eqb a (b + c) (λ y. z (omega arith)))
 
-module _ (r : List ℕ) (h : Shape) (q left : ℕ) (B : Bool) (inv : send_from r h q left ≡ B) (e : Place) (en : e ≡ place_at r h q) where
-  pub send_done : e ≡ Done → eqb left 0 ≡ B
+module _ (r : List ℕ) (h : Shape) (q left : ℕ) (B : Bool) (inv : send_from r h q left ≡ B) (e : Option Place) (en : e ≡ place_at r h q) where
+  pub send_done : e ≡ None → eqb left 0 ≡ B
   unfolding send_from sent bodies with_tag gather each
   send_done x = rw (fields_done r h q e en x) at inv
 
-  module _ (tag start end next : ℕ) (x : e ≡ At tag start end next) (here : ℕ) (eh : here ≡ sent_in tag (end - start)) where
-    turn : eqb left (here + length (sent (fields_at r h next))) ≡ B
+  module _ (d : Place) (x : e ≡ Some d) (here : ℕ) (eh : here ≡ sent_in d.tag (d.end - d.start)) where
+    turn : eqb left (here + length (sent (fields_at r h d.next))) ≡ B
     unfolding send_from
     turn =
-        let l = length_between r start end (place_in_lem r h q e en tag start end next x) in
-        let m = sent_more (record { tag = tag; body = between r start end }) (fields_at r h next) in
-        rw (eh, ← l, ← m) (rw (fields_more r h q e en tag start end next x) at inv)
+        let l = length_between r d.start d.end (place_in_lem r h q e en d x) in
+        let m = sent_more (record { tag = d.tag; body = between r d.start d.end }) (fields_at r h d.next) in
+        rw (eh, ← l, ← m) (rw (fields_more r h q e en d x) at inv)
 
     pub send_over : left < here → false ≡ B
-    send_over l = sym (less_some left here (length (sent (fields_at r h next))) l) ∙ turn
+    send_over l = sym (less_some left here (length (sent (fields_at r h d.next))) l) ∙ turn
 
-    pub send_more : here ≤ left → send_from r h next (left - here) ≡ B
+    pub send_more : here ≤ left → send_from r h d.next (left - here) ≡ B
     unfolding send_from
-    send_more l = take_off left here (length (sent (fields_at r h next))) l ∙ turn
+    send_more l = take_off left here (length (sent (fields_at r h d.next))) l ∙ turn
 
 pub ruleset send_turn = (send_done, send_over, send_more, step_bounds)
 
@@ -108,7 +108,7 @@ module _ (r : List ℕ) (h : Shape) (p tag : ℕ) (b : List ℕ) where
     cocc_fill = rw (cocc_is z) at f
       where
         cocc_is : tag ≡ 0x434f4343 → format_of false tag b ≡ Cocc
-        cocc_is e = sym (of_cocc false tag b (λ y. omega arith) (λ y. omega arith) (λ y. omega arith) (λ y. omega arith) e)
+        cocc_is e = sym (of_cocc false tag b e)
 
     -- its five bytes are there
     pub cocc_first : 0 + 1 ≤ length b
@@ -138,30 +138,30 @@ pub ruleset miscount_ways = (miscount_other, cocc_first, cocc_last, miscount_del
 
 -- ---- the loop over the fields: at place q, field i, where the whole comes to A
 
-module _ (r : List ℕ) (h : Shape) (p q i : ℕ) (A : Verdict) (inv : counted_from r h p q i ≡ A) (e : Place) (en : e ≡ place_at r h q) where
-  pub counted_done : e ≡ Done → Passed ≡ A
+module _ (r : List ℕ) (h : Shape) (p q i : ℕ) (A : Result (Unit {0}) Fault) (inv : counted_from r h p q i ≡ A) (e : Option Place) (en : e ≡ place_at r h q) where
+  pub counted_done : e ≡ None → Ok tt ≡ A
   unfolding counted_from counted verdict_of
   counted_done x = rw (fields_done r h q e en x) at inv
 
-  module _ (tag start end next : ℕ) (x : e ≡ At tag start end next) (t : Bool)
-      (et : t ≡ both (eqb tag COCC) (miscounts (length (sent (fields_at r h p))) (place_in (between r start end)))) where
-    pub counted_wrong : t ≡ true → Refused 5 i 0 ≡ A
+  module _ (d : Place) (x : e ≡ Some d) (t : Bool)
+      (et : t ≡ both (eqb d.tag COCC) (miscounts (length (sent (fields_at r h p))) (place_in (between r d.start d.end)))) where
+    pub counted_wrong : t ≡ true → Err (fault 5 i 0) ≡ A
     unfolding counted_from counted verdict_of
-    counted_wrong z = simp (← et, z) at (rw (fields_more r h q e en tag start end next x) at inv)
+    counted_wrong z = simp (← et, z) at (rw (fields_more r h q e en d x) at inv)
 
-    pub counted_more : t ≡ false → counted_from r h p next (i + 1) ≡ A
+    pub counted_more : t ≡ false → counted_from r h p d.next (i + 1) ≡ A
     unfolding counted_from counted
-    counted_more z = simp (← et, z) at (rw (fields_more r h q e en tag start end next x) at inv)
+    counted_more z = simp (← et, z) at (rw (fields_more r h q e en d x) at inv)
 
 pub ruleset counted_turn = (counted_done, counted_wrong, counted_more, fit_here, fit_next, step_bounds)
 
 -- ---- COCC noticed on the way: at place q, field i
 
-pub cocc_more : (r : List ℕ) (h : Shape) (p q i : ℕ) (e : Place) → e ≡ place_at r h q → (tag start end next : ℕ) → e ≡ At tag start end next → (c : Bool)
-    → since c (counted_from r h p p 2) (counted_from r h p q i) ≡ counted_from r h p p 2 → (d : Bool) → d ≡ either c (eqb tag COCC)
-    → since d (counted_from r h p p 2) (counted_from r h p next (i + 1)) ≡ counted_from r h p p 2
-cocc_more r h p q i e en tag start end next x c k d ed =
+pub cocc_more : (r : List ℕ) (h : Shape) (p q i : ℕ) (e : Option Place) → e ≡ place_at r h q → (u : Place) → e ≡ Some u → (c : Bool)
+    → since c (counted_from r h p p 2) (counted_from r h p q i) ≡ counted_from r h p p 2 → (d : Bool) → d ≡ either c (eqb u.tag COCC)
+    → since d (counted_from r h p p 2) (counted_from r h p u.next (i + 1)) ≡ counted_from r h p p 2
+cocc_more r h p q i e en u x c k d ed =
     let whole = counted_from r h p p 2 in
-    let turn : eqb tag COCC ≡ false → counted_from r h p q i ≡ whole → counted_from r h p next (i + 1) ≡ whole
-    = λ z inv. counted_more r h p q i whole inv e en tag start end next x false (simp z) refl in
-    rw ed (since_by whole (counted_from r h p q i) (counted_from r h p next (i + 1)) (eqb tag COCC) turn c k)
+    let turn : eqb u.tag COCC ≡ false → counted_from r h p q i ≡ whole → counted_from r h p u.next (i + 1) ≡ whole
+    = λ z inv. counted_more r h p q i whole inv e en u x false (simp z) refl in
+    rw ed (since_by whole (counted_from r h p q i) (counted_from r h p u.next (i + 1)) (eqb u.tag COCC) turn c k)

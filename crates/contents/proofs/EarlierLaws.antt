@@ -8,6 +8,7 @@ use borrow.Author.Tests.{eq-eqb, ne_eqb}
 use lib.Dec.{eqb}
 use lib.ListN.{length, get_or, take, drop}
 use lib.Seq.{take-nil}
+use Rattle.std.specs.Prelude.{Option, Some, None}
 use Rattle.base.specs.Choice.{pick, both, either}
 use Rattle.base.specs.Keys.{same, among}
 use Rattle.base.specs.Lists.{each, gather}
@@ -22,7 +23,6 @@ use Rattle.fields.proofs.ValueLaws.{is_number, lies, head_number}
 use Rattle.skeleton.specs.Place.{between, place_at, fields_at}
 use Rattle.skeleton.specs.declared.directory.Shape.{Shape}
 use Rattle.skeleton.specs.declared.place.Place.{Place}
-use Rattle.skeleton.specs.declared.place.Place.TheVariants.{At, Done}
 use Rattle.skeleton.proofs.PlaceLaws.{fields_more, fields_done}
 use Rattle.rules.specs.Tags.{INAS, SPAS}
 use Rattle.rules.specs.Content.{inas_format, format_of}
@@ -143,7 +143,7 @@ module _ (b : List ℕ) (tag : ℕ) (f : fits false (record { tag = tag; body = 
 
 module _ (b : List ℕ) (tag : ℕ) (key : Key) (f : fits false (record { tag = tag; body = b }) ≡ true) where
   module _ (x y z w : ℕ) (ek : key ≡ Information x y z w) where
-    pub other_inas : (tag ≡ 0x494e4153 → ⊥) → false ≡ among (list_of key) (field_keys (record { tag = tag; body = b }))
+    pub other_inas : (tag ≡ 0x494e4153 → ⊥) → eqb tag 0x494e4153 ≡ among (list_of key) (field_keys (record { tag = tag; body = b }))
     unfolding field_keys spas_keys among
     other_inas n = rw ek (simp (ne_eqb tag 0x494e4153 n) (go (eqb tag SPAS)))
       where
@@ -156,7 +156,7 @@ module _ (b : List ℕ) (tag : ℕ) (key : Key) (f : fits false (record { tag = 
     inas_has e t et = rw ek (simp (eq-eqb tag 0x494e4153 e, either_false) et)
 
   module _ (x y : ℕ) (ek : key ≡ Spatial x y) where
-    pub other_spas : (tag ≡ 0x53504153 → ⊥) → false ≡ among (list_of key) (field_keys (record { tag = tag; body = b }))
+    pub other_spas : (tag ≡ 0x53504153 → ⊥) → eqb tag 0x53504153 ≡ among (list_of key) (field_keys (record { tag = tag; body = b }))
     unfolding field_keys among
     other_spas n = rw ek (simp (ne_eqb tag 0x53504153 n) (go (eqb tag INAS)))
       where
@@ -172,33 +172,33 @@ module _ (b : List ℕ) (tag : ℕ) (key : Key) (f : fits false (record { tag = 
 
 pub ruleset field_has_ways = (inas_filled, spas_filled, other_inas, inas_has, other_spas, spas_has, spas_fits)
 
--- ---- the loop over n fields: at place q, so many left, where the whole comes to A
+-- ---- the loop over n fields: at place q, behind i of them, where the whole comes to A
 
-module _ (r : List ℕ) (h : Shape) (q left : ℕ) (k : List ℕ) (A : Bool) (inv : seen_from r h q left k ≡ A) where
-  pub seen_none : left ≤ 0 → false ≡ A
+module _ (r : List ℕ) (h : Shape) (q n i : ℕ) (k : List ℕ) (A : Bool) (inv : seen_from r h q (n - i) k ≡ A) where
+  pub seen_none : n ≤ i → false ≡ A
   unfolding seen_from keys_in gather among
-  seen_none l = let z : left ≡ 0 = omega arith in rw z at inv
+  seen_none l = let z : n - i ≡ 0 = omega arith in rw z at inv
 
-  module _ (l : 0 < left) (e : Place) (en : e ≡ place_at r h q) where
-    pub seen_done : e ≡ Done → false ≡ A
+  module _ (l : i < n) (e : Option Place) (en : e ≡ place_at r h q) where
+    pub seen_done : e ≡ None → false ≡ A
     unfolding seen_from keys_in gather among
-    seen_done x = rw (fields_done r h q e en x, take-nil left) at inv
+    seen_done x = rw (fields_done r h q e en x, take-nil (n - i)) at inv
 
-    module _ (tag start end next : ℕ) (x : e ≡ At tag start end next) where
-      one_more : (n : ℕ) → seen_from r h q (suc n) k ≡ either (among k (field_keys (record { tag = tag; body = between r start end }))) (seen_from r h next n k)
+    module _ (d : Place) (x : e ≡ Some d) where
+      one_more : (m : ℕ) → seen_from r h q (suc m) k ≡ either (among k (field_keys (record { tag = d.tag; body = between r d.start d.end }))) (seen_from r h d.next m k)
       unfolding seen_from keys_in gather
-      one_more n =
-          rw (fields_more r h q e en tag start end next x)
-          (among_append k (field_keys (record { tag = tag; body = between r start end })) (gather field_keys (take n (fields_at r h next))))
+      one_more m =
+          rw (fields_more r h q e en d x)
+          (among_append k (field_keys (record { tag = d.tag; body = between r d.start d.end })) (gather field_keys (take m (fields_at r h d.next))))
 
-      module _ (t : Bool) (et : t ≡ among k (field_keys (record { tag = tag; body = between r start end }))) where
-        turn : either t (seen_from r h next (left - 1) k) ≡ A
-        turn = let s : left ≡ suc (left - 1) = omega arith in rw et (sym (one_more (left - 1)) ∙ ap (λ (n : ℕ). seen_from r h q n k) (sym s) ∙ inv)
+      module _ (t : Bool) (et : t ≡ among k (field_keys (record { tag = d.tag; body = between r d.start d.end }))) where
+        turn : either t (seen_from r h d.next (n - (i + 1)) k) ≡ A
+        turn = let s : n - i ≡ suc (n - (i + 1)) = omega arith in rw et (sym (one_more (n - (i + 1))) ∙ ap (λ (m : ℕ). seen_from r h q m k) (sym s) ∙ inv)
 
         pub seen_here : t ≡ true → true ≡ A
         seen_here z = rw z at turn
 
-        pub seen_more : t ≡ false → seen_from r h next (left - 1) k ≡ A
+        pub seen_more : t ≡ false → seen_from r h d.next (n - (i + 1)) k ≡ A
         seen_more z = rw z at turn
 
 pub ruleset seen_turn = (seen_none, seen_done, seen_here, seen_more, fit_here, fit_next, step_bounds)

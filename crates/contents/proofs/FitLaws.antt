@@ -7,6 +7,7 @@ use native.Mathlib.Omega.{arith}
 use borrow.Author.Tests.{leb-true, ne_eqb}
 use lib.Dec.{eqb, leb}
 use lib.ListN.{get_or}
+use Rattle.std.specs.Prelude.{Option, Some}
 use Rattle.base.specs.Choice.{pick}
 use Rattle.base.specs.Check.{ok}
 use Rattle.base.proofs.CheckLaws.{bind_inv}
@@ -24,7 +25,6 @@ use Rattle.skeleton.specs.File.{Field}
 use Rattle.skeleton.specs.Place.{between, place_at, fields_at}
 use Rattle.skeleton.specs.declared.directory.Shape.{Shape}
 use Rattle.skeleton.specs.declared.place.Place.{Place}
-use Rattle.skeleton.specs.declared.place.Place.TheVariants.{At}
 use Rattle.skeleton.proofs.PlaceLaws.{fields_more}
 use Rattle.rules.specs.Tags.{ATTR, INAS, SPAS, FOID, COCC, C2IT}
 use Rattle.rules.specs.Grammar.{ruin_byte, as_stored}
@@ -55,16 +55,16 @@ five_fit m k f fs u e =
 -- ---- field by field
 
 -- by the place e that was read at p
-module _ (r : List ℕ) (h : Shape) (p : ℕ) (e : Place) (en : e ≡ place_at r h p) (tag start end next : ℕ) (x : e ≡ At tag start end next)
+module _ (r : List ℕ) (h : Shape) (p : ℕ) (e : Option Place) (en : e ≡ place_at r h p) (d : Place) (x : e ≡ Some d)
     (new : Bool) (a : all_fit new (fields_at r h p) ≡ true) where
-  apart : (fits new (record { tag = tag; body = between r start end }) ≡ true) × (all_fit new (fields_at r h next) ≡ true)
+  apart : (fits new (record { tag = d.tag; body = between r d.start d.end }) ≡ true) × (all_fit new (fields_at r h d.next) ≡ true)
   unfolding all_fit
-  apart = both_hold _ _ (rw (fields_more r h p e en tag start end next x) at a)
+  apart = both_hold _ _ (rw (fields_more r h p e en d x) at a)
 
-  pub fit_here : fits new (record { tag = tag; body = between r start end }) ≡ true
+  pub fit_here : fits new (record { tag = d.tag; body = between r d.start d.end }) ≡ true
   fit_here = apart.0
 
-  pub fit_next : all_fit new (fields_at r h next) ≡ true
+  pub fit_next : all_fit new (fields_at r h d.next) ≡ true
   fit_next = apart.1
 
 -- ---- the format of any record

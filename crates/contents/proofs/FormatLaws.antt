@@ -1,22 +1,21 @@
 -- Laws of the formats of fields. Assumes nothing.
-use mathlib.Core.Path.{◌≡◌, refl, sym, ◌∙◌}
+use mathlib.Core.Path.{◌≡◌, refl}
 use mathlib.Core.Bool.{Bool, true, false, not}
 use mathlib.Core.List.{List}
 use Prim.Native.Nat.{ℕ, ◌≤◌, ◌<◌}
 use borrow.Author.Tests.{eq-eqb, ne_eqb}
-use lib.Dec.{eqb, ltb}
+use lib.Dec.{ltb}
 use lib.ListN.{length, get_or, get_or-eq_default}
+use Rattle.std.specs.Prelude.{Result, Ok, Err}
 use Rattle.base.specs.Choice.{pick}
 use Rattle.base.specs.Lists.{empty}
+use Rattle.base.specs.Check.{fault}
 use Rattle.base.specs.Verdict.{verdict_of}
-use Rattle.base.specs.declared.Verdict.TheVariants.{Passed, Refused}
 use Rattle.fields.specs.Table.{head_of, tuple_of}
 use Rattle.fields.specs.Rows.{shape_of}
 use Rattle.fields.specs.Content.{tally_field}
 use Rattle.fields.specs.declared.Format.{Format}
 use Rattle.fields.specs.declared.Format.TheVariants.{Dsid, DsidUpdate, Irid, IridNew, Prid, PridNew, Mrid, MridNew, Frid, FridNew, Foid, Attr, AttrNew, InasNew, InasGone, Spas, SpasNew, Cocc, C2it, C2il}
-use Rattle.fields.specs.declared.Tally.{Tally}
-use Rattle.fields.specs.declared.Tally.TheVariants.{Whole, Short}
 use Rattle.fields.specs.declared.row.Shape.{Shape}
 use Rattle.rules.specs.Content.{insert_only, ident_format, inas_format, format_of, stands}
 use Rattle.rules.specs.declared.Kind.{Kind}
@@ -31,11 +30,12 @@ module _ (m : Mode) where
   unfolding insert_only
   only_dataset e = rw e
 
-  pub only_update : m ≡ InUpdate → false ≡ insert_only m
-  unfolding insert_only
-  only_update e = rw e
+pub only_not : (m : Mode) → (m ≡ InDataset → ⊥) → false ≡ insert_only m
+unfolding insert_only
+only_not InDataset n = absurd (n refl)
+only_not InUpdate n = refl
 
-pub ruleset insert_only_ways = (only_dataset, only_update)
+pub ruleset insert_only_ways = (only_dataset, only_not)
 
 module _ (new : Bool) (k : Kind) where
   module _ (t : new ≡ true) where
@@ -100,41 +100,57 @@ pub ruleset inas_format_ways = (inas_new, inas_short, inas_gone, inas_there)
 module _ (new : Bool) (t : ℕ) (b : List ℕ) where
   pub of_attr : t ≡ 0x41545452 → (f : Format) → f ≡ pick new AttrNew Attr → f ≡ format_of new t b
   unfolding format_of
-  of_attr e f x = simp (eq-eqb t 0x41545452 e) x
+  of_attr e f x = rw e x
+
+  pub at_inas : t ≡ 0x494e4153 → (f : Format) → f ≡ inas_format new b → f ≡ format_of new t b
+  unfolding format_of
+  at_inas e f x = rw e x
+
+  module _ (n : new ≡ true) where
+    pub attr_new : t ≡ 0x41545452 → AttrNew ≡ format_of new t b
+    unfolding format_of
+    attr_new e = rw (e, n)
+
+    pub spas_new : t ≡ 0x53504153 → SpasNew ≡ format_of new t b
+    unfolding format_of
+    spas_new e = rw (e, n)
+
+  module _ (n : new ≡ false) where
+    pub attr_any : t ≡ 0x41545452 → Attr ≡ format_of new t b
+    unfolding format_of
+    attr_any e = rw (e, n)
+
+    pub spas_any : t ≡ 0x53504153 → Spas ≡ format_of new t b
+    unfolding format_of
+    spas_any e = rw (e, n)
+
+  pub of_foid : t ≡ 0x464f4944 → Foid ≡ format_of new t b
+  unfolding format_of
+  of_foid e = rw e
+
+  pub of_cocc : t ≡ 0x434f4343 → Cocc ≡ format_of new t b
+  unfolding format_of
+  of_cocc e = rw e
+
+  pub of_c2it : t ≡ 0x43324954 → C2it ≡ format_of new t b
+  unfolding format_of
+  of_c2it e = rw e
 
   module _ (n1 : t ≡ 0x41545452 → ⊥) where
     pub of_inas : t ≡ 0x494e4153 → (f : Format) → f ≡ inas_format new b → f ≡ format_of new t b
-    unfolding format_of
-    of_inas e f x = simp (ne_eqb t 0x41545452 n1, eq-eqb t 0x494e4153 e) x
+    of_inas = at_inas
 
     module _ (n2 : t ≡ 0x494e4153 → ⊥) where
       pub of_spas : t ≡ 0x53504153 → (f : Format) → f ≡ pick new SpasNew Spas → f ≡ format_of new t b
       unfolding format_of
-      of_spas e f x = simp (ne_eqb t 0x41545452 n1, ne_eqb t 0x494e4153 n2, eq-eqb t 0x53504153 e) x
+      of_spas e f x = rw e x
 
-      module _ (n3 : t ≡ 0x53504153 → ⊥) where
-        pub of_foid : t ≡ 0x464f4944 → Foid ≡ format_of new t b
-        unfolding format_of
-        of_foid e = simp (ne_eqb t 0x41545452 n1, ne_eqb t 0x494e4153 n2, ne_eqb t 0x53504153 n3, eq-eqb t 0x464f4944 e)
+      pub of_c2il : (t ≡ 0x53504153 → ⊥) → (t ≡ 0x464f4944 → ⊥) → (t ≡ 0x434f4343 → ⊥) → (t ≡ 0x43324954 → ⊥) → C2il ≡ format_of new t b
+      unfolding format_of
+      of_c2il n3 n4 n5 n6 =
+          simp (ne_eqb t 0x41545452 n1, ne_eqb t 0x494e4153 n2, ne_eqb t 0x53504153 n3, ne_eqb t 0x464f4944 n4, ne_eqb t 0x434f4343 n5, ne_eqb t 0x43324954 n6)
 
-        module _ (n4 : t ≡ 0x464f4944 → ⊥) where
-          pub of_cocc : t ≡ 0x434f4343 → Cocc ≡ format_of new t b
-          unfolding format_of
-          of_cocc e = simp (ne_eqb t 0x41545452 n1, ne_eqb t 0x494e4153 n2, ne_eqb t 0x53504153 n3, ne_eqb t 0x464f4944 n4, eq-eqb t 0x434f4343 e)
-
-          module _ (n5 : t ≡ 0x434f4343 → ⊥) where
-            others : format_of new t b ≡ pick (eqb t 0x43324954) C2it C2il
-            unfolding format_of
-            others =
-                simp (ne_eqb t 0x41545452 n1, ne_eqb t 0x494e4153 n2, ne_eqb t 0x53504153 n3, ne_eqb t 0x464f4944 n4, ne_eqb t 0x434f4343 n5)
-
-            pub of_c2it : t ≡ 0x43324954 → C2it ≡ format_of new t b
-            of_c2it e = sym (others ∙ simp (eq-eqb t 0x43324954 e))
-
-            pub of_c2il : (t ≡ 0x43324954 → ⊥) → C2il ≡ format_of new t b
-            of_c2il n = sym (others ∙ simp (ne_eqb t 0x43324954 n))
-
-pub ruleset format_ways = (of_attr, of_inas, of_spas, of_foid, of_cocc, of_c2it, of_c2il)
+pub ruleset format_ways = (attr_new, attr_any, at_inas, spas_new, spas_any, of_foid, of_cocc, of_c2it, of_c2il)
 
 -- ---- a field of a format
 
@@ -165,17 +181,17 @@ tupled C2il = refl
 pub has_tuples : (f : Format) (s : Shape) → s ≡ shape_of f → ltb s.1 s.2 ≡ not (empty (tuple_of f))
 has_tuples f s e = rw e (tupled f)
 
-module _ (i : ℕ) (f : Format) (b : List ℕ) (y : Tally) (e : y ≡ tally_field (head_of f) (tuple_of f) b) where
-  pub format_whole : (n : ℕ) → y ≡ Whole n → Passed ≡ verdict_of (stands i f b)
+module _ (i : ℕ) (f : Format) (b : List ℕ) (y : Result ℕ ℕ) (e : y ≡ tally_field (head_of f) (tuple_of f) b) where
+  pub format_whole : (n : ℕ) → y ≡ Ok n → Ok tt ≡ verdict_of (stands i f b)
   unfolding verdict_of stands
   format_whole n x = simp (← e, x)
 
-  module _ (j : ℕ) (x : y ≡ Short j) (t : Bool) (et : t ≡ not (empty (tuple_of f))) where
-    pub format_tuple : t ≡ true → Refused 5 i j ≡ verdict_of (stands i f b)
+  module _ (j : ℕ) (x : y ≡ Err j) (t : Bool) (et : t ≡ not (empty (tuple_of f))) where
+    pub format_tuple : t ≡ true → Err (fault 5 i j) ≡ verdict_of (stands i f b)
     unfolding verdict_of stands
     format_tuple z = simp (← e, x, ← et, z)
 
-    pub format_head : t ≡ false → Refused 5 i 0 ≡ verdict_of (stands i f b)
+    pub format_head : t ≡ false → Err (fault 5 i 0) ≡ verdict_of (stands i f b)
     unfolding verdict_of stands
     format_head z = simp (← e, x, ← et, z)
 

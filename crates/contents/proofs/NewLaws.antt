@@ -4,9 +4,10 @@ use mathlib.Core.Bool.{Bool, true, false, not}
 use mathlib.Core.List.{List, [], ◌∷◌, ◌++◌}
 use Prim.Native.Nat.{ℕ, ◌+◌, ◌*◌, ◌<◌}
 use native.Mathlib.Omega.{arith}
-use borrow.Author.Tests.{le-ltb, not-true}
+use borrow.Author.Tests.{le-ltb}
 use lib.Dec.{eqb}
 use lib.ListN.{take}
+use Rattle.std.specs.Prelude.{Ok, Err}
 use Rattle.base.specs.Choice.{pick, either}
 use Rattle.base.specs.Check.{bind}
 use Rattle.base.specs.Keys.{among}
@@ -24,7 +25,6 @@ use Rattle.rules.specs.Content.{inas_format}
 use Rattle.rules.specs.Associations.{inas_key, spas_key, keys_once, spas_keys, field_keys}
 use Rattle.contents.specs.Keys.{list_of, inas_key_at, keys_in, has_from, seen_from, seen_before, top_with, said_by, inas_once}
 use Rattle.contents.specs.declared.earlier.Key.{Key}
-use Rattle.contents.specs.declared.associations.Keys.TheVariants.{Once, Twice}
 use Rattle.contents.proofs.KeyLaws.{among_append, above_new, four_new}
 use Rattle.contents.proofs.EarlierLaws.{inas_listed}
 
@@ -85,14 +85,14 @@ never_inas x y z w (f ∷ fs) e = go (eqb f.tag INAS) refl e (never_inas x y z w
     go false ft et later = among_append (x ∷ y ∷ z ∷ w ∷ []) (field_keys f) (gather field_keys fs) ∙ (rw (never_other x y z w f ft) (later et))
 
 module _ (r : List ℕ) (h : Shape) (p n : ℕ) (b : List ℕ) (top : ℕ) where
-  inas_new : among (inas_key b) (keys_in (take n (fields_at r h p))) ≡ false → said_by (n + 2) (Once top) ≡ inas_once r h p n b top
+  inas_new : among (inas_key b) (keys_in (take n (fields_at r h p))) ≡ false → said_by (n + 2) (Ok top) ≡ inas_once r h p n b top
   unfolding said_by bind inas_once keys_once top_with inas_key
   inas_new z = rw z (simp (le-ltb top 0 (omega arith)))
 
   -- the first
-  pub inas_first_one : (t : Bool) → t ≡ has INAS (take n (fields_at r h p)) → not t ≡ true → said_by (n + 2) (Once top) ≡ inas_once r h p n b top
+  pub inas_first_one : (t : Bool) → t ≡ has INAS (take n (fields_at r h p)) → t ≡ false → said_by (n + 2) (Ok top) ≡ inas_once r h p n b top
   unfolding inas_key
-  inas_first_one t et z = inas_new (never_inas _ _ _ _ (take n (fields_at r h p)) (sym et ∙ not-true t z))
+  inas_first_one t et z = inas_new (never_inas _ _ _ _ (take n (fields_at r h p)) (sym et ∙ z))
 
   module _ (f : fill (head_of (inas_format false b)) (tuple_of (inas_format false b)) b ≡ true)
       (key : Key) (ek : key ≡ inas_key_at b) (t : Bool) (et : t ≡ seen_from r h p n (list_of key)) where
@@ -100,11 +100,11 @@ module _ (r : List ℕ) (h : Shape) (p n : ℕ) (b : List ℕ) (top : ℕ) where
     unfolding seen_from
     seen = sym (et ∙ ap (λ (k : Key). among (list_of k) (keys_in (take n (fields_at r h p)))) ek ∙ ap (λ (k : List ℕ). among k (keys_in (take n (fields_at r h p)))) (inas_listed b f))
 
-    pub inas_twice : t ≡ true → said_by (n + 2) (Twice 0) ≡ inas_once r h p n b top
+    pub inas_twice : t ≡ true → said_by (n + 2) (Err 0) ≡ inas_once r h p n b top
     unfolding said_by bind inas_once keys_once
     inas_twice z = rw (seen, z)
 
-    pub inas_fresh : t ≡ false → said_by (n + 2) (Once top) ≡ inas_once r h p n b top
+    pub inas_fresh : t ≡ false → said_by (n + 2) (Ok top) ≡ inas_once r h p n b top
     inas_fresh z = inas_new (seen ∙ z)
 
 pub ruleset inas_once_ways = (inas_first_one, inas_twice, inas_fresh)

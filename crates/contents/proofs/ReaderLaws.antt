@@ -4,6 +4,7 @@ use mathlib.Core.Bool.{Bool, true, false, true≢false}
 use mathlib.Core.List.{List, ◌∷◌}
 use Prim.Native.Nat.{ℕ, ◌+◌, ◌≤◌}
 use lib.ListN.{length, drop}
+use Rattle.std.specs.Prelude.{Option, Some}
 use Rattle.base.specs.Choice.{pick}
 use Rattle.base.specs.Check.{ok, pass}
 use Rattle.base.proofs.CheckLaws.{bind_inv}
@@ -17,7 +18,6 @@ use Rattle.skeleton.specs.File.{Field}
 use Rattle.skeleton.specs.Place.{between, place_at, fields_at}
 use Rattle.skeleton.specs.declared.directory.Shape.{Shape}
 use Rattle.skeleton.specs.declared.place.Place.{Place}
-use Rattle.skeleton.specs.declared.place.Place.TheVariants.{At}
 use Rattle.skeleton.proofs.PlaceLaws.{fields_more}
 use Rattle.rules.specs.Kind.{coded}
 use Rattle.rules.specs.Content.{insert_only, ident_format, stands, number5}
@@ -26,7 +26,7 @@ use Rattle.rules.specs.declared.Kind.{Kind}
 use Rattle.rules.specs.declared.Kind.TheVariants.{Info, Point, Multi, Feature}
 use Rattle.rules.specs.declared.Mode.{Mode}
 use Rattle.rules.proofs.FilledLaws.{stands_fill}
-use Rattle.records.specs.Graded.{ruin_place}
+use Rattle.records.specs.Answers.{ruin_place}
 use Rattle.contents.specs.Fit.{identified}
 
 -- ---- a number of w bytes at o
@@ -134,7 +134,7 @@ five_identified m k f fs u e =
     stands_identified (insert_only m) k f.body r.0 r.1
 
 -- at its place
-pub ident_here : (r : List ℕ) (h : Shape) (m : Mode) (k : Kind) → number5 m k (fields_at r h 24) ≡ pass → (e : Place) → e ≡ place_at r h 24
-    → (tag start end next : ℕ) → e ≡ At tag start end next → identified k (between r start end) ≡ true
-ident_here r h m k five e en tag start end next x =
-    five_identified m k (record { tag = tag; body = between r start end }) (fields_at r h next) tt (rw (fields_more r h 24 e en tag start end next x) at five)
+pub ident_here : (r : List ℕ) (h : Shape) (m : Mode) (k : Kind) → number5 m k (fields_at r h 24) ≡ pass → (e : Option Place) → e ≡ place_at r h 24
+    → (d : Place) → e ≡ Some d → identified k (between r d.start d.end) ≡ true
+ident_here r h m k five e en d x =
+    five_identified m k (record { tag = d.tag; body = between r d.start d.end }) (fields_at r h d.next) tt (rw (fields_more r h 24 e en d x) at five)

@@ -6,13 +6,13 @@ use mathlib.Core.List.{List, [], ◌∷◌}
 use Prim.Native.Nat.{ℕ, ◌+◌}
 use native.Mathlib.Omega.{arith}
 use lib.Dec.{ltb}
+use Rattle.std.specs.Prelude.{Result, Ok}
 use Rattle.base.specs.Choice.{pick}
 use Rattle.base.specs.Check.{Check, ok, no, bind, fault, Passed, pass}
 use Rattle.base.specs.Lists.{gather}
 use Rattle.base.proofs.CheckLaws.{bind_inv, ok_inj}
 use Rattle.base.specs.Verdict.{verdict_of}
-use Rattle.base.specs.declared.Verdict.{Verdict}
-use Rattle.base.specs.declared.Verdict.TheVariants.{Passed as Passes}
+use Rattle.base.specs.declared.Fault.{Fault}
 use Rattle.skeleton.specs.File.{Field}
 use Rattle.skeleton.specs.Place.{fields_at}
 use Rattle.skeleton.specs.RightFrom.{RightFrom}
@@ -63,7 +63,7 @@ module _ (r : List ℕ) (h : Shape) (m : Mode) (k : Kind) (five : number5 m k (f
       let all = five_fit m k f (fields_at r h (28 + h.a + h.b)) tt (rw parted.1 at five) in
       all_any (as_stored m (ruin_byte k f.body)) (fields_at r h (28 + h.a + h.b)) all
 
-  pub seven_rest : (v : Verdict) → v ≡ once_from r h (28 + h.a + h.b) 0 → v ≡ verdict_of (number7 (fields_at r h 24))
+  pub seven_rest : (v : Result (Unit {0}) Fault) → v ≡ once_from r h (28 + h.a + h.b) 0 → v ≡ verdict_of (number7 (fields_at r h 24))
   unfolding number7 marks once_from keys_in gather first_tag
   seven_rest v y =
       let f : Field = parted.0 in
@@ -71,8 +71,8 @@ module _ (r : List ℕ) (h : Shape) (m : Mode) (k : Kind) (five : number5 m k (f
       rw parted.1 (rw (ident_marks k f t) y)
 
   -- where a test is sure that each key stands once
-  pub seven_sure : (t : Bool) → (t ≡ true → once_from r h (28 + h.a + h.b) 0 ≡ Passes) → t ≡ true → Passes ≡ verdict_of (number7 (fields_at r h 24))
-  seven_sure t sure e = seven_rest Passes (sym (sure e))
+  pub seven_sure : (t : Bool) → (t ≡ true → once_from r h (28 + h.a + h.b) 0 ≡ Ok tt) → t ≡ true → Ok tt ≡ verdict_of (number7 (fields_at r h 24))
+  seven_sure t sure e = seven_rest (Ok tt) (sym (sure e))
 
 pub ruleset seven_ways = (seven_right, seven_fit, seven_rest, seven_sure)
 

@@ -2,76 +2,50 @@
 use mathlib.Core.Path.{◌≡◌, sym, ap, ◌∙◌}
 use mathlib.Core.Bool.{Bool, true, false, not}
 use mathlib.Core.List.{List, [], ◌∷◌, ◌++◌, append_assoc}
-use Prim.Native.Nat.{ℕ, ◌+◌, ◌-◌, ◌*◌, ◌^◌, ◌≤◌, ◌<◌}
+use Prim.Native.Nat.{ℕ, ◌+◌, ◌*◌, ◌/◌, ◌≤◌, ◌<◌}
 use native.Mathlib.Omega.{arith}
-use lib.ListN.{length, take, drop}
+use lib.ListN.{length, take, drop, drop_of_length-le}
+use Rattle.std.specs.Prelude.{Ok, Err}
 use Rattle.base.specs.Choice.{pick, larger_of}
 use Rattle.base.specs.Check.{Check, ok, no, bind, fault}
 use Rattle.base.specs.Keys.{among}
 use Rattle.base.specs.Lists.{each}
-use Rattle.base.specs.Walk.{Got}
 use Rattle.base.proofs.ListLaws.{each_drop}
 use Rattle.fields.specs.Bytes.{le}
 use Rattle.fields.specs.Values.{Val, values}
 use Rattle.fields.specs.Table.{head_of, tuple_of}
 use Rattle.fields.specs.Content.{many, fill}
 use Rattle.fields.specs.declared.Format.TheVariants.{Spas}
-use Rattle.fields.proofs.TupleLaws.{Next, here_end}
+use Rattle.fields.proofs.TupleLaws.{Next}
 use Rattle.skeleton.specs.Place.{fields_at}
 use Rattle.skeleton.specs.declared.directory.Shape.{Shape}
 use Rattle.rules.specs.Associations.{spas_key, spas_marks, keys_once, spas_keys}
 use Rattle.contents.specs.Keys.{keys_in, seen_before, top_with, said_by, spas_from}
-use Rattle.contents.specs.declared.associations.Keys.TheVariants.{Once, Twice}
 use Rattle.contents.proofs.KeyLaws.{among_last, once_same, top_append}
-use Rattle.contents.proofs.SpatialLaws.{spas_at, spas_next, spas_key_lem}
+use Rattle.contents.proofs.SpatialLaws.{spas_at, spas_next, spas_key_lem, spas_count}
 use Rattle.contents.proofs.ListLaws.{one_taken}
 use Rattle.contents.proofs.NewLaws.{not_not}
 
--- ---- the loop over the tuples of a SPAS: behind j tuples, at offset at, where the whole comes to A
+-- ---- the loop over the tuples of a SPAS: behind j tuples, where the whole comes to A
 
--- the tuple behind j tuples, at offset at
-module _ (b : List ℕ) (f : fill (head_of Spas) (tuple_of Spas) b ≡ true) (j at : ℕ) (ea : at ≡ 15 * j) where
-  stand : at ≤ length b → drop j (many (tuple_of Spas) b) ≡ many (tuple_of Spas) (drop at b)
-  stand l = rw ea (spas_at b f j (omega arith)).1
+-- the tuple behind j tuples
+module _ (b : List ℕ) (f : fill (head_of Spas) (tuple_of Spas) b ≡ true) (j : ℕ) where
+  pub none_stands : length b / 15 ≤ j → drop j (many (tuple_of Spas) b) ≡ []
+  none_stands m = drop_of_length-le (many (tuple_of Spas) b) (omega (arith, spas_count b f))
 
-  pub none_stands : at ≤ length b → length b ≤ at → drop j (many (tuple_of Spas) b) ≡ []
-  unfolding many
-  none_stands l m = stand l ∙ ap (λ (g : Got (List Val)). g.items) (here_end (tuple_of Spas) b at m)
+  module _ (g : j < length b / 15) where
+    next : Next (tuple_of Spas) b (15 * j) (15 * j + 15)
+    next = spas_next b (15 * j) (spas_at b f j (omega arith)).0 (omega arith)
 
-  module _ (g : at < length b) where
-    next : Next (tuple_of Spas) b at (at + 15)
-    next = spas_next b at (rw ea (spas_at b f j (omega arith)).0) g
-
-    pub spas_in : at + 15 ≤ length b
-    spas_in = next.inside
-
-    pub spas_number : at + 1 ≤ length b
-    spas_number = omega arith
-
-    pub spas_name : at + 1 + 4 ≤ length b
-    spas_name = let i = spas_in in omega arith
-
-    pub spas_further : at + 15 ≡ 15 * (j + 1)
-    spas_further = omega arith
-
-    pub spas_word : length b < 2 ^ 64 → at + 15 < 2 ^ 64
-    spas_word w = let i = spas_in in omega arith
-
-    pub spas_falls : length b - (at + 15) < length b - at
-    spas_falls = let i = spas_in in omega arith
-
-    pub spas_counts : length b < 2 ^ 64 → j + 1 < 2 ^ 64
-    spas_counts w = let i = spas_in in omega arith
-
-    module _ (x y : ℕ) (ex : x ≡ le 1 (drop at b)) (ey : y ≡ le 4 (drop (at + 1) b)) where
-      key_is : spas_key (values (tuple_of Spas) (drop at b)) ≡ x ∷ y ∷ []
-      key_is = rw (ex, ey) (spas_key_lem b at (rw ea (spas_at b f j (omega arith)).0) g)
+    module _ (x y : ℕ) (ex : x ≡ le 1 (drop (15 * j) b)) (ey : y ≡ le 4 (drop (15 * j + 1) b)) where
+      key_is : spas_key (values (tuple_of Spas) (drop (15 * j) b)) ≡ x ∷ y ∷ []
+      key_is = rw (ex, ey) (spas_key_lem b (15 * j) (spas_at b f j (omega arith)).0 (omega arith))
 
       -- its values, and the tuples behind it
-      here : drop j (many (tuple_of Spas) b) ≡ values (tuple_of Spas) (drop at b) ∷ drop (j + 1) (many (tuple_of Spas) b)
+      here : drop j (many (tuple_of Spas) b) ≡ values (tuple_of Spas) (drop (15 * j) b) ∷ drop (j + 1) (many (tuple_of Spas) b)
       here =
-          let a = stand (omega arith) ∙ next.found in
-          a ∙ ap (λ (vs : List (List Val)). values (tuple_of Spas) (drop at b) ∷ vs) (sym (one_taken (many (tuple_of Spas) b) _ _ j a).1)
+          let a = (spas_at b f j (omega arith)).1 ∙ next.found in
+          a ∙ ap (λ (vs : List (List Val)). values (tuple_of Spas) (drop (15 * j) b) ∷ vs) (sym (one_taken (many (tuple_of Spas) b) _ _ j a).1)
 
       -- its key, and those behind it
       key_here : drop j (spas_keys b) ≡ (x ∷ y ∷ []) ∷ drop (j + 1) (spas_keys b)
@@ -104,7 +78,7 @@ module _ (b : List ℕ) (f : fill (head_of Spas) (tuple_of Spas) b ≡ true) (j 
         unfolding spas_from keys_once spas_marks
         turn = rw (key_is) at (rw (key_here, here) at inv)
 
-        pub spas_twice : not t ≡ true → said_by (n + 2) (Twice (j + 1)) ≡ A
+        pub spas_twice : not t ≡ true → said_by (n + 2) (Err (j + 1)) ≡ A
         unfolding said_by bind
         spas_twice z = let m = not_not (among (x ∷ y ∷ []) (seen_before r h p n b j)) true (ap not (sym et) ∙ z) in rw m at turn
 
@@ -122,10 +96,10 @@ module _ (b : List ℕ) (f : fill (head_of Spas) (tuple_of Spas) b ≡ true) (j 
             rw (en, c) a
 
 -- no tuple is left
-pub spas_over : (b : List ℕ) → fill (head_of Spas) (tuple_of Spas) b ≡ true → (j at : ℕ) → at ≡ 15 * j → at ≤ length b → length b ≤ at
-    → (r : List ℕ) (h : Shape) (p n top : ℕ) (A : Check ℕ) → spas_from r h p n b j top ≡ A → said_by (n + 2) (Once top) ≡ A
+pub spas_over : (b : List ℕ) → fill (head_of Spas) (tuple_of Spas) b ≡ true → (j : ℕ) → length b / 15 ≤ j
+    → (r : List ℕ) (h : Shape) (p n top : ℕ) (A : Check ℕ) → spas_from r h p n b j top ≡ A → said_by (n + 2) (Ok top) ≡ A
 unfolding said_by bind spas_from spas_keys spas_marks keys_once top_with each
-spas_over b f j at ea l m r h p n top A inv =
-    rw (none_stands b f j at ea l m) at (rw (each_drop spas_key j (many (tuple_of Spas) b)) at inv)
+spas_over b f j m r h p n top A inv =
+    rw (none_stands b f j m) at (rw (each_drop spas_key j (many (tuple_of Spas) b)) at inv)
 
-pub ruleset spas_turn = (spas_in, spas_number, spas_name, spas_further, spas_word, spas_falls, spas_counts, spas_top, spas_twice, spas_more, spas_over)
+pub ruleset spas_turn = (spas_top, spas_twice, spas_more, spas_over, arith)

@@ -9,8 +9,7 @@ use borrow.Author.Tests.{eq-eqb, ne_eqb, eqb-true, eqb-false}
 use lib.Dec.{eqb}
 use lib.ListN.{length, take, drop}
 use lib.Seq.{drop-drop, take_all}
-use Rattle.base.specs.Choice.{both, either, larger_of}
-use Rattle.base.proofs.ChoiceLaws.{larger_second, larger_first}
+use Rattle.base.specs.Choice.{both, either}
 use Rattle.base.specs.Keys.{same, among}
 use Rattle.base.specs.Lists.{each}
 use Rattle.base.proofs.ListLaws.{each_length}
@@ -27,17 +26,6 @@ use Rattle.fields.proofs.ValueLaws.{tuple_number}
 use Rattle.rules.specs.Associations.{spas_key, spas_keys}
 use Rattle.contents.specs.Keys.{tuple_is, has_from}
 
--- ---- numbers
-
-module _ (top x y n : ℕ) (e : n ≡ x * 4294967296 + y) where
-  pub top_new : top < n → n ≡ larger_of top (x * 4294967296 + y)
-  top_new h = rw (← e) (larger_second top n h)
-
-  pub top_old : n ≤ top → top ≡ larger_of top (x * 4294967296 + y)
-  top_old h = rw (← e) (larger_first top n h)
-
-pub ruleset top_ways = (top_new, top_old)
-
 -- ---- one tuple
 
 pub eqb_swap : (a b : ℕ) → eqb a b ≡ eqb b a
@@ -48,9 +36,9 @@ eqb_swap a b = go (eqb b a) refl
     go false e = ne_eqb a b (λ z. eqb-false b a e (sym z))
 
 module _ (b : List ℕ) (at x y u : ℕ) (eu : u ≡ le 1 (drop at b)) where
-  pub tuple_first : (u ≡ x → ⊥) → false ≡ tuple_is b at x y
+  pub tuple_first : (u ≡ x → ⊥) → eqb u x ≡ tuple_is b at x y
   unfolding tuple_is
-  tuple_first n = rw (← eu) (simp (ne_eqb x u (λ z. n (sym z))))
+  tuple_first n = rw (← eu) (simp (ne_eqb u x n, ne_eqb x u (λ z. n (sym z))))
 
   pub tuple_second : u ≡ x → (v : ℕ) → v ≡ le 4 (drop (at + 1) b) → eqb v y ≡ tuple_is b at x y
   unfolding tuple_is
@@ -77,63 +65,22 @@ module _ (b : List ℕ) (at : ℕ) (z : ending_at (tuple_of Spas) b at ≡ 0) (g
   unfolding spas_keys each
   spas_more = ap (each spas_key) spas_next.found ∙ ap (λ (k : List ℕ). k ∷ each spas_key (many (tuple_of Spas) (drop (at + 15) b))) spas_key_lem
 
--- ---- the loop over n tuples: at an offset, so many left, where the whole comes to A
-
-same_two : (x y u v : ℕ) → same (x ∷ y ∷ []) (u ∷ v ∷ []) ≡ both (eqb x u) (eqb y v)
-unfolding same
-same_two x y u v = go (eqb x u) (eqb y v)
-  where
-    go : (a c : Bool) → both a (both c true) ≡ both a c
-    go true true = refl
-    go true false = refl
-    go false c = refl
-
-module _ (b : List ℕ) (at left x y : ℕ) (A : Bool) (inv : has_from b at left x y ≡ A) where
-  pub has_none : left ≤ 0 → false ≡ A
-  unfolding has_from among
-  has_none h = let z : left ≡ 0 = omega arith in rw z at inv
-
-  module _ (l : 0 < left) (g : at + 15 * left ≤ length b) where
-    pub has_room : at + 5 ≤ length b
-    has_room = omega arith
-
-    pub has_left : at + 15 + 15 * (left - 1) ≤ length b
-    has_left = omega arith
-
-    module _ (z : ending_at (tuple_of Spas) b at ≡ 0) where
-      inside : at < length b
-      inside = omega arith
-
-      pub has_ends : ending_at (tuple_of Spas) b (at + 15) ≡ 0
-      has_ends = (spas_next b at z inside).rest
-
-      split_off : (n : ℕ) → has_from b at (suc n) x y ≡ either (tuple_is b at x y) (has_from b (at + 15) n x y)
-      unfolding has_from among tuple_is
-      split_off n = rw (spas_more b at z inside) (rw (same_two x y (le 1 (drop at b)) (le 4 (drop (at + 1) b))))
-
-      turn : either (tuple_is b at x y) (has_from b (at + 15) (left - 1) x y) ≡ A
-      turn = let s : left ≡ suc (left - 1) = omega arith in sym (split_off (left - 1)) ∙ ap (λ (n : ℕ). has_from b at n x y) (sym s) ∙ inv
-
-      module _ (t : Bool) (et : t ≡ tuple_is b at x y) where
-        pub has_here : t ≡ true → true ≡ A
-        has_here w = simp (← et, w) at turn
-
-        pub has_more : t ≡ false → has_from b (at + 15) (left - 1) x y ≡ A
-        has_more w = simp (← et, w) at turn
-
-pub ruleset has_turn = (has_none, has_room, has_left, has_ends, has_here, has_more, arith)
-
 -- ---- tuples by number
 
 pub spas_ends : (b : List ℕ) → fill (head_of Spas) (tuple_of Spas) b ≡ true → ending_at (tuple_of Spas) b 0 ≡ 0
 unfolding head_of
 spas_ends b e = fill_list (tuple_of Spas) b e
 
+-- how many there are
+pub spas_count : (b : List ℕ) → fill (head_of Spas) (tuple_of Spas) b ≡ true → length b ≡ 15 * length (many (tuple_of Spas) b)
+unfolding head_of tuple_of
+spas_count b e = fill_even (tuple_of Spas) refl b e
+
 -- all of them
 pub spas_all : (b : List ℕ) → fill (head_of Spas) (tuple_of Spas) b ≡ true → take (length b / 15) (spas_keys b) ≡ spas_keys b
-unfolding head_of tuple_of spas_keys
+unfolding spas_keys
 spas_all b e =
-    let n : length b ≡ 15 * length (many (tuple_of Spas) b) = fill_even (tuple_of Spas) refl b e in
+    let n : length b ≡ 15 * length (many (tuple_of Spas) b) = spas_count b e in
     take_all (length b / 15) (each spas_key (many (tuple_of Spas) b)) (omega (arith, each_length spas_key (many (tuple_of Spas) b)))
 
 pub spas_fits : (n : ℕ) → 15 * (n / 15) ≤ n
@@ -154,3 +101,41 @@ spas_at b e (suc j) h =
     ∙ ap (drop 1) (ih.1 ∙ n.found)
     in
     (ap (λ (k : ℕ). ending_at (tuple_of Spas) b k) (sym s) ∙ n.rest, d ∙ ap (λ (k : ℕ). many (tuple_of Spas) (drop k b)) s)
+
+-- ---- the loop over n tuples: behind j of them, where the whole comes to A
+
+same_two : (x y u v : ℕ) → same (x ∷ y ∷ []) (u ∷ v ∷ []) ≡ both (eqb x u) (eqb y v)
+unfolding same
+same_two x y u v = go (eqb x u) (eqb y v)
+  where
+    go : (a c : Bool) → both a (both c true) ≡ both a c
+    go true true = refl
+    go true false = refl
+    go false c = refl
+
+-- one tuple, and n behind it
+split_off : (b : List ℕ) (at x y : ℕ) → ending_at (tuple_of Spas) b at ≡ 0 → at < length b → (n : ℕ)
+    → has_from b at (suc n) x y ≡ either (tuple_is b at x y) (has_from b (at + 15) n x y)
+unfolding has_from among tuple_is
+split_off b at x y z inside n = rw (spas_more b at z inside) (rw (same_two x y (le 1 (drop at b)) (le 4 (drop (at + 1) b))))
+
+module _ (b : List ℕ) (f : fill (head_of Spas) (tuple_of Spas) b ≡ true) (n j x y : ℕ) (A : Bool) (inv : has_from b (15 * j) (n - j) x y ≡ A) where
+  pub has_none : n ≤ j → false ≡ A
+  unfolding has_from among
+  has_none h = let z : n - j ≡ 0 = omega arith in rw z at inv
+
+  module _ (l : j < n) (g : 15 * n ≤ length b) (t : Bool) (et : t ≡ tuple_is b (15 * j) x y) where
+    turn : either (tuple_is b (15 * j) x y) (has_from b (15 * (j + 1)) (n - (j + 1)) x y) ≡ A
+    turn =
+        let s : n - j ≡ suc (n - (j + 1)) = omega arith in
+        let e : 15 * j + 15 ≡ 15 * (j + 1) = omega arith in
+        let o = split_off b (15 * j) x y (spas_at b f j (omega arith)).0 (omega arith) (n - (j + 1)) in
+        rw e at (sym o ∙ ap (λ (m : ℕ). has_from b (15 * j) m x y) (sym s) ∙ inv)
+
+    pub has_here : t ≡ true → true ≡ A
+    has_here w = simp (← et, w) at turn
+
+    pub has_more : t ≡ false → has_from b (15 * (j + 1)) (n - (j + 1)) x y ≡ A
+    has_more w = simp (← et, w) at turn
+
+pub ruleset has_turn = (has_none, has_here, has_more, arith)

@@ -1,12 +1,12 @@
 -- Laws of keys that are not above all earlier ones. Assumes nothing.
-use mathlib.Core.Path.{◌≡◌, refl, sym, ap, ◌∙◌}
+use mathlib.Core.Path.{◌≡◌, refl, sym, ◌∙◌}
 use mathlib.Core.List.{List}
-use mathlib.Core.Bool.{Bool, true, false, not}
-use Prim.Native.Nat.{ℕ, ◌+◌, ◌*◌, ◌≤◌, ◌<◌}
+use mathlib.Core.Bool.{Bool, true, false}
+use Prim.Native.Nat.{ℕ, ◌+◌, ◌*◌, ◌/◌, ◌≤◌, ◌<◌}
 use native.Mathlib.Omega.{arith}
 use lib.ListN.{length, get_or, take, drop}
+use Rattle.std.specs.Prelude.{Option, Some, None, Ok}
 use Rattle.base.specs.Choice.{larger_of}
-use Rattle.base.specs.declared.Verdict.TheVariants.{Passed as Passes}
 use Rattle.fields.specs.Bytes.{le}
 use Rattle.fields.specs.Table.{head_of, tuple_of}
 use Rattle.fields.specs.Content.{fill}
@@ -16,7 +16,6 @@ use Rattle.skeleton.specs.Place.{between, place_at, fields_at}
 use Rattle.skeleton.specs.RightFrom.{RightFrom}
 use Rattle.skeleton.specs.declared.directory.Shape.{Shape}
 use Rattle.skeleton.specs.declared.place.Place.{Place}
-use Rattle.skeleton.specs.declared.place.Place.TheVariants.{At, Done}
 use Rattle.skeleton.proofs.PlaceLaws.{held, place_runs, place_in_lem}
 use Rattle.rules.specs.Tags.{INAS}
 use Rattle.rules.specs.ByTag.{front, has}
@@ -25,22 +24,21 @@ use Rattle.contents.specs.Keys.{said_by, once_from}
 use Rattle.contents.proofs.NewLaws.{new_above, inas_first_one}
 use Rattle.contents.proofs.EarlierLaws.{spas_filled}
 use Rattle.contents.proofs.FitLaws.{fit_here}
-use Rattle.contents.proofs.SpasLaws.{spas_in, spas_number, spas_name, spas_further, spas_word, spas_falls, spas_counts, spas_top, spas_more, spas_over}
+use Rattle.contents.proofs.SpasLaws.{spas_top, spas_more, spas_over}
 use Rattle.contents.proofs.OnceLaws.{once_inas, once_spas, once_other, entry_there, entry_not, keys_before, keys_start, informed_start, keys_end, keys_counts, keys_word, keys_fit, keys_place, keys_informed, keys_more, keys_top}
 use Rattle.skeleton.proofs.RightLaws.{right_in, right_tag, right_on, right_word, right_falls}
 use Rattle.contents.specs.Strays.{Risen, SpasRises, FieldRises, Level}
-use Rattle.contents.specs.declared.associations.Keys.TheVariants.{Once}
 use Rattle.contents.specs.declared.strays.Strays.{Strays}
 
--- ---- a SPAS, behind j tuples, at offset at
+-- ---- a SPAS, behind j tuples
 
 pub risen_none : (b : List ℕ) (largest before : ℕ) → Risen b largest before 0 largest before
 unfolding Risen
 risen_none b largest before z = (z, λ r h p n e. (e, refl))
 
-module _ (b : List ℕ) (f : fill (head_of Spas) (tuple_of Spas) b ≡ true) (j at : ℕ) (ea : at ≡ 15 * j) (largest before top count : ℕ)
+module _ (b : List ℕ) (f : fill (head_of Spas) (tuple_of Spas) b ≡ true) (j largest before top count : ℕ)
     (k : Risen b largest before j top count) where
-  pub risen_more : at < length b → (x y : ℕ) → x ≡ le 1 (drop at b) → y ≡ le 4 (drop (at + 1) b)
+  pub risen_more : j < length b / 15 → (x y : ℕ) → x ≡ le 1 (drop (15 * j) b) → y ≡ le 4 (drop (15 * j + 1) b)
       → (new more : ℕ) → new ≡ larger_of top (x * 4294967296 + y) → (more ≡ 0 → (count ≡ 0) × (top < x * 4294967296 + y))
       → Risen b largest before (j + 1) new more
   unfolding Risen
@@ -50,18 +48,18 @@ module _ (b : List ℕ) (f : fill (head_of Spas) (tuple_of Spas) b ≡ true) (j 
         i.0,
         λ r h p n e.
             let o = i.1 r h p n e in (
-              spas_top b f j at ea g x y ex ey r h p n top new o.0 en,
-              spas_more b f j at ea g x y ex ey r h p n top _ o.1 true (new_above r h p n b j x y top o.0 _ refl m.1) refl new en,
+              spas_top b f j g x y ex ey r h p n top new o.0 en,
+              spas_more b f j g x y ex ey r h p n top _ o.1 true (new_above r h p n b j x y top o.0 _ refl m.1) refl new en,
             ),
       )
 
-  pub risen_over : at ≤ length b → length b ≤ at → (s : Strays) → s.top ≡ largest → s.count ≡ before → SpasRises b s (record { top = top; count = count })
+  pub risen_over : length b / 15 ≤ j → (s : Strays) → s.top ≡ largest → s.count ≡ before → SpasRises b s (record { top = top; count = count })
   unfolding said_by Risen SpasRises
-  risen_over l m s et ec z =
+  risen_over m s et ec z =
       let i = k z in
-      (ec ∙ i.0, λ r h p n e. rw et (spas_over b f j at ea l m r h p n top _ (i.1 r h p n (sym et ∙ e)).1))
+      (ec ∙ i.0, λ r h p n e. rw et (spas_over b f j m r h p n top _ (i.1 r h p n (sym et ∙ e)).1))
 
-pub ruleset spas_risen = (risen_none, risen_more, risen_over, spas_in, spas_number, spas_name, spas_further, spas_word, spas_falls, spas_counts, arith)
+pub ruleset spas_risen = (risen_none, risen_more, risen_over, arith)
 
 -- ---- a field, at the entry q
 
@@ -72,33 +70,33 @@ module _ (r : List ℕ) (h : Shape) (q tag : ℕ) (informed : Bool) (s : Strays)
 
   pub rises_first : tag ≡ 0x494e4153 → informed ≡ false → FieldRises r h q tag informed s s
   unfolding said_by FieldRises
-  rises_first t i z = (z, λ p n ei et. once_inas r h p n tag (front (fields_at r h q)) s.top t _ (inas_first_one r h p n (front (fields_at r h q)) s.top informed ei (ap not i)))
+  rises_first t i z = (z, λ p n ei et. once_inas r h p n tag (front (fields_at r h q)) s.top t _ (inas_first_one r h p n (front (fields_at r h q)) s.top informed ei i))
 
   module _ (n : tag ≡ 0x494e4153 → ⊥) where
     pub rises_other : (tag ≡ 0x53504153 → ⊥) → FieldRises r h q tag informed s s
     unfolding said_by FieldRises
     rises_other o z = (z, λ p m ei et. once_other r h p m tag (front (fields_at r h q)) s.top n o)
 
-    module _ (et : tag ≡ tag_at r q) (e : Place) (en : e ≡ place_at r h q) where
-      pub rises_spas : tag ≡ 0x53504153 → (read start end next : ℕ) → e ≡ At read start end next → (s' : Strays) → SpasRises (between r start end) s s'
+    module _ (et : tag ≡ tag_at r q) (e : Option Place) (en : e ≡ place_at r h q) where
+      pub rises_spas : tag ≡ 0x53504153 → (d : Place) → e ≡ Some d → (s' : Strays) → SpasRises (between r d.start d.end) s s'
           → FieldRises r h q tag informed s s'
       unfolding FieldRises SpasRises
-      rises_spas t read start end next x s' k z =
-          let w : read ≡ tag = (held r h q e en read start end next x).tag_is ∙ sym et in (
+      rises_spas t d x s' k z =
+          let w : d.tag ≡ tag = (held r h q e en d x).tag_is ∙ sym et in (
             (k z).0,
             λ p m ei ep.
-                entry_there r h p m q tag s.top et e en read start end next x _
-                (once_spas r h p m read (between r start end) s.top (λ y. n (sym w ∙ y)) (w ∙ t) _ ((k z).1 r h p m (keys_before r h p m s.top (between r start end) ep))),
+                entry_there r h p m q tag s.top et e en d x _
+                (once_spas r h p m d.tag (between r d.start d.end) s.top (λ y. n (sym w ∙ y)) (w ∙ t) _ ((k z).1 r h p m (keys_before r h p m s.top (between r d.start d.end) ep))),
           )
 
-      pub rises_never : RightFrom r h q → (get_or r q 0 ≡ 30 → ⊥) → e ≡ Done → FieldRises r h q tag informed s s
+      pub rises_never : RightFrom r h q → (get_or r q 0 ≡ 30 → ⊥) → e ≡ None → FieldRises r h q tag informed s s
       unfolding FieldRises
       rises_never w o x z = (z, λ p m ei ep. entry_not r h p m q tag s.top et e en w o x _)
 
-pub spas_here : (r : List ℕ) (h : Shape) (q tag : ℕ) → tag ≡ tag_at r q → (e : Place) → e ≡ place_at r h q → (read start end next : ℕ) → e ≡ At read start end next
-    → all_fit false (fields_at r h q) ≡ true → tag ≡ 0x53504153 → fill (head_of Spas) (tuple_of Spas) (between r start end) ≡ true
-spas_here r h q tag et e en read start end next x f t =
-    spas_filled (between r start end) read (fit_here r h q e en read start end next x false f) ((held r h q e en read start end next x).tag_is ∙ sym et ∙ t)
+pub spas_here : (r : List ℕ) (h : Shape) (q tag : ℕ) → tag ≡ tag_at r q → (e : Option Place) → e ≡ place_at r h q → (d : Place) → e ≡ Some d
+    → all_fit false (fields_at r h q) ≡ true → tag ≡ 0x53504153 → fill (head_of Spas) (tuple_of Spas) (between r d.start d.end) ≡ true
+spas_here r h q tag et e en d x f t =
+    spas_filled (between r d.start d.end) d.tag (fit_here r h q e en d x false f) ((held r h q e en d x).tag_is ∙ sym et ∙ t)
 
 pub ruleset field_rises = (rises_not, rises_first, rises_other, rises_spas, rises_never, spas_here, place_runs, place_in_lem, arith)
 
@@ -116,9 +114,9 @@ module _ (r : List ℕ) (h : Shape) (p n q : ℕ) (ed : drop n (fields_at r h p)
       let j = f z in
       let i = k j.0 in
       let e = j.1 p n ei i.0 in
-      (keys_top r h p n q ed w o tag et s.top (Once s'.top) e i.0 s'.top refl, keys_more r h p n q ed w o tag et s.top (Once s'.top) e _ i.1 s'.top refl)
+      (keys_top r h p n q ed w o tag et s.top (Ok s'.top) e i.0 s'.top refl, keys_more r h p n q ed w o tag et s.top (Ok s'.top) e _ i.1 s'.top refl)
 
-  pub level_end : get_or r q 0 ≡ 30 → s.count ≡ 0 → once_from r h p 0 ≡ Passes
+  pub level_end : get_or r q 0 ≡ 30 → s.count ≡ 0 → once_from r h p 0 ≡ Ok tt
   unfolding Level
   level_end y z = sym (keys_end r h p n q ed w _ (k z).1 y)
 

@@ -1,5 +1,5 @@
 -- The keys of a record's associations, each as one number, and a walk over them.
-use Rattle.std.specs.Prelude.{ℕ, ◌+◌, ◌*◌, ◌≤◌, ◌<◌, ◌≡◌, Bool, true, false, List, [], ◌∷◌, ◌++◌, length, get_or, take, drop}
+use Rattle.std.specs.Prelude.{ℕ, ◌+◌, ◌*◌, ◌≤◌, ◌<◌, ◌≡◌, Bool, true, false, List, [], ◌∷◌, ◌++◌, length, get_or, take, drop, Option, Some, None}
 use Rattle.base.specs.Lists.{each}
 use Rattle.fields.specs.Places.{ending_at}
 use Rattle.fields.specs.Table.{tuple_of}
@@ -14,8 +14,6 @@ use Rattle.contents.specs.Fit.{all_fit}
 use Rattle.contents.specs.Keys.{keys_in}
 use Rattle.contents.specs.declared.codes.Walk.{Walk}
 use Rattle.contents.specs.declared.once.Gathered.{Gathered}
-use Rattle.contents.specs.declared.codes.Step.{Step}
-use Rattle.contents.specs.declared.codes.Step.TheVariants.{Next, Over}
 
 -- a key's code: RRID, and then NIAC and NARC, or RRNM and what no NARC is
 unfoldable pub code_of : List ℕ → ℕ
@@ -56,9 +54,9 @@ pub record Behind (r : List ℕ) (h : Shape) (p y : ℕ) (w : Walk) : Type 0 whe
   pub rest : drop y (codes_in (fields_at r h p)) ≡ codes_from r h w
 
 -- one step: the first code, and the walk behind it
-abbrev pub Steps : List ℕ → Shape → Walk → Step → Type 0
-Steps r h w (Next code on) = (codes_from r h w ≡ code ∷ codes_from r h on) × Walks r h on
-Steps r h w Over = codes_from r h w ≡ []
+abbrev pub Steps : List ℕ → Shape → Walk → Option (ℕ × Walk) → Type 0
+Steps r h w (Some s) = (codes_from r h w ≡ s.0 ∷ codes_from r h s.1) × Walks r h s.1
+Steps r h w None = codes_from r h w ≡ []
 
 -- ---- codes held against a book
 

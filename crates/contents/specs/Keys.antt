@@ -1,11 +1,11 @@
 -- The keys of a record's associations, and the answers to number 7 from a field and from a tuple on.
-use Rattle.std.specs.Prelude.{ℕ, ◌+◌, ◌*◌, Bool, List, [], ◌∷◌, ◌++◌, take, drop, eqb}
+use Rattle.std.specs.Prelude.{ℕ, ◌+◌, ◌*◌, Bool, List, [], ◌∷◌, ◌++◌, take, drop, eqb, Result, Ok, Err}
 use Rattle.base.specs.Choice.{both, larger_of}
 use Rattle.base.specs.Check.{Check, ok, no, bind, fault}
 use Rattle.base.specs.Keys.{among}
 use Rattle.base.specs.Lists.{gather}
 use Rattle.base.specs.Verdict.{verdict_of}
-use Rattle.base.specs.declared.Verdict.{Verdict}
+use Rattle.base.specs.declared.Fault.{Fault}
 use Rattle.fields.specs.Bytes.{le}
 use Rattle.fields.specs.Table.{tuple_of}
 use Rattle.fields.specs.Content.{many}
@@ -16,8 +16,6 @@ use Rattle.skeleton.specs.declared.directory.Shape.{Shape}
 use Rattle.rules.specs.Associations.{inas_key, spas_keys, field_keys, spas_marks, field_marks, marks, keys_once}
 use Rattle.contents.specs.declared.earlier.Key.{Key}
 use Rattle.contents.specs.declared.earlier.Key.TheVariants.{Information, Spatial}
-use Rattle.contents.specs.declared.associations.Keys.{Keys}
-use Rattle.contents.specs.declared.associations.Keys.TheVariants.{Once, Twice}
 
 -- ---- keys
 
@@ -69,9 +67,9 @@ top_with top (k ∷ ks) = top_with (larger_of top (number_of k)) ks
 -- ---- answers
 
 -- what the code answers of field i, as a test: each key is new, and the largest number then; or 7 at the tuple
-unfoldable pub said_by : ℕ → Keys → Check ℕ
-said_by i (Once top) = ok top
-said_by i (Twice j) = no (fault 7 i j)
+unfoldable pub said_by : ℕ → Result ℕ ℕ → Check ℕ
+said_by i (Ok top) = ok top
+said_by i (Err j) = no (fault 7 i j)
 
 -- the rules' test of the tuples of the SPAS b from number j + 1 on, behind n fields from place p on; and the largest number then
 unfoldable pub spas_from : List ℕ → Shape → ℕ → ℕ → List ℕ → ℕ → ℕ → Check ℕ
@@ -90,5 +88,5 @@ field_once r h p n t b top =
     bind (keys_once (keys_in (take n (fields_at r h p))) (field_marks (n + 2) f)) (λ _. ok (top_with top (field_keys f)))
 
 -- the fields behind n fields from place p on, the second of the record
-unfoldable pub once_from : List ℕ → Shape → ℕ → ℕ → Verdict
+unfoldable pub once_from : List ℕ → Shape → ℕ → ℕ → Result (Unit {0}) Fault
 once_from r h p n = verdict_of (keys_once (keys_in (take n (fields_at r h p))) (marks (n + 2) (drop n (fields_at r h p))))

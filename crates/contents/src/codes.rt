@@ -1,4 +1,4 @@
-// The keys of a record's associations, INAS (0x494e4153) and SPAS (0x53504153), one by one, and each as one number.
+// The keys of a record's associations, INAS and SPAS, one by one, and each as one number.
 ghost use Rattle.std.specs.Prelude.{◌≡◌, true, false, [], ◌∷◌, ◌+◌, ◌-◌, ◌≤◌, ◌<◌, length, drop};
 ghost use Rattle.fields.specs.Bytes.{le};
 ghost use Rattle.fields.specs.Table.{head_of, tuple_of};
@@ -13,8 +13,9 @@ ghost use Rattle.contents.specs.Codes.{code_of, walk_from, Walks, Steps};
 
 use crate::earlier::{Key, inas_key};
 use fields::{le8, le32};
+use rules::tags;
 use skeleton::directory::Shape;
-use skeleton::place::{Place, place_at};
+use skeleton::place::place_at;
 
 // Where a walk stands: at offset `at` of the SPAS from start to end, and then at the entry `next`.
 #[derive(Clone, Copy)]
@@ -23,13 +24,6 @@ pub struct Walk {
     pub start: usize,
     pub end: usize,
     pub at: usize,
-}
-
-// The next code, and the walk behind it; or that there is none.
-#[derive(Clone, Copy)]
-pub enum Step {
-    Next(u64, Walk),
-    Over,
 }
 
 // A key as one number: what is left out of it is the same in all keys of its sort.
@@ -70,71 +64,46 @@ pub fn begin(p: usize) -> Walk
     }
 }
 
-// The tuple at which a walk stands.
-fn tuple(r: &[u8], h: Shape, w: Walk) -> Step
+// The code of the tuple at which a walk stands, and the walk behind it.
+fn tuple(r: &[u8], h: Shape, w: Walk) -> (u64, Walk)
     requires { Walks r.now h w × (w.at < w.end - w.start) }
-    ensures { Steps r.now h w result }
+    ensures { Steps r.now h w (Some result) }
 {
-    let start = w.start;
-    let end = w.end;
-    let at = w.at;
-    let c = tuple_code(&r[start..end], at);
-    let on = Walk {
-        next: w.next,
-        start,
-        end,
-        at: at + 15,
-    };
-    Step::Next(c, on)
+    let code = tuple_code(&r[w.start..w.end], w.at);
+    (code, Walk { at: w.at + 15, ..w })
 }
 
-// The first key of the fields from the entry at p on.
-fn first(r: &[u8], h: Shape, p: usize) -> Step
+// The code of the first key of the fields from the entry at p on, and the walk behind it; none where they have no key.
+fn first(r: &[u8], h: Shape, p: usize) -> Option<(u64, Walk)>
     requires { Bounded h × (all_fit false (fields_at r.now h p) ≡ true) }
     ensures { Steps r.now h (walk_from p) result }
 {
     let mut q = p;
-    loop {
-        match place_at(r, h, q) {
-            Place::At {
-                tag,
-                start,
-                end,
-                next,
-            } => {
-                if tag == 0x494e4153 {
-                    return Step::Next(inas_code(&r[start..end]), begin(next));
-                }
-                if tag == 0x53504153 {
-                    if start < end {
-                        return tuple(
-                            r,
-                            h,
-                            Walk {
-                                next,
-                                start,
-                                end,
-                                at: 0,
-                            },
-                        );
-                    }
-                }
-                q = next;
-            }
-            Place::Done => {
-                return Step::Over;
-            }
+    while let Some(field) = place_at(r, h, q) {
+        if field.tag == tags::INAS {
+            return Some((inas_code(&r[field.start..field.end]), begin(field.next)));
         }
+        if field.tag == tags::SPAS && field.start < field.end {
+            let spas = Walk {
+                next: field.next,
+                start: field.start,
+                end: field.end,
+                at: 0,
+            };
+            return Some(tuple(r, h, spas));
+        }
+        q = field.next;
     }
+    None
 }
 
-// One step of a walk.
-pub fn advance(r: &[u8], h: Shape, w: Walk) -> Step
+// One step of a walk: the next code, and the walk behind it; none where no key is left.
+pub fn advance(r: &[u8], h: Shape, w: Walk) -> Option<(u64, Walk)>
     requires { Bounded h × Walks r.now h w }
     ensures { Steps r.now h w result }
 {
     if w.at < w.end - w.start {
-        return tuple(r, h, w);
+        return Some(tuple(r, h, w));
     }
     first(r, h, w.next)
 }

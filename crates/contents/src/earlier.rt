@@ -12,10 +12,12 @@ ghost use Rattle.contents.specs.Keys.{list_of, inas_key_at, seen_from};
 
 use crate::spatial::tuples_have;
 use fields::{le8, le16, le32};
+use rules::tags;
 use skeleton::directory::Shape;
-use skeleton::place::{Place, place_at};
+use skeleton::place::place_at;
 
 // A key: RRNM, RRID, NIAC, NARC of an information association; RRNM, RRID of a spatial one.
+// An enum of its own: two sorts of key, neither of them none or a refusal.
 #[derive(Clone, Copy)]
 pub enum Key {
     Information(u8, u32, u16, u16),
@@ -47,24 +49,14 @@ fn inas_is(b: &[u8], x: u8, y: u32, z: u16, w: u16) -> bool
     le16(b, 7) == w
 }
 
-// Whether the key is one of the field's, INAS (0x494e4153) or SPAS (0x53504153).
+// Whether the key is one of the field's, INAS or SPAS.
 fn field_has(b: &[u8], tag: u32, key: Key) -> bool
     requires { fits false (record { tag = tag; body = b.now }) ≡ true }
     ensures { result ≡ among (list_of key) (field_keys (record { tag = tag; body = b.now })) }
 {
     match key {
-        Key::Information(x, y, z, w) => {
-            if tag != 0x494e4153 {
-                return false;
-            }
-            inas_is(b, x, y, z, w)
-        }
-        Key::Spatial(x, y) => {
-            if tag != 0x53504153 {
-                return false;
-            }
-            tuples_have(b, b.len() / 15, x, y)
-        }
+        Key::Information(x, y, z, w) => tag == tags::INAS && inas_is(b, x, y, z, w),
+        Key::Spatial(x, y) => tag == tags::SPAS && tuples_have(b, b.len() / 15, x, y),
     }
 }
 
@@ -74,25 +66,14 @@ pub fn fields_have(r: &[u8], h: Shape, p: usize, n: usize, key: Key) -> bool
     ensures { result ≡ seen_from r.now h p n (list_of key) }
 {
     let mut q = p;
-    let mut left = n;
-    while 0 < left {
-        match place_at(r, h, q) {
-            Place::At {
-                tag,
-                start,
-                end,
-                next,
-            } => {
-                if field_has(&r[start..end], tag, key) {
-                    return true;
-                }
-                q = next;
-                left -= 1;
-            }
-            Place::Done => {
-                return false;
-            }
+    for _ in 0..n {
+        let Some(field) = place_at(r, h, q) else {
+            return false;
+        };
+        if field_has(&r[field.start..field.end], field.tag, key) {
+            return true;
         }
+        q = field.next;
     }
     false
 }

@@ -15,22 +15,14 @@ use rules::{Kind, Mode};
 fn is_coded(k: Kind) -> bool
     ensures { result ≡ coded k }
 {
-    match k {
-        Kind::Info => true,
-        Kind::Point => false,
-        Kind::Multi => false,
-        Kind::Feature => true,
-    }
+    matches!(k, Kind::Info | Kind::Feature)
 }
 
 // Where RVER stands: behind the code, if there is one.
 fn rver_place(k: Kind) -> usize
     ensures { result ≡ pick (coded k) 7 5 }
 {
-    if is_coded(k) {
-        return 7;
-    }
-    5
+    if is_coded(k) { 7 } else { 5 }
 }
 
 // Whether the record is as in a dataset: it stands in one, or its identifier says that it is inserted.
@@ -49,15 +41,16 @@ pub fn rcid(r: &[u8], start: usize, end: usize, k: Kind) -> u32
     le32(&r[start..end], 1)
 }
 
-// Its code, NITC or NFTC; 0 where the kind has none.
+// Its code, NITC or NFTC; 0 where the kind has none, as the rules' definition says.
 pub fn code(r: &[u8], start: usize, end: usize, k: Kind) -> u16
     requires { (start ≤ end) × (end ≤ length r.now) × (identified k (between r.now start end) ≡ true) }
     ensures { result ≡ (ident_of k (between r.now start end)).code }
 {
     if is_coded(k) {
-        return le16(&r[start..end], 5);
+        le16(&r[start..end], 5)
+    } else {
+        0
     }
-    0
 }
 
 // Its RVER.

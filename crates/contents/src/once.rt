@@ -1,7 +1,6 @@
 // Whether all keys of a record's associations stand once, where many of them do not rise: the codes of some two thousand at a time are put in order in a
 // book, and all before them and they themselves are held against it. That the book is in order is not proved: without that, the answer is no.
 ghost use Rattle.std.specs.Prelude.{◌≡◌, true, false, ◌+◌, ◌≤◌, ◌<◌, length};
-ghost use Rattle.base.specs.declared.Verdict.TheVariants.{Passed};
 ghost use Rattle.skeleton.specs.Place.{fields_at};
 ghost use Rattle.skeleton.specs.RightFrom.{RightFrom};
 ghost use Rattle.skeleton.specs.Shape.{Bounded};
@@ -9,9 +8,10 @@ ghost use Rattle.contents.specs.Fit.{all_fit};
 ghost use Rattle.contents.specs.Keys.{once_from};
 ghost use Rattle.contents.specs.Codes.{codes_in, Apart, Walks, Gathers, Joins};
 
-use crate::codes::{Step, Walk, advance, begin};
+use crate::codes::{Walk, advance, begin};
 use crate::strays::count_strays;
-use book::book::{page, sort};
+use book::book::page;
+use book::order::sort;
 use keys::bits::{flag, raise};
 use memory::clearing::zero;
 use skeleton::directory::Shape;
@@ -29,20 +29,17 @@ fn gather(r: &[u8], h: Shape, w: Walk, b: &mut [u64]) -> Gathered
     ensures { Gathers r.now h w (length b.old) result }
 {
     let mut v = w;
-    let mut k = 0;
-    while k < b.len() {
-        match advance(r, h, v) {
-            Step::Next(code, on) => {
-                b[k] = code;
-                v = on;
-                k += 1;
-            }
-            Step::Over => {
-                return Gathered { count: k, on: v };
-            }
-        }
+    for k in 0..b.len() {
+        let Some((code, on)) = advance(r, h, v) else {
+            return Gathered { count: k, on: v };
+        };
+        b[k] = code;
+        v = on;
     }
-    Gathered { count: k, on: v }
+    Gathered {
+        count: b.len(),
+        on: v,
+    }
 }
 
 // A code joins the flags of the book b; no where it cannot be told that it is new, and that is asked for, or where it is not.
@@ -71,20 +68,14 @@ fn all_new(r: &[u8], h: Shape, p: usize, x: usize, e: usize, b: &[u64], t: &mut 
 {
     zero(t);
     let mut w = begin(p);
-    let mut y = 0;
-    while y < e {
-        match advance(r, h, w) {
-            Step::Next(code, on) => {
-                if !join(b, t, code, x <= y) {
-                    return false;
-                }
-                w = on;
-                y += 1;
-            }
-            Step::Over => {
-                return false;
-            }
+    for y in 0..e {
+        let Some((code, on)) = advance(r, h, w) else {
+            return false;
+        };
+        if !join(b, t, code, x <= y) {
+            return false;
         }
+        w = on;
     }
     true
 }
@@ -109,7 +100,7 @@ fn chapter_new(
 // Whether each key of the fields from the entry at p on stands once, by a book b with the flags t. A record has less than 65,536 keys.
 fn once_by(r: &[u8], h: Shape, p: usize, b: &mut [u64], t: &mut [u8]) -> bool
     requires { Bounded h × (all_fit false (fields_at r.now h p) ≡ true) × (0 < length b.old) × (length b.old ≤ 2048) }
-    ensures { result ≡ true → once_from r.now h p 0 ≡ Passed }
+    ensures { result ≡ true → once_from r.now h p 0 ≡ Ok tt }
 {
     let mut w = begin(p);
     let mut x = 0;
@@ -131,7 +122,7 @@ fn once_by(r: &[u8], h: Shape, p: usize, b: &mut [u64], t: &mut [u8]) -> bool
 // Whether each key of the fields from the entry at p on, the second of the record, stands once: yes is certain.
 fn all_once(r: &[u8], h: Shape, p: usize) -> bool
     requires { Bounded h × (all_fit false (fields_at r.now h p) ≡ true) }
-    ensures { result ≡ true → once_from r.now h p 0 ≡ Passed }
+    ensures { result ≡ true → once_from r.now h p 0 ≡ Ok tt }
 {
     let mut b = [0u64; 2048];
     let mut t = [0u8; 256];
@@ -142,7 +133,7 @@ fn all_once(r: &[u8], h: Shape, p: usize) -> bool
 // the book tells.
 pub fn surely_once(r: &[u8], h: Shape, p: usize) -> bool
     requires { Bounded h × (2 ≤ p) × (all_fit false (fields_at r.now h p) ≡ true) × RightFrom r.now h p }
-    ensures { result ≡ true → once_from r.now h p 0 ≡ Passed }
+    ensures { result ≡ true → once_from r.now h p 0 ≡ Ok tt }
 {
     if r.len() < 1024 {
         return false;

@@ -6,8 +6,5 @@ ghost use Rattle.base.specs.Choice.{either};
 pub fn tag_passed(before: bool, tag: u32, wanted: u32) -> bool
     ensures { result ≡ either before (eqb tag wanted) }
 {
-    if before {
-        return true;
-    }
-    tag == wanted
+    before || tag == wanted
 }

@@ -13,10 +13,7 @@ fn tuple_is(b: &[u8], at: usize, x: u8, y: u32) -> bool
     requires { at + 5 ≤ length b.now }
     ensures { result ≡ tuple_is b.now at x y }
 {
-    if le8(b, at) != x {
-        return false;
-    }
-    le32(b, at + 1) == y
+    le8(b, at) == x && le32(b, at + 1) == y
 }
 
 // Whether one of the first n tuples has this key.
@@ -24,14 +21,10 @@ pub fn tuples_have(b: &[u8], n: usize, x: u8, y: u32) -> bool
     requires { (fill (head_of Spas) (tuple_of Spas) b.now ≡ true) × (15 * n ≤ length b.now) }
     ensures { result ≡ has_from b.now 0 n x y }
 {
-    let mut at = 0;
-    let mut left = n;
-    while 0 < left {
-        if tuple_is(b, at, x, y) {
+    for j in 0..n {
+        if tuple_is(b, 15 * j, x, y) {
             return true;
         }
-        at += 15;
-        left -= 1;
     }
     false
 }
@@ -40,16 +33,12 @@ pub fn tuples_have(b: &[u8], n: usize, x: u8, y: u32) -> bool
 pub fn key_number(x: u8, y: u32) -> usize
     ensures { result ≡ x * 4294967296 + y }
 {
-    x as usize * 4294967296 + y as usize
+    usize::from(x) * 4294967296 + y as usize
 }
 
 // The larger of a number and of the number of a key.
 pub fn top_with(top: usize, x: u8, y: u32) -> usize
     ensures { result ≡ larger_of top (x * 4294967296 + y) }
 {
-    let number = key_number(x, y);
-    if top < number {
-        return number;
-    }
-    top
+    top.max(key_number(x, y))
 }

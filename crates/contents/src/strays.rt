@@ -1,7 +1,6 @@
-// Keys of a record's associations, INAS (0x494e4153) and SPAS (0x53504153), that would have to be searched for among earlier ones, counted up to sixteen:
+// Keys of a record's associations, INAS and SPAS, that would have to be searched for among earlier ones, counted up to sixteen:
 // where there is none, each key stands once.
 ghost use Rattle.std.specs.Prelude.{◌≡◌, true, false, ◌+◌, ◌*◌, ◌≤◌, ◌<◌, get_or};
-ghost use Rattle.base.specs.declared.Verdict.TheVariants.{Passed};
 ghost use Rattle.fields.specs.Table.{head_of, tuple_of};
 ghost use Rattle.fields.specs.Content.{fill};
 ghost use Rattle.fields.specs.declared.Format.TheVariants.{Spas};
@@ -16,8 +15,9 @@ ghost use Rattle.contents.specs.Strays.{SpasRises, FieldRises};
 use crate::passed::tag_passed;
 use crate::spatial::{key_number, top_with};
 use fields::{le8, le32};
+use rules::tags;
 use skeleton::directory::{Shape, tag_at};
-use skeleton::place::{Place, place_at};
+use skeleton::place::place_at;
 
 // The largest number of a spatial key so far, and how many keys are to be searched for.
 #[derive(Clone, Copy)]
@@ -53,15 +53,11 @@ fn in_spas(b: &[u8], before: Strays) -> Strays
 {
     let mut top = before.top;
     let mut count = before.count;
-    let mut at = 0;
-    let mut j: usize = 0;
-    while at < b.len() {
-        let x = le8(b, at);
-        let y = le32(b, at + 1);
+    for j in 0..b.len() / 15 {
+        let x = le8(b, 15 * j);
+        let y = le32(b, 15 * j + 1);
         count = count_with(count, top, x, y);
         top = top_with(top, x, y);
-        at += 15;
-        j += 1;
     }
     Strays { top, count }
 }
@@ -71,7 +67,7 @@ fn in_field(r: &[u8], h: Shape, q: usize, tag: u32, informed: bool, before: Stra
     requires { Bounded h × (all_fit false (fields_at r.now h q) ≡ true) × RightFrom r.now h q × (get_or r.now q 0 ≡ 30 → ⊥) × (tag ≡ tag_at r.now q) }
     ensures { FieldRises r.now h q tag informed before result }
 {
-    if tag == 0x494e4153 {
+    if tag == tags::INAS {
         if informed {
             return Strays {
                 top: before.top,
@@ -80,37 +76,30 @@ fn in_field(r: &[u8], h: Shape, q: usize, tag: u32, informed: bool, before: Stra
         }
         return before;
     }
-    if tag != 0x53504153 {
+    if tag != tags::SPAS {
         return before;
     }
     match place_at(r, h, q) {
-        Place::At {
-            tag: _,
-            start,
-            end,
-            next: _,
-        } => in_spas(&r[start..end], before),
-        Place::Done => before,
+        Some(field) => in_spas(&r[field.start..field.end], before),
+        None => before,
     }
 }
 
 // How many there are among the fields from the entry at p on, the second of the record, in a directory that was found right.
 pub fn count_strays(r: &[u8], h: Shape, p: usize) -> usize
     requires { Bounded h × (2 ≤ p) × (all_fit false (fields_at r.now h p) ≡ true) × RightFrom r.now h p }
-    ensures { result ≡ 0 → once_from r.now h p 0 ≡ Passed }
+    ensures { result ≡ 0 → once_from r.now h p 0 ≡ Ok tt }
 {
     let mut q = p;
     let mut n: usize = 0;
     let mut found = Strays { top: 0, count: 0 };
     let mut informed = false;
-    loop {
-        if r[q] == 0x1e {
-            return found.count;
-        }
+    while r[q] != 0x1e {
         let tag = tag_at(r, q);
         found = in_field(r, h, q, tag, informed, found);
-        informed = tag_passed(informed, tag, 0x494e4153);
+        informed = tag_passed(informed, tag, tags::INAS);
         q += 4 + h.a + h.b;
         n += 1;
     }
+    found.count
 }

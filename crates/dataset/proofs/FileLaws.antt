@@ -1,25 +1,25 @@
 -- Every refusal of a file's own records is at that file: of a dataset, 1. Assumes nothing.
-use mathlib.Core.Path.{◌≡◌, refl}
+use mathlib.Core.Path.{◌≡◌, refl, ap}
 use mathlib.Core.List.{List, [], ◌∷◌, ◌++◌}
 use Prim.Native.Nat.{ℕ, ◌+◌}
 use native.Mathlib.Omega.{arith}
 use lib.Dec.{eqb, leb}
-use Rattle.base.specs.Check.{Check, ok, no, fault, Passed}
+use Rattle.std.specs.Prelude.{Result, Ok, Err}
+use Rattle.base.specs.Check.{Check, ok, no, Passed}
+use Rattle.base.specs.Verdict.{refusal}
 use Rattle.base.specs.Walk.{Got}
 use Rattle.base.specs.declared.Fault.{Fault}
+use Rattle.base.specs.declared.Refusal.{Refusal}
 use Rattle.base.proofs.ChoiceLaws.{by_test}
 use Rattle.skeleton.specs.File.{Field, records_from}
 use Rattle.skeleton.specs.declared.leader.Head.{Head}
-use Rattle.skeleton.specs.declared.leader.Head.TheVariants.{Good, Refused}
 use Rattle.rules.specs.Record.{Rec}
 use Rattle.rules.specs.Outcome.{Outcome, done, refused, and_then, at}
 use Rattle.rules.specs.File.{through, ending, taken, dataset_test}
 use Rattle.opening.specs.Carried.{head_at, tested_by, carried, first_two, first_three, unread, begins_csid, opened_by}
-use Rattle.opening.specs.declared.carried.Opened.TheVariants.{Stopped as Shut}
 use Rattle.opening.proofs.OpeningLaws.{from_fourth}
 use Rattle.keys.specs.Standing.{outcome_from, unread as unread_of}
 use Rattle.dataset.specs.Walk.{whole_from, walked_by}
-use Rattle.dataset.specs.declared.walk.Walked.TheVariants.{Over, Stopped}
 use Rattle.rules.specs.General.{general_record}
 use Rattle.rules.specs.declared.Mode.{Mode}
 use Rattle.rules.specs.declared.Mode.TheVariants.{InDataset}
@@ -48,9 +48,9 @@ module _ (file : ℕ) where
   unfolding AtFile
   file_refused A n x = refl
 
-  file_tested : (n : ℕ) (test : List Field → Passed) (f : List ℕ) (p : ℕ) (q : Head) → AtFile file (tested_by file n test f p q)
-  file_tested n test f p (Good len base a b) = file_then _ _ (file_at n _) (λ _. file_done _)
-  file_tested n test f p (Refused k) = file_refused ℕ n _
+  file_tested : (n : ℕ) (test : List Field → Passed) (f : List ℕ) (p : ℕ) (q : Result Head Fault) → AtFile file (tested_by file n test f p q)
+  file_tested n test f p (Ok d) = file_then _ _ (file_at n _) (λ _. file_done _)
+  file_tested n test f p (Err x) = file_refused ℕ n _
 
   pub file_carried : (n : ℕ) (test : List Field → Passed) (f : List ℕ) (p : ℕ) → AtFile file (carried file n test f p)
   unfolding carried
@@ -82,37 +82,31 @@ one_three f = file_then 1 _ _ (file_two 1 InDataset f) (λ p. file_carried 1 3 b
 
 -- ---- what code answers, in the words of the rules
 
-pub shut_is : (file : ℕ) (c : Outcome ℕ) → AtFile file c → (k n i j : ℕ) → Shut k n i j ≡ opened_by c → c ≡ refused file n (fault k i j)
+-- a refusal is of one record, with one fault
+pub refusal_same : (n : ℕ) (x : Fault) (y : Refusal) → y ≡ refusal n x → (y.rec ≡ n) × (y.fault ≡ x)
+refusal_same n x y e = (ap (λ (z : Refusal). z.rec) e, ap (λ (z : Refusal). z.fault) e)
+
+pub shut_is : (file : ℕ) (c : Outcome ℕ) → AtFile file c → (y : Refusal) → Err y ≡ opened_by c → c ≡ refused file y.rec y.fault
 unfolding opened_by AtFile
-shut_is file (done a) o k n i j e = absurd (let y : ◌≡◌ {A = ℕ} 0 1 = cc in omega arith)
-shut_is file (refused other m x) o k n i j e =
-    let a : k ≡ x.number = cc in
-    let b : n ≡ m = cc in
-    let c : i ≡ x.field = cc in
-    let d : j ≡ x.tuple = cc in
-    rw (o, a, b, c, d)
+shut_is file (done a) o y e = absurd (let w : ◌≡◌ {A = ℕ} 0 1 = cc in omega arith)
+shut_is file (refused other n x) o y e = let s : y ≡ refusal n x = cc in rw (o, (refusal_same n x y s).0, (refusal_same n x y s).1)
 
-pub first_shut : (f : List ℕ) (k n i j : ℕ) → Shut k n i j ≡ opened_by (first_three f) → first_three f ≡ refused 1 n (fault k i j)
-first_shut f k n i j e = shut_is 1 (first_three f) (one_three f) k n i j e
+pub first_shut : (f : List ℕ) (y : Refusal) → Err y ≡ opened_by (first_three f) → first_three f ≡ refused 1 y.rec y.fault
+first_shut f y e = shut_is 1 (first_three f) (one_three f) y e
 
-later_is : (c : Outcome (List Rec)) → AtFile 1 c → (m k n i j : ℕ) → Stopped k n i j ≡ walked_by m (unread_of c) → c ≡ refused 1 n (fault k i j)
+later_is : (c : Outcome (List Rec)) → AtFile 1 c → (m : ℕ) (y : Refusal) → Err y ≡ walked_by m (unread_of c) → c ≡ refused 1 y.rec y.fault
 unfolding walked_by AtFile unread_of and_then
-later_is (done a) o m k n i j e = absurd (let y : ◌≡◌ {A = ℕ} 0 1 = cc in omega arith)
-later_is (refused file r x) o m k n i j e =
-    let a : k ≡ x.number = cc in
-    let b : n ≡ r = cc in
-    let c : i ≡ x.field = cc in
-    let d : j ≡ x.tuple = cc in
-    rw (o, a, b, c, d)
+later_is (done a) o m y e = absurd (let w : ◌≡◌ {A = ℕ} 0 1 = cc in omega arith)
+later_is (refused file n x) o m y e = let s : y ≡ refusal n x = cc in rw (o, (refusal_same n x y s).0, (refusal_same n x y s).1)
 
-pub later_stopped : (f : List ℕ) (start m k n i j : ℕ) → Stopped k n i j ≡ walked_by m (whole_from f start) → from_fourth f start ≡ refused 1 n (fault k i j)
+pub later_stopped : (f : List ℕ) (start m : ℕ) (y : Refusal) → Err y ≡ walked_by m (whole_from f start) → from_fourth f start ≡ refused 1 y.rec y.fault
 unfolding outcome_from
-later_stopped f start m k n i j e = later_is (from_fourth f start) (file_taken 1 dataset_test 3 4 [] (records_from f start)) m k n i j e
+later_stopped f start m y e = later_is (from_fourth f start) (file_taken 1 dataset_test 3 4 [] (records_from f start)) m y e
 
-over_is : (c : Outcome (Unit {0})) (m count : ℕ) → Over m ≡ walked_by count c → (m ≡ count) × (c ≡ done tt)
+over_is : (c : Outcome (Unit {0})) (m count : ℕ) → Ok m ≡ walked_by count c → (m ≡ count) × (c ≡ done tt)
 unfolding walked_by
 over_is (done tt) m count e = let y : m ≡ count = cc in (y, refl)
 over_is (refused file n x) m count e = absurd (let y : ◌≡◌ {A = ℕ} 0 1 = cc in omega arith)
 
-pub later_over : (f : List ℕ) (start m count : ℕ) → Over m ≡ walked_by count (whole_from f start) → (m ≡ count) × (whole_from f start ≡ done tt)
+pub later_over : (f : List ℕ) (start m count : ℕ) → Ok m ≡ walked_by count (whole_from f start) → (m ≡ count) × (whole_from f start ≡ done tt)
 later_over f start m count e = over_is (whole_from f start) m count e

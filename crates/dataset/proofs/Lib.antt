@@ -1,4 +1,3 @@
-pub mod VerdictLaws
 pub mod RecordLaws
 pub mod WalkLaws
 pub mod FileLaws

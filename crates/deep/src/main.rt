@@ -26,10 +26,8 @@ fn put_tuple(b: &mut [u8], k: usize, index: usize, parent: usize)
 fn put_nested(b: &mut [u8], n: usize)
     requires { (8 * n ≤ length b.old) × (n < 65536) }
 {
-    let mut k: usize = 0;
-    while k < n {
+    for k in 0..n {
         put_tuple(b, k, 1, k);
-        k += 1;
     }
 }
 
@@ -37,28 +35,24 @@ fn put_nested(b: &mut [u8], n: usize)
 fn put_siblings(b: &mut [u8], n: usize)
     requires { (8 * n ≤ length b.old) × (n < 65536) }
 {
-    let mut k: usize = 0;
-    while k < n {
+    for k in 0..n {
         put_tuple(b, k, k + 1, 0);
-        k += 1;
     }
 }
 
 // What the whole rule says of a stored field, where number 5 has nothing to say.
 fn tree_of(b: &[u8]) -> usize {
-    let t = fields::tally_of(fields::Format::AttrNew, b);
-    match t {
-        fields::Tally::Whole(_) => tree::attr_tree(b),
-        fields::Tally::Short(_) => 65535,
+    match fields::tally_of(fields::Format::AttrNew, b) {
+        Ok(_) => tree::attr_tree(b).err().unwrap_or(0),
+        Err(_) => 65535,
     }
 }
 
 // What the test of a modify's field says, where number 5 has nothing to say.
 fn acts_of(b: &[u8]) -> usize {
-    let t = fields::tally_of(fields::Format::Attr, b);
-    match t {
-        fields::Tally::Whole(_) => tree::attr_acts(b),
-        fields::Tally::Short(_) => 65535,
+    match fields::tally_of(fields::Format::Attr, b) {
+        Ok(_) => tree::attr_acts(b).err().unwrap_or(0),
+        Err(_) => 65535,
     }
 }
 

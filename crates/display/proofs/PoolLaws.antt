@@ -1,12 +1,13 @@
 -- Laws of a display's two pools. Assumes nothing.
-use Prim.Native.Nat.{ℕ, ◌-◌, ◌≤◌, ◌<◌}
+use Prim.Native.Nat.{ℕ, min}
 use mathlib.Core.Path.{◌≡◌, refl, sym, ap, subst, ◌∙◌}
 use mathlib.Core.Bool.{Bool, true, false, not}
 use mathlib.Core.List.{List, []}
 use native.Mathlib.Omega.{arith}
-use borrow.Author.Tests.{ltb-true, ltb-false, lt-ltb, le-ltb, eq-eqb, ne_eqb}
-use lib.ListN.{length, take, drop}
-use lib.Seq.{take_all}
+use borrow.Author.Tests.{ltb-true, ltb-false, eq-eqb, ne_eqb}
+use Rattle.std.proofs.Math.Nat.{min-eq_left, min-eq_right, min-le_right}
+use lib.ListN.{length, take}
+use lib.Seq.{take_all, length-take-le}
 use lib.Dec.{ltb, eqb}
 use Rattle.base.specs.Choice.{pick}
 use Rattle.rules.specs.Outcome.{Outcome, done, refused}
@@ -21,30 +22,25 @@ use Rattle.display.specs.declared.Chart.{Chart}
 
 -- ---- the chart at the front of a pool
 
-module _ (n m : ℕ) where
-  pub held_short : n < m → n ≡ pick (ltb n m) n m
-  held_short h = rw (lt-ltb n m h)
-
-  pub held_long : m ≤ n → m ≡ pick (ltb n m) n m
-  held_long h = rw (le-ltb n m h)
-
-  pub held_inside : (k : ℕ) → k ≡ pick (ltb n m) n m → k ≤ m
-  held_inside k e = by_bool (ltb n m) (λ h. let z : k ≡ n = rw h at e in omega (arith, ltb-true n m h)) (λ h. let z : k ≡ m = rw h at e in omega arith)
-
-held_front : (n : ℕ) (l : List ℕ) (k : ℕ) → k ≡ pick (ltb n (length l)) n (length l) → take (k - 0) (drop 0 l) ≡ take n l
+-- what runs past the pool is not there
+held_front : (n : ℕ) (l : List ℕ) (k : ℕ) → k ≡ min n (length l) → take k l ≡ take n l
 held_front n l k e =
     by_bool (ltb n (length l))
-    (λ h. let z : k - 0 ≡ n = omega (arith, (let y : k ≡ n = rw h at e in y)) in ap (λ (j : ℕ). take j l) z)
-    (λ h. let z : k ≡ length l = rw h at e in
-    take_all (k - 0) l (omega arith) ∙ sym (take_all n l (ltb-false n (length l) h)))
+    (λ h. let z : k ≡ n = e ∙ min-eq_left (let x = ltb-true n (length l) h in omega arith) in ap (λ (j : ℕ). take j l) z)
+    (λ h. let x = ltb-false n (length l) h in
+    let z : k ≡ length l = e ∙ min-eq_right x in
+    take_all k l (omega arith) ∙ sym (take_all n l x))
+
+pub held_inside : (n : ℕ) (l : List ℕ) (k : ℕ) → k ≡ min n (length l) → k ≡ length (take k l)
+held_inside n l k e = let x = min-le_right n (length l) in sym (length-take-le k l (omega arith))
 
 -- the updater's promise, at the front of a pool
-pub handed_front : (n : ℕ) (from file : List ℕ) (room work k : ℕ) (a : Answer) (o w : List ℕ) → k ≡ pick (ltb n (length from)) n (length from)
-    → Updates (take (k - 0) (drop 0 from)) file room work a o w → Updates (take n from) file room work a o w
+pub handed_front : (n : ℕ) (from file : List ℕ) (room work k : ℕ) (a : Answer) (o w : List ℕ) → k ≡ min n (length from)
+    → Updates (take k from) file room work a o w → Updates (take n from) file room work a o w
 handed_front n from file room work k a o w e u = subst (λ (c : List ℕ). Updates c file room work a o w) (held_front n from k e) u
 
 -- what is known of the front of a pool is known of what is lent of it
-pub tested_front : (t : Bool) (n : ℕ) (from : List ℕ) (k : ℕ) → k ≡ pick (ltb n (length from)) n (length from) → TestedIf t (take n from) → TestedIf t (take (k - 0) (drop 0 from))
+pub tested_front : (t : Bool) (n : ℕ) (from : List ℕ) (k : ℕ) → k ≡ min n (length from) → TestedIf t (take n from) → TestedIf t (take k from)
 tested_front t n from k e p h = rw (held_front n from k e) (p h)
 
 -- and what is known of the chart, of its pool's front

@@ -2,8 +2,7 @@
 // stays in use.
 #![tactic(auto)]
 
-ghost use Rattle.std.specs.Prelude.{◌≡◌, length, take, ltb};
-ghost use Rattle.base.specs.Choice.{pick};
+ghost use Rattle.std.specs.Prelude.{◌≡◌, length, take};
 ghost use Rattle.promises.specs.Promise.{Updates};
 ghost use Rattle.updater.specs.Stages.{TestedIf};
 ghost use Rattle.display.specs.Pools.{chart_in, next_chart, Begun, Followed};
@@ -26,17 +25,7 @@ pub struct Shown {
     pub chart: Chart,
 }
 
-// How many bytes a chart of this length has in a pool with so much room.
-fn held(length: usize, room: usize) -> usize
-    ensures { result ≡ pick (ltb length room) length room }
-{
-    if length < room {
-        return length;
-    }
-    room
-}
-
-// Hands a file to the updater with the chart at the front of a pool; the result is built in the other pool.
+// Hands a file to the updater with the chart at the front of a pool, no more of it than the pool has; the result is built in the other pool.
 fn hand_over(
     tested: bool,
     from: &[u8],
@@ -48,8 +37,8 @@ fn hand_over(
     requires { TestedIf tested (take size from.now) }
     ensures { Updates (take size from.now) file.now (length to.old) (length work.old) result to.new work.new }
 {
-    let n = held(size, from.len());
-    update_tested(tested, &from[0..n], file, to, work)
+    let n = size.min(from.len());
+    update_tested(tested, &from[..n], file, to, work)
 }
 
 // Where the chart stands after an answer: where that is done, in the other pool.

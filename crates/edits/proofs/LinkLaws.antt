@@ -8,8 +8,10 @@ use native.Mathlib.Numerals.{add-one}
 use native.Mathlib.Omega.{arith}
 use lib.ListN.{length, get_or}
 use borrow.Author.Tests.{eq-eqb, ne_eqb}
+use Rattle.std.specs.Prelude.{Result, Ok, Err}
 use Rattle.base.specs.Choice.{pick}
 use Rattle.base.specs.Check.{Check, ok, no, bind, refuse, pass, passed}
+use Rattle.base.specs.declared.Fault.{Fault}
 use Rattle.base.specs.Lists.{each}
 use Rattle.base.proofs.CheckLaws.{bind_inv, ok_inj, refused}
 use Rattle.skeleton.specs.Place.{between}
@@ -34,9 +36,6 @@ use Rattle.tree.proofs.TupleShape.{shape}
 use Rattle.items.specs.Items.{u16, text_from, its}
 use Rattle.items.specs.Tuples.{Tuples, tuples_to}
 use Rattle.items.proofs.TupleLaws.{to_none, to_more, placed}
-use Rattle.edits.specs.declared.acting.Progress.{Progress}
-use Rattle.edits.specs.declared.acting.Progress.TheVariants.{No, Upto}
-use Rattle.edits.specs.declared.Edited.TheVariants.{Refused, Done}
 use Rattle.edits.specs.Read.{act_at, Reading, reading, read_at, kids_at}
 use Rattle.edits.specs.Says.{Ran, RunSays}
 use Rattle.edits.specs.Applied.{Outcome, Applied}
@@ -180,10 +179,10 @@ top f us = ap (λ (l : List Item). edit_flat 0 false l us) (sym (append-nil (fla
     go (no n) = refl
 
 -- an edit that was refused
-top_no : (c : Check Forest) (k j : ℕ) → bind c (λ g. ok (flat 0 g)) ≡ refuse k j → c ≡ refuse k j
+top_no : (c : Check Forest) (x : Fault) → bind c (λ g. ok (flat 0 g)) ≡ no x → c ≡ no x
 unfolding bind
-top_no (ok g) k j e = refused (sym e)
-top_no (no f) k j e = ap no (no_same e)
+top_no (ok g) x e = refused (sym e)
+top_no (no f) x e = ap no (no_same e)
 
 -- an edit that was done
 top_ok : (c : Check Forest) (l : List Item) → bind c (λ g. ok (flat 0 g)) ≡ ok l → (g : Forest) × (c ≡ ok g) × (l ≡ flat 0 g)
@@ -204,7 +203,7 @@ module _ (u : List ℕ) (at e : ℕ) (h : at ≤ e) (l : e ≤ length u) (filled
   unfolding head_of tuple_of attr_acts
   acts_same = ap (λ (vs : List (List Val)). acts_of (each utup_of vs)) (placed u at e h l 1 3 (fill_list (shape 1 3) (between u at e) filled)).1
 
-  module _ (stands : passed (attr_acts (between u at e)) ≡ pass) (w : List ℕ) (n : ℕ) (v : List ℕ) (r : Progress) (said : (s : List ℕ) → RunSays s u e at 0 1 w n 0 0 false v r) where
+  module _ (stands : passed (attr_acts (between u at e)) ≡ pass) (w : List ℕ) (n : ℕ) (v : List ℕ) (r : Result (ℕ × ℕ × ℕ) Fault) (said : (s : List ℕ) → RunSays s u e at 0 1 w n 0 0 false v r) where
     -- the edit of the forest by the acts that were read
     by_acts : (f : Forest) → (us : Acts) × (act_attr (between u at e) f ≡ edit false f us) × ((read_at u e at 0 1).acts ≡ us)
     unfolding passed bind act_attr
@@ -213,21 +212,22 @@ module _ (u : List ℕ) (at e : ℕ) (h : at ≤ e) (l : e ≤ length u) (filled
         (us, ap (λ (c : Check Acts). bind c (λ x. edit false f x)) q, read_update_lem u at e us (sym acts_same ∙ q))
 
     -- it was refused
-    pub applied_no : (k j : ℕ) → r ≡ No k j → Applied u at e w n v (Refused k j)
+    pub applied_no : (f : Fault) → r ≡ Err f → Applied u at e w n v (Err f)
     unfolding RunSays Outcome
-    applied_no k j x =
+    applied_no g x =
         record {
           is = λ s f y.
               let (us, same, a) = by_acts f in
-              same ∙ top_no (edit false f us) k j (sym (top f us) ∙ rw (y, a) at (rw x at (said s)));
+              same ∙ top_no (edit false f us) g (sym (top f us) ∙ rw (y, a) at (rw x at (said s)));
           size = λ m z. absurd (let y : ◌≡◌ {A = ℕ} 0 1 = cc in omega arith);
         }
 
     -- it was done
-    pub applied_done : (a q m : ℕ) → r ≡ Upto a q m → Applied u at e w n v (Done m)
+    pub applied_done : (t : ℕ × ℕ × ℕ) → r ≡ Ok t → Applied u at e w n v (Ok t.2)
     unfolding RunSays Outcome
-    applied_done a q m x =
-        let ran : (s : List ℕ) → Ran s u e at 0 1 w n 0 0 false v a q m = λ s. rw x at (said s) in
+    applied_done t x =
+        let m : ℕ = t.2 in
+        let ran : (s : List ℕ) → Ran s u e at 0 1 w n 0 0 false v t.0 t.1 t.2 = λ s. rw x at (said s) in
         record {
           is = λ s f y.
               let (us, same, b) = by_acts f in

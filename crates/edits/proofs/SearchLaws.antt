@@ -8,11 +8,30 @@ use native.Mathlib.Nat.{sub-eq-zero_of_le}
 use native.Mathlib.Omega.{arith}
 use lib.Dec.{ltb, eqb}
 use borrow.Author.Tests.{lt-ltb, le-ltb, eq-eqb, ne_eqb}
+use Rattle.std.specs.Prelude.{Option, Some, None, IfSome}
+use Rattle.std.proofs.lemmas.Option.{none-some, same_Some}
 use Rattle.base.specs.Choice.{pick}
 use Rattle.forest.proofs.Numbers.{lt_or_le, eq_or_ne}
 use Rattle.items.specs.Items.{depth_of, code_of, twin_at}
 use Rattle.items.proofs.ItemLaws.{twin_depth, twin_code, twin_once}
-use Rattle.edits.specs.Search.{place_up_to, place_of, end_up_to, end_of, twins_up_to, twins, behind_last, spot_of, gone_count}
+use Rattle.edits.specs.Search.{found_in, place_up_to, place_of, end_up_to, end_of, twins_up_to, twins, behind_last, spot_of, gone_count}
+
+-- ---- what a search answers
+
+module _ (n i : ℕ) where
+  pub found_is : (j : ℕ) → j ≡ i → j < n → Some j ≡ found_in n i
+  unfolding found_in
+  found_is j e h = rw (lt-ltb i n (omega arith), e)
+
+  pub found_nowhere : n ≤ i → None ≡ found_in n i
+  unfolding found_in
+  found_nowhere h = rw (le-ltb i n h)
+
+  pub found_at : (j : ℕ) → Some j ≡ found_in n i → (i < n) × (j ≡ i)
+  found_at j e = ⊎_elim (λ (l : i < n). (l, same_Some j i (e ∙ sym (found_is i refl l)))) (λ (l : n ≤ i). absurd (none-some j (sym (e ∙ sym (found_nowhere l))))) (lt_or_le i n)
+
+  pub found_none : None ≡ found_in n i → n ≤ i
+  found_none e = ⊎_elim (λ (l : i < n). absurd (none-some i (e ∙ sym (found_is i refl l)))) (λ (l : n ≤ i). l) (lt_or_le i n)
 
 -- ---- number k of a code in a run
 
@@ -71,9 +90,10 @@ pub place_bound : (w : List ℕ) (i n d c k : ℕ) → i ≤ n → (i ≤ place_
 unfolding place_of
 place_bound w i n d c k h = place_up_to_bound (n - i) w i n d c k h
 
--- an index that is such a place
-pub place_within : (w : List ℕ) (i n d c k r : ℕ) → i ≤ n → r ≡ place_of w i n d c k → (r ≡ place_of w i n d c k) × (i ≤ r)
-place_within w i n d c k r h e = let b = place_bound w i n d c k h in (e, omega arith)
+-- what is found there is in the run
+pub place_within : (w : List ℕ) (i n d c k : ℕ) (r : Option ℕ) → i ≤ n → r ≡ found_in n (place_of w i n d c k) → (r ≡ found_in n (place_of w i n d c k)) × IfSome r (λ j. (i ≤ j) × (j < n))
+place_within w i n d c k (Some j) h f = let there = found_at n (place_of w i n d c k) j f in (f, (omega (arith, there.1, place_bound w i n d c k h), omega (arith, there.0, there.1)))
+place_within w i n d c k None h f = (f, tt)
 
 -- as the code has it: the number that is left is taken down by one at each twin
 pub place_found : (w : List ℕ) (i n d c k : ℕ) → i < n → d ≤ depth_of w i → 1 ≤ k → k ≡ twin_at w i d c → place_of w i n d c k ≡ i

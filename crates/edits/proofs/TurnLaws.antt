@@ -6,7 +6,9 @@ use Prim.Native.Nat.{ℕ, ◌+◌, ◌-◌, ◌*◌, ◌≤◌, ◌<◌}
 use native.Mathlib.Omega.{arith}
 use lib.ListN.{length}
 use lib.Dec.{ltb}
-use Rattle.base.specs.Check.{bind, refuse}
+use Rattle.std.specs.Prelude.{Result, Ok, Err}
+use Rattle.base.specs.Check.{no, bind, fault}
+use Rattle.base.specs.declared.Fault.{Fault}
 use Rattle.forest.specs.Forest.{valued}
 use Rattle.forest.specs.Acts.{Acts, done}
 use Rattle.forest.specs.Flat.{after, edit_flat}
@@ -18,8 +20,6 @@ use Rattle.items.proofs.ItemLaws.{its_split, same_its, same_trans, same_refl}
 use Rattle.items.proofs.TupleLaws.{tuples_within}
 use Rattle.edits.specs.declared.single.Deed.{Deed}
 use Rattle.edits.specs.declared.single.Deed.TheVariants.{Not, Gone, Lead}
-use Rattle.edits.specs.declared.acting.Progress.{Progress}
-use Rattle.edits.specs.declared.acting.Progress.TheVariants.{No, Upto}
 use Rattle.edits.specs.Read.{act_at, Reading, reading, read_at, kids_at}
 use Rattle.edits.specs.Says.{Went, Led, DeedSays, Acted, ActSays, RunSays}
 use Rattle.edits.proofs.ReadLaws.{valued_text, read_end, read_other, read_step, kids_forward, kids_past, kids_delete, kids_other}
@@ -28,12 +28,12 @@ use Rattle.edits.proofs.ReadLaws.{valued_text, read_end, read_other, read_step, 
 
 module _ (u : List ℕ) (e at q : ℕ) (w : List ℕ) (n start d : ℕ) (barren : Bool) where
   -- the act was refused
-  pub act_refused : (s v : List ℕ) (P : Deed) (k : ℕ) → DeedSays s u at q w n start d barren v P → P ≡ Not k → ActSays s u e at q w n start d barren v (No k q)
+  pub act_refused : (s v : List ℕ) (P : Deed) (k : ℕ) → DeedSays s u at q w n start d barren v P → P ≡ Not k → ActSays s u e at q w n start d barren v (Err (fault k 0 q))
   unfolding DeedSays ActSays
   act_refused s v P k p x rest = (rw x at p) (kids_at u e at q).acts rest
 
   -- a delete was done
-  pub act_gone : (s v : List ℕ) (P : Deed) (m a : ℕ) → DeedSays s u at q w n start d barren v P → P ≡ Gone m → a ≡ past u at → past u at ≤ e → ActSays s u e at q w n start d barren v (Upto a (q + 1) m)
+  pub act_gone : (s v : List ℕ) (P : Deed) (m a : ℕ) → DeedSays s u at q w n start d barren v P → P ≡ Gone m → a ≡ past u at → past u at ≤ e → ActSays s u e at q w n start d barren v (Ok (a, q + 1, m))
   unfolding DeedSays ActSays
   act_gone s v P m a p x ea h =
       let g : Went s u at q w n start d barren v m = rw x at p in
@@ -53,19 +53,19 @@ module _ (u : List ℕ) (e at q : ℕ) (w : List ℕ) (n start d : ℕ) (barren 
   act_led s v P i m p x = rw x at p
 
   -- and then the acts on its children
-  pub act_lead : (s v z : List ℕ) (i m a : ℕ) (full : Bool) (r : Progress) → Led s u at q w n start d barren v i m → a ≡ past u at → past u at ≤ e → full ≡ ltb (at + 8) a
+  pub act_lead : (s v z : List ℕ) (i m a : ℕ) (full : Bool) (r : Result (ℕ × ℕ × ℕ) Fault) → Led s u at q w n start d barren v i m → a ≡ past u at → past u at ≤ e → full ≡ ltb (at + 8) a
       → RunSays s u e a q (q + 1) v m (i + 1) (d + 1) full z r → ActSays s u e at q w n start d barren z r
   unfolding RunSays ActSays bind after
-  act_lead s v z i m a full (No k j) g ea h ef t = λ rest.
+  act_lead s v z i m a full (Err f) g ea h ef t = λ rest.
       let k₁ = kids_other u e at q g.kind in
-      let f : full ≡ valued (text_from u (at + 7)) = ef ∙ rw (ea, valued_text u at) in
-      g.is (kids_at u e at q).acts rest ∙ rw (k₁, ← f, ← ea, t)
-  act_lead s v z i m a full (Upto b r m₂) g ea h ef t =
+      let fv : full ≡ valued (text_from u (at + 7)) = ef ∙ rw (ea, valued_text u at) in
+      g.is (kids_at u e at q).acts rest ∙ rw (k₁, ← fv, ← ea, t)
+  act_lead s v z i m a full (Ok r) g ea h ef t =
       let k₁ = kids_other u e at q g.kind in
       let f : full ≡ valued (text_from u (at + 7)) = ef ∙ rw (ea, valued_text u at) in
       let mid : its s u z start (i + 1) ≡ its s u v start (i + 1) = same_its s u v z start (i + 1) (8 * (i + 1)) (omega (arith, g.low)) (omega arith) t.kept in
       record {
-        is = λ rest. g.is (kids_at u e at q).acts rest ∙ rw (k₁, ← f, ← ea, t.is, its_split s u z start (i + 1) m₂ (omega (arith, g.low)) t.room, mid);
+        is = λ rest. g.is (kids_at u e at q).acts rest ∙ rw (k₁, ← f, ← ea, t.is, its_split s u z start (i + 1) r.2 (omega (arith, g.low)) t.room, mid);
         to = t.to ∙ rw (k₁, ea);
         place = t.place ∙ rw (k₁, ea);
         kept = same_trans w v z (8 * start) (8 * (i + 1)) (omega (arith, g.low)) g.kept t.kept;
@@ -96,47 +96,47 @@ module _ (u : List ℕ) (e at p q : ℕ) (w₀ : List ℕ) (n₀ start d : ℕ) 
 
   module _ (w : List ℕ) (a r m : ℕ) (l : ActsAt u e at p q w₀ n₀ start d barren w a r m) where
     -- no tuple of the parent follows
-    acts_stop : (s : List ℕ) → read_at u e a p r ≡ reading done a r → RunSays s u e at p q w₀ n₀ start d barren w (Upto a r m)
+    acts_stop : (s : List ℕ) → read_at u e a p r ≡ reading done a r → RunSays s u e at p q w₀ n₀ start d barren w (Ok (a, r, m))
     unfolding RunSays edit_flat
     acts_stop s x =
         record { is = l.is s ∙ rw x; to = (rw x at l.to); place = (rw x at l.place); kept = l.kept; room = l.room; size = l.size }
 
     -- no tuple is left
-    pub acts_end : (s : List ℕ) → e ≤ a → RunSays s u e at p q w₀ n₀ start d barren w (Upto a r m)
+    pub acts_end : (s : List ℕ) → e ≤ a → RunSays s u e at p q w₀ n₀ start d barren w (Ok (a, r, m))
     acts_end s h = acts_stop s (read_end u e a p r h)
 
     -- the next tuple has another parent
-    pub acts_other : (s : List ℕ) → a < e → (u16 u (a + 4) ≡ p → ⊥) → RunSays s u e at p q w₀ n₀ start d barren w (Upto a r m)
+    pub acts_other : (s : List ℕ) → a < e → (u16 u (a + 4) ≡ p → ⊥) → RunSays s u e at p q w₀ n₀ start d barren w (Ok (a, r, m))
     acts_other s h z = acts_stop s (read_other u e a p r h z)
 
     -- the act of the next tuple was done
-    module _ (h : a < e) (z : u16 u (a + 4) ≡ p) (v : List ℕ) (A : Progress) (one : (s : List ℕ) → ActSays s u e a r w m start d barren v A) where
+    module _ (h : a < e) (z : u16 u (a + 4) ≡ p) (v : List ℕ) (A : Result (ℕ × ℕ × ℕ) Fault) (one : (s : List ℕ) → ActSays s u e a r w m start d barren v A) where
       -- or refused
-      pub acts_no : (s : List ℕ) (k j : ℕ) → A ≡ No k j → RunSays s u e at p q w₀ n₀ start d barren v (No k j)
+      pub acts_no : (s : List ℕ) (f : Fault) → A ≡ Err f → RunSays s u e at p q w₀ n₀ start d barren v (Err f)
       unfolding RunSays ActSays
-      acts_no s k j x =
-          let o : (rest : Acts) → edit_flat d barren (its s u w start m) (act_at u a r (kids_at u e a r).acts rest) ≡ refuse k j = rw x at (one s) in
+      acts_no s f x =
+          let o : (rest : Acts) → edit_flat d barren (its s u w start m) (act_at u a r (kids_at u e a r).acts rest) ≡ no f = rw x at (one s) in
           l.is s ∙ rw (read_step u e a p r h z) (o _)
 
       -- what it came to
-      acted : (x y k : ℕ) → A ≡ Upto x y k → (s : List ℕ) → Acted s u e a r w m start d barren v x y k
+      acted : (t : ℕ × ℕ × ℕ) → A ≡ Ok t → (s : List ℕ) → Acted s u e a r w m start d barren v t.0 t.1 t.2
       unfolding ActSays
-      acted x y k eq s = rw eq at (one s)
+      acted t eq s = rw eq at (one s)
 
       -- it leads forward, inside the field
-      pub acts_past : (x y k : ℕ) → A ≡ Upto x y k → (a + 8 ≤ x) × (x ≤ e)
-      acts_past x y k eq =
-          let o = acted x y k eq [] in
+      pub acts_past : (t : ℕ × ℕ × ℕ) → A ≡ Ok t → (a + 8 ≤ t.0) × (t.0 ≤ e)
+      acts_past t eq =
+          let o = acted t eq [] in
           let f = o.to in
           (omega (arith, kids_past u e a r), omega (arith, tuples_within u e (kids_at u e a r).at ((kids_forward u e a r h).whole l.whole)))
 
       -- so the loop goes on
-      pub acts_turn : (x y k : ℕ) → A ≡ Upto x y k → length v ≡ length w → ActsAt u e at p q w₀ n₀ start d barren v x y k
-      acts_turn x y k eq len =
-          let o = acted x y k eq in
+      pub acts_turn : (t : ℕ × ℕ × ℕ) → A ≡ Ok t → length v ≡ length w → ActsAt u e at p q w₀ n₀ start d barren v t.0 t.1 t.2
+      acts_turn t eq len =
+          let o = acted t eq in
           let mv = kids_forward u e a r h in
-          let to₁ : x ≡ (kids_at u e a r).at = (o []).to in
-          let pl₁ : y ≡ (kids_at u e a r).place = (o []).place in
+          let to₁ : t.0 ≡ (kids_at u e a r).at = (o []).to in
+          let pl₁ : t.1 ≡ (kids_at u e a r).place = (o []).place in
           let st = read_step u e a p r h z in
           record {
             whole = rw to₁ (mv.whole l.whole);
@@ -148,5 +148,5 @@ module _ (u : List ℕ) (e at p q : ℕ) (w₀ : List ℕ) (n₀ start d : ℕ) 
             size = omega (arith, l.size, (o []).size);
             long = len ∙ l.long;
             slow = omega (arith, mv.slow, l.slow, to₁, pl₁);
-            on = omega (arith, acts_past x y k eq, l.on);
+            on = omega (arith, acts_past t eq, l.on);
           }

@@ -7,14 +7,15 @@ use native.Mathlib.Nat.{add-zero, sub-zero, add-mul-mod_self_left, mod-eq_of_lt}
 use native.Mathlib.Omega.{arith}
 use lib.Dec.{eqb}
 use borrow.Author.Tests.{lt-ltb, le-ltb, eq-eqb, ne_eqb}
+use Rattle.std.specs.Prelude.{Some}
 use Rattle.base.specs.Choice.{pick}
 use Rattle.forest.proofs.Numbers.{lt_or_le, eq_or_ne}
 use Rattle.items.specs.Items.{depth_of, code_of, twin_at}
 use Rattle.items.proofs.ItemLaws.{twin_both, twin_depth, twin_code, twin_once}
-use Rattle.edits.specs.Search.{place_of, end_of, twins, behind_last, spot_of, seat_of, behind_mark}
+use Rattle.edits.specs.Search.{found_in, place_of, end_of, twins, behind_last, spot_of, seat_of, behind_mark}
 use Rattle.edits.specs.Walks.{heft, weight, Passed, Going, Goes, Walked}
 use Rattle.edits.specs.declared.walking.Reach.{Reach}
-use Rattle.edits.proofs.SearchLaws.{place_end, place_out, place_found, place_next, end_end, end_here, end_on, twins_end, twins_out, twins_on, behind_none, behind_some, spot_zero, spot_past, spot_at, spot_bound}
+use Rattle.edits.proofs.SearchLaws.{found_is, place_end, place_out, place_found, place_next, end_end, end_here, end_on, twins_end, twins_out, twins_on, behind_none, behind_some, spot_zero, spot_past, spot_at, spot_bound}
 
 -- ---- what items weigh
 
@@ -218,13 +219,17 @@ sought_bound k asked e h =
     (λ (z : k ≡ 0 → ⊥). let f = sought_same k asked e z in (omega (arith, z), omega arith))
     (eq_or_ne k 0)
 
+-- it is no smaller
+pub sought_least : (k asked : ℕ) → asked ≡ pick (eqb k 0) 65536 k → k ≤ asked
+sought_least k asked e = ⊎_elim (λ (z : k ≡ 0). omega arith) (λ (z : k ≡ 0 → ⊥). omega (arith, sought_same k asked e z)) (eq_or_ne k 0)
+
 -- where the walk has found it
-pub seat_found : (w : List ℕ) (i n d c k asked count r : ℕ) → asked ≡ pick (eqb k 0) 65536 k → n < 65536 → count + i ≤ n → count ≡ asked → (r ≡ place_of w i n d c asked) × (asked ≤ twins w i n d c)
+pub seat_found : (w : List ℕ) (i n d c k asked count r : ℕ) → asked ≡ pick (eqb k 0) 65536 k → n < 65536 → count + i ≤ n → count ≡ asked → (r ≡ place_of w i n d c asked) × (r < n) × (asked ≤ twins w i n d c)
     → r ≡ seat_of w i n d c k
 seat_found w i n d c k asked count r e small all is f =
     ⊎_elim
     (λ (z : k ≡ 0). absurd (omega (arith, sought_zero k asked e z)))
-    (λ (z : k ≡ 0 → ⊥). let same = sought_same k asked e z in seat_at w i n d c k r z (omega (arith, f.1)) (f.0 ∙ ap (place_of w i n d c) same))
+    (λ (z : k ≡ 0 → ⊥). let same = sought_same k asked e z in seat_at w i n d c k r z (omega (arith, f.2)) (f.0 ∙ ap (place_of w i n d c) same))
     (eq_or_ne k 0)
 
 -- where it has ended
@@ -237,17 +242,13 @@ seat_behind {w} {n} {d} {c} {i} {asked} {at} {count} {mark} {nth} k r s g h l e 
     (λ (z : k ≡ 0 → ⊥). let same = sought_same k asked s z in sym (seat_past w i n d c k (omega (arith, h.1)) z (omega (arith, h.1, g.less))))
     (eq_or_ne k 0)
 
--- it is in the run, or none
-pub seat_bound : (w : List ℕ) (i n d c k r : ℕ) → i ≤ n → r ≡ seat_of w i n d c k → (r ≡ seat_of w i n d c k) × (i ≤ r)
+-- it is in the run
+pub seat_there : (w : List ℕ) (i n d c k r : ℕ) → i ≤ n → k ≤ twins w i n d c + 1 → r ≡ seat_of w i n d c k → (Some r ≡ found_in (n + 1) (seat_of w i n d c k)) × ((i ≤ r) × (r ≤ n))
 unfolding seat_of
-seat_bound w i n d c k r h e = (
-  e,
-  rw e
-      (⊎_elim
-      (λ (l : twins w i n d c + 1 < k). rw (lt-ltb (twins w i n d c + 1) k l) (omega arith))
-      (λ (l : k ≤ twins w i n d c + 1). rw (le-ltb (twins w i n d c + 1) k l) (spot_bound w i n d c k (twins w i n d c) h).0)
-      (lt_or_le (twins w i n d c + 1) k)),
-)
+seat_there w i n d c k r h l e =
+    let s : seat_of w i n d c k ≡ spot_of w i n d c k (twins w i n d c) = rw (le-ltb (twins w i n d c + 1) k l) in
+    let b = spot_bound w i n d c k (twins w i n d c) h in
+    (found_is (n + 1) (seat_of w i n d c k) r e (omega (arith, s, b.1, e)), (omega (arith, s, b.0, e), omega (arith, s, b.1, e)))
 
 -- where it is none
 pub seat_none : (w : List ℕ) (i n d c k r : ℕ) → i ≤ n → r ≡ seat_of w i n d c k → n < r → twins w i n d c + 1 < k

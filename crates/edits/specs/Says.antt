@@ -1,6 +1,7 @@
 -- What the functions that apply an update's acts to the items promise, by the splices `edit_flat` of lists of items.
-use Rattle.std.specs.Prelude.{◌≡◌, List, Bool, ℕ, ◌+◌, ◌-◌, ◌*◌, ◌≤◌, ◌<◌, get_or}
-use Rattle.base.specs.Check.{ok, bind, refuse}
+use Rattle.std.specs.Prelude.{◌≡◌, List, Bool, ℕ, ◌+◌, ◌-◌, ◌*◌, ◌≤◌, ◌<◌, get_or, Result, Ok, Err}
+use Rattle.base.specs.Check.{ok, no, bind, refuse}
+use Rattle.base.specs.declared.Fault.{Fault}
 use Rattle.forest.specs.Forest.{valued}
 use Rattle.forest.specs.Acts.{Acts}
 use Rattle.forest.specs.Flat.{after, edit_flat}
@@ -8,8 +9,6 @@ use Rattle.items.specs.Items.{text_from, its, Same}
 use Rattle.edits.specs.Read.{act_at, read_at, kids_at}
 use Rattle.edits.specs.declared.single.Deed.{Deed}
 use Rattle.edits.specs.declared.single.Deed.TheVariants.{Not, Gone, Lead}
-use Rattle.edits.specs.declared.acting.Progress.{Progress}
-use Rattle.edits.specs.declared.acting.Progress.TheVariants.{No, Upto}
 
 -- ---- one act by itself, of the tuple at `at` of u, of place q, on the run of depth d that starts at `start` among the n items of w, which became v
 
@@ -49,9 +48,9 @@ pub record Acted (s u : List ℕ) (e at q : ℕ) (w : List ℕ) (n start d : ℕ
   pub size : 8 * m + (e - a) ≤ 8 * n + (e - at)
 
 -- what they came to
-unfoldable pub ActSays : List ℕ → List ℕ → ℕ → ℕ → ℕ → List ℕ → ℕ → ℕ → ℕ → Bool → List ℕ → Progress → Type 0
-ActSays s u e at q w n start d barren v (No k j) = (rest : Acts) → edit_flat d barren (its s u w start n) (act_at u at q (kids_at u e at q).acts rest) ≡ refuse k j
-ActSays s u e at q w n start d barren v (Upto a r m) = Acted s u e at q w n start d barren v a r m
+unfoldable pub ActSays : List ℕ → List ℕ → ℕ → ℕ → ℕ → List ℕ → ℕ → ℕ → ℕ → Bool → List ℕ → Result (ℕ × ℕ × ℕ) Fault → Type 0
+ActSays s u e at q w n start d barren v (Err f) = (rest : Acts) → edit_flat d barren (its s u w start n) (act_at u at q (kids_at u e at q).acts rest) ≡ no f
+ActSays s u e at q w n start d barren v (Ok x) = Acted s u e at q w n start d barren v x.0 x.1 x.2
 
 -- ---- the run of acts of parent p
 
@@ -65,6 +64,6 @@ pub record Ran (s u : List ℕ) (e at p q : ℕ) (w : List ℕ) (n start d : ℕ
   pub size : 8 * m + (e - a) ≤ 8 * n + (e - at)
 
 -- what it came to
-unfoldable pub RunSays : List ℕ → List ℕ → ℕ → ℕ → ℕ → ℕ → List ℕ → ℕ → ℕ → ℕ → Bool → List ℕ → Progress → Type 0
-RunSays s u e at p q w n start d barren v (No k j) = edit_flat d barren (its s u w start n) (read_at u e at p q).acts ≡ refuse k j
-RunSays s u e at p q w n start d barren v (Upto a r m) = Ran s u e at p q w n start d barren v a r m
+unfoldable pub RunSays : List ℕ → List ℕ → ℕ → ℕ → ℕ → ℕ → List ℕ → ℕ → ℕ → ℕ → Bool → List ℕ → Result (ℕ × ℕ × ℕ) Fault → Type 0
+RunSays s u e at p q w n start d barren v (Err f) = edit_flat d barren (its s u w start n) (read_at u e at p q).acts ≡ no f
+RunSays s u e at p q w n start d barren v (Ok x) = Ran s u e at p q w n start d barren v x.0 x.1 x.2

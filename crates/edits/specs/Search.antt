@@ -1,8 +1,14 @@
 -- Searches among the items, by index.
-use Rattle.std.specs.Prelude.{List, [], Bool, false, not, ℕ, zero, suc, ◌+◌, ◌-◌, ◌*◌, ltb, eqb}
+use Rattle.std.specs.Prelude.{List, [], Bool, false, not, ℕ, zero, suc, ◌+◌, ◌-◌, ◌*◌, ltb, eqb, Option, Some, None}
 use Rattle.base.specs.Choice.{pick}
 use Rattle.memory.specs.Splice.{spliced_in}
 use Rattle.items.specs.Items.{depth_of, twin_at}
+
+-- ---- what a search answers
+
+-- index i, where it is less than n, else none
+unfoldable pub found_in : ℕ → ℕ → Option ℕ
+found_in n i = pick (ltb i n) (Some i) None
 
 -- ---- number k of code c in the run of depth d
 

@@ -38,6 +38,6 @@ Goes w n d c i k s = Going w n d c i k s.at s.count s.mark s.nth
 pub record Walked (w : List ℕ) (n d c i k : ℕ) (s : Reach) : Type 0 where
   pub most : s.count ≤ k
   pub all : s.count + i ≤ n
-  pub found : s.count ≡ k → (s.at ≡ place_of w i n d c k) × (k ≤ twins w i n d c)
+  pub found : s.count ≡ k → (s.at ≡ place_of w i n d c k) × (s.at < n) × (k ≤ twins w i n d c)
   pub ended : (s.count ≡ k → ⊥) → (s.at ≡ end_of w i n d) × (s.count ≡ twins w i n d c) × (place_of w i n d c k ≡ n)
   pub goes : (s.count ≡ k → ⊥) → Goes w n d c i k s

@@ -4,15 +4,10 @@ ghost use Rattle.items.specs.Tuples.{Tuples};
 ghost use Rattle.edits.specs.Says.{ActSays, RunSays};
 
 use crate::single::{Deed, perform};
+use base::Fault;
 
-// The number and place of a refusal; or the offset of the update's next tuple, its place, and how many items there are.
-#[derive(Clone, Copy)]
-pub enum Progress {
-    No(u8, usize),
-    Upto(usize, usize, usize),
-}
-
-// The act at `at`, of this place, and the acts on its children.
+// The act at `at`, of this place, and the acts on its children: the offset of the update's next tuple, its place, and how many items there are then, or the
+// fault at the tuple that is refused.
 #[cycle(act_acts)]
 pub fn act(
     u: &[u8],
@@ -24,7 +19,7 @@ pub fn act(
     start: usize,
     depth: usize,
     barren: bool,
-) -> Progress
+) -> Result<(usize, usize, usize), Fault>
     requires { (Tuples u.now end at) × (at < end) × (end ≤ length u.now) × (end ≤ 16777216) × (place ≤ at + 1)
         × (start ≤ n) × (depth ≤ start) × (8 * n + (end - at) ≤ length w.old) × (length w.old < 524288) }
     ensures { (s : List ℕ) → ActSays s u.now end at place w.old n start depth barren w.new result }
@@ -33,8 +28,12 @@ pub fn act(
     let full = at + 8 < first;
     let deed = perform(u, at, full, w, n, start, depth, barren);
     match deed {
-        Deed::Not(k) => Progress::No(k, place),
-        Deed::Gone(m) => Progress::Upto(first, place + 1, m),
+        Deed::Not(k) => Err(Fault {
+            number: k,
+            field: 0,
+            tuple: place,
+        }),
+        Deed::Gone(m) => Ok((first, place + 1, m)),
         Deed::Lead(i, m) => acts(
             u,
             end,
@@ -51,6 +50,7 @@ pub fn act(
 }
 
 // The acts of one parent, from `at` on, on the run of items of this depth that starts at `start`; barren: the parent has a value.
+// They answer as one act does.
 #[cycle(act_acts)]
 pub fn acts(
     u: &[u8],
@@ -63,7 +63,7 @@ pub fn acts(
     start: usize,
     depth: usize,
     barren: bool,
-) -> Progress
+) -> Result<(usize, usize, usize), Fault>
     requires { (Tuples u.now end at) × (end ≤ length u.now) × (end ≤ 16777216) × (place ≤ at + 1)
         × (start ≤ n) × (depth ≤ start) × (8 * n + (end - at) ≤ length w.old) × (length w.old < 524288) }
     ensures { (s : List ℕ) → RunSays s u.now end at parent place w.old n start depth barren w.new result }
@@ -71,21 +71,12 @@ pub fn acts(
     let mut a = at;
     let mut q = place;
     let mut m = n;
+    // A `while`: an act goes on behind the acts on its children.
     while a < end {
         if items::number(u, a + 4) != parent {
-            return Progress::Upto(a, q, m);
+            return Ok((a, q, m));
         }
-        let one = act(u, end, a, q, w, m, start, depth, barren);
-        match one {
-            Progress::No(k, j) => {
-                return Progress::No(k, j);
-            }
-            Progress::Upto(x, y, z) => {
-                a = x;
-                q = y;
-                m = z;
-            }
-        }
+        (a, q, m) = act(u, end, a, q, w, m, start, depth, barren)?;
     }
-    Progress::Upto(a, q, m)
+    Ok((a, q, m))
 }

@@ -35,6 +35,7 @@ pub fn weigh(w: &[u8], i: usize, depth: usize, code: usize) -> usize
     let c = code as u32;
     let mut sum: u32 = 0;
     let mut k = 0;
+    // A `while`: the form of which the compiler was seen to make vector code.
     while k < 64 {
         sum += heft_of(w, i + k, d, c);
         k += 1;

@@ -1,7 +1,7 @@
 // The working form of a record's attributes edited by the ATTR of an update.
 #![tactic(auto)]
 
-use acting::Progress;
+use base::Fault;
 
 pub mod acting;
 pub mod block;
@@ -18,22 +18,13 @@ ghost use Rattle.fields.specs.declared.Format.TheVariants.{Attr};
 ghost use Rattle.rules.specs.Trees.{attr_acts};
 ghost use Rattle.edits.specs.Applied.{Applied};
 
-// The number and the tuple of a refusal, or how many items there are now.
-#[derive(Clone, Copy)]
-pub enum Edited {
-    Refused(u8, usize),
-    Done(usize),
-}
-
-// Applies the ATTR field from `at` up to `end` of the update u, which has passed the first pass, to the n items of w.
-pub fn edit_attr(u: &[u8], at: usize, end: usize, w: &mut [u8], n: usize) -> Edited
+// Applies the ATTR field from `at` up to `end` of the update u, which has passed the first pass, to the n items of w; how many items there are then,
+// or the fault at a tuple of the field.
+pub fn edit_attr(u: &[u8], at: usize, end: usize, w: &mut [u8], n: usize) -> Result<usize, Fault>
     requires { (at ≤ end) × (end ≤ length u.now) × (end ≤ 16777216) × (8 * n + (end - at) ≤ length w.old) × (length w.old < 524288)
         × (fill (head_of Attr) (tuple_of Attr) (between u.now at end) ≡ true) × (passed (attr_acts (between u.now at end)) ≡ pass) }
     ensures { Applied u.now at end w.old n w.new result }
 {
-    let all = acting::acts(u, end, at, 0, 1, w, n, 0, 0, false);
-    match all {
-        Progress::No(k, j) => Edited::Refused(k, j),
-        Progress::Upto(_, _, m) => Edited::Done(m),
-    }
+    let (_, _, m) = acting::acts(u, end, at, 0, 1, w, n, 0, 0, false)?;
+    Ok(m)
 }

@@ -9,6 +9,7 @@ use crate::search::{addressed, is_beside, run_end, seat};
 use items::number;
 
 // What an act by itself comes to: refused with a number; a delete that leaves so many items; or the item whose children's acts come next, of so many.
+// An enum of its own: a `Result` of an `Option` would nest these three outcomes.
 #[derive(Clone, Copy)]
 pub enum Deed {
     Not(u8),
@@ -44,10 +45,9 @@ pub fn insert(
     }
     let code = number(u, at);
     let k = number(u, at + 2);
-    let i = seat(w, start, n, depth, code, k);
-    if n < i {
+    let Some(i) = seat(w, start, n, depth, code, k) else {
         return Deed::Not(9);
-    }
+    };
     memory::open_gap(w, 8 * n, 8 * i, 8);
     items::put_item(w, i, depth, code, at + 7, 1);
     Deed::Lead(i, n + 1)
@@ -67,10 +67,9 @@ pub fn alter(
         × (8 * n ≤ length w.old) × (length w.old < 524288) × (start ≤ n) × (depth ≤ start) }
     ensures { (s : List ℕ) (q : ℕ) (barren : Bool) → DeedSays s u.now at q w.old n start depth barren w.new result }
 {
-    let i = addressed(u, at, w, n, start, depth);
-    if n <= i {
+    let Some(i) = addressed(u, at, w, n, start, depth) else {
         return Deed::Not(9);
-    }
+    };
     if u[at + 6] == 2 {
         return Deed::Gone(remove(w, n, i, depth));
     }

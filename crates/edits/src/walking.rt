@@ -23,14 +23,15 @@ pub fn past_blocks(w: &[u8], start: usize, n: usize, depth: usize, code: usize, 
     let mut count: usize = 0;
     let mut mark = start;
     let mut nth: usize = 0;
+    // A `while`: it walks in steps of 64.
     while at + 64 <= n {
         let t = weigh(w, at, depth, code);
         if k <= count + t {
             return Reach {
-                at: at,
-                count: count,
-                mark: mark,
-                nth: nth,
+                at,
+                count,
+                mark,
+                nth,
             };
         }
         if 0 < t {
@@ -41,10 +42,10 @@ pub fn past_blocks(w: &[u8], start: usize, n: usize, depth: usize, code: usize, 
         at += 64;
     }
     Reach {
-        at: at,
-        count: count,
-        mark: mark,
-        nth: nth,
+        at,
+        count,
+        mark,
+        nth,
     }
 }
 
@@ -54,26 +55,25 @@ pub fn walk(w: &[u8], start: usize, n: usize, depth: usize, code: usize, k: usiz
     ensures { Walked w.now n depth code start k result }
 {
     let b = past_blocks(w, start, n, depth, code, k);
-    let mut at = b.at;
     let mut count = b.count;
     let mut mark = b.mark;
     let mut nth = b.nth;
-    while at < n {
+    for at in b.at..n {
         if number(w, 8 * at) < depth {
             return Reach {
-                at: at,
-                count: count,
-                mark: mark,
-                nth: nth,
+                at,
+                count,
+                mark,
+                nth,
             };
         }
         let t = twin(w, at, depth, code);
         if count + t == k {
             return Reach {
-                at: at,
+                at,
                 count: k,
-                mark: mark,
-                nth: nth,
+                mark,
+                nth,
             };
         }
         if 0 < t {
@@ -81,12 +81,11 @@ pub fn walk(w: &[u8], start: usize, n: usize, depth: usize, code: usize, k: usiz
             nth = t;
         }
         count += t;
-        at += 1;
     }
     Reach {
-        at: at,
-        count: count,
-        mark: mark,
-        nth: nth,
+        at: n,
+        count,
+        mark,
+        nth,
     }
 }

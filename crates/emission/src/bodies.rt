@@ -10,6 +10,7 @@ ghost use Rattle.emission.specs.Bodies.{joined, inas_fields};
 use cells::cell::u24_at;
 use cells::length::{body_length, inside};
 use memory::writing::{put_byte, put_part};
+use rules::tags;
 use writing::parts::put_entry;
 
 // Those of n bytes from `start` on that are in b.
@@ -19,9 +20,10 @@ fn put_inside(b: &[u8], start: usize, n: usize, out: &mut [u8], at: usize) -> us
 {
     let k = inside(b, start, n);
     if k == 0 {
-        return at;
+        at
+    } else {
+        put_part(out, at, b, start, k)
     }
-    put_part(out, at, b, start, k)
 }
 
 // The body of cell i.
@@ -32,9 +34,10 @@ pub fn put_body(d: &[u8], u: &[u8], c: &[u8], i: usize, out: &mut [u8], at: usiz
     let start = u24_at(c, 7 * i);
     let n = u24_at(c, 7 * i + 4);
     if c[7 * i + 3] == 0 {
-        return put_inside(d, start, n, out, at);
+        put_inside(d, start, n, out, at)
+    } else {
+        put_inside(u, start, n, out, at)
     }
-    put_inside(u, start, n, out, at)
 }
 
 // The bodies of n cells one after the other.
@@ -43,10 +46,8 @@ pub fn put_bodies(d: &[u8], u: &[u8], c: &[u8], n: usize, out: &mut [u8], at: us
     ensures { Wrote at (joined (bodies_of d.now u.now c.now n)) out.old result out.new }
 {
     let mut p = at;
-    let mut i = 0;
-    while i < n {
+    for i in 0..n {
         p = put_body(d, u, c, i, out, p);
-        i += 1;
     }
     p
 }
@@ -66,12 +67,10 @@ pub fn put_inas_entries(
 {
     let mut p = at;
     let mut pos = from;
-    let mut i = 0;
-    while i < n {
+    for i in 0..n {
         let size = body_length(d, u, c, i) + 1;
-        p = put_entry(out, p, 0x494e4153, size, pos);
+        p = put_entry(out, p, tags::INAS, size, pos);
         pos += size;
-        i += 1;
     }
     p
 }
@@ -82,11 +81,9 @@ pub fn put_inas_fields(d: &[u8], u: &[u8], c: &[u8], n: usize, out: &mut [u8], a
     ensures { Wrote at (contents (inas_fields (bodies_of d.now u.now c.now n))) out.old result out.new }
 {
     let mut p = at;
-    let mut i = 0;
-    while i < n {
+    for i in 0..n {
         let q = put_body(d, u, c, i, out, p);
         p = put_byte(out, q, 30);
-        i += 1;
     }
     p
 }

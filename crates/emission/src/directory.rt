@@ -9,6 +9,7 @@ use crate::bodies::put_inas_entries;
 use crate::identifier::{coordinate_tag, first_tag, ident_size};
 use crate::lists::{list_size, put_list_entry};
 use crate::measuring::{Sizes, foid_size};
+use rules::tags;
 use version::Version;
 use writing::parts::put_entry;
 
@@ -33,7 +34,7 @@ fn put_last_entries(
     let pos2 = pos + m.inas;
     let p2 = put_list_entry(out, p1, coordinate_tag(kind), coord, pos2);
     let pos3 = pos2 + list_size(coord);
-    put_list_entry(out, p2, 0x53504153, 15 * v.spas, pos3)
+    put_list_entry(out, p2, tags::SPAS, 15 * v.spas, pos3)
 }
 
 // The directory, without the 1E that ends it.
@@ -53,9 +54,9 @@ pub fn put_directory(
     let pos1 = ident_size(kind) + 1;
     let p1 = put_entry(out, at, first_tag(kind), pos1, 0);
     let foid = foid_size(v.foids);
-    let p2 = put_list_entry(out, p1, 0x464f4944, foid, pos1);
+    let p2 = put_list_entry(out, p1, tags::FOID, foid, pos1);
     let pos2 = pos1 + list_size(foid);
-    let p3 = put_list_entry(out, p2, 0x41545452, m.attr, pos2);
+    let p3 = put_list_entry(out, p2, tags::ATTR, m.attr, pos2);
     let pos3 = pos2 + list_size(m.attr);
     put_last_entries(d, u, inas, v, m, out, p3, pos3)
 }

@@ -7,7 +7,7 @@ ghost use Rattle.rules.specs.Written.{field_as, coord_tag};
 ghost use Rattle.emission.specs.Fields.{code_part, ident_part, ident_size};
 
 use memory::writing::{put_byte, put_little_endian};
-use rules::Kind;
+use rules::{Kind, tags};
 use version::Version;
 
 // RCNM.
@@ -15,18 +15,10 @@ fn record_name(kind: Kind) -> u8
     ensures { result ≡ rcnm kind }
 {
     match kind {
-        Kind::Info => {
-            return 150;
-        }
-        Kind::Point => {
-            return 110;
-        }
-        Kind::Multi => {
-            return 115;
-        }
-        Kind::Feature => {
-            return 100;
-        }
+        Kind::Info => 150,
+        Kind::Point => 110,
+        Kind::Multi => 115,
+        Kind::Feature => 100,
     }
 }
 
@@ -35,18 +27,10 @@ pub fn first_tag(kind: Kind) -> u32
     ensures { result ≡ tag_of kind }
 {
     match kind {
-        Kind::Info => {
-            return 0x49524944;
-        }
-        Kind::Point => {
-            return 0x50524944;
-        }
-        Kind::Multi => {
-            return 0x4d524944;
-        }
-        Kind::Feature => {
-            return 0x46524944;
-        }
+        Kind::Info => tags::IRID,
+        Kind::Point => tags::PRID,
+        Kind::Multi => tags::MRID,
+        Kind::Feature => tags::FRID,
     }
 }
 
@@ -55,18 +39,8 @@ pub fn coordinate_tag(kind: Kind) -> u32
     ensures { result ≡ coord_tag kind }
 {
     match kind {
-        Kind::Info => {
-            return 0x4332494c;
-        }
-        Kind::Point => {
-            return 0x43324954;
-        }
-        Kind::Multi => {
-            return 0x4332494c;
-        }
-        Kind::Feature => {
-            return 0x4332494c;
-        }
+        Kind::Point => tags::C2IT,
+        Kind::Info | Kind::Multi | Kind::Feature => tags::C2IL,
     }
 }
 
@@ -75,18 +49,8 @@ fn has_code(kind: Kind) -> bool
     ensures { result ≡ coded kind }
 {
     match kind {
-        Kind::Info => {
-            return true;
-        }
-        Kind::Point => {
-            return false;
-        }
-        Kind::Multi => {
-            return false;
-        }
-        Kind::Feature => {
-            return true;
-        }
+        Kind::Info | Kind::Feature => true,
+        Kind::Point | Kind::Multi => false,
     }
 }
 
@@ -94,10 +58,7 @@ fn has_code(kind: Kind) -> bool
 pub fn ident_size(kind: Kind) -> usize
     ensures { (result ≡ ident_size (coded kind)) × (result ≤ 10) }
 {
-    if has_code(kind) {
-        return 10;
-    }
-    8
+    if has_code(kind) { 10 } else { 8 }
 }
 
 // The code, where the kind has one.
@@ -106,9 +67,10 @@ fn put_code(kind: Kind, code: u16, out: &mut [u8], at: usize) -> usize
     ensures { Wrote at (code_part (coded kind) code) out.old result out.new }
 {
     if has_code(kind) {
-        return put_little_endian(out, at, 2, code as usize);
+        put_little_endian(out, at, 2, code as usize)
+    } else {
+        at
     }
-    at
 }
 
 // The identifier: RCNM, RCID, the code, RVER, RUIN 1.

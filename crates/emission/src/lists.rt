@@ -22,20 +22,14 @@ pub fn list_size(n: usize) -> usize
     requires { n ≤ 281474976710656 }
     ensures { (result ≡ list_size n) × (result ≤ n + 1) }
 {
-    if n == 0 {
-        return 0;
-    }
-    n + 1
+    if n == 0 { 0 } else { n + 1 }
 }
 
 // One field, or none.
 pub fn list_count(n: usize) -> usize
     ensures { (result ≡ list_count n) × (result ≤ 1) }
 {
-    if n == 0 {
-        return 0;
-    }
-    1
+    if n == 0 { 0 } else { 1 }
 }
 
 // The directory's entry of a list of n bytes at a position.
@@ -44,9 +38,10 @@ pub fn put_list_entry(out: &mut [u8], at: usize, tag: u32, n: usize, pos: usize)
     ensures { ListEntry tag n pos at out.old result out.new }
 {
     if n == 0 {
-        return at;
+        at
+    } else {
+        put_entry(out, at, tag, n + 1, pos)
     }
-    put_entry(out, at, tag, n + 1, pos)
 }
 
 // A list of n bytes of s from index `from` on, and its 1E.

@@ -21,10 +21,7 @@ pub struct Sizes {
 pub fn foid_size(foids: usize) -> usize
     ensures { (result ≡ foid_size foids) × (result ≤ 8) }
 {
-    if foids == 0 {
-        return 0;
-    }
-    8
+    if foids == 0 { 0 } else { 8 }
 }
 
 // The parts whose bytes are no multiples of their counts: the version keeps them, so that a record is not measured again after each modify.

@@ -33,9 +33,10 @@ fn put_foid(d: &[u8], u: &[u8], v: Version, out: &mut [u8], at: usize) -> usize
         return at;
     }
     if v.slice == 0 {
-        return put_list(d, v.foid, 8, out, at);
+        put_list(d, v.foid, 8, out, at)
+    } else {
+        put_list(u, v.foid, 8, out, at)
     }
-    put_list(u, v.foid, 8, out, at)
 }
 
 // What follows the attributes: the INAS fields, the coordinates and the spatial associations.
@@ -50,7 +51,7 @@ fn put_last(
     at: usize,
 ) -> usize
     requires few { Few v × (7 * v.inas ≤ length inas.now) × Placed d.now u.now list.now spas.now v }
-    requires inas_in_bounds { at + last_size v (sizes (inas_fields (bodies_of d.now u.now inas.now v.inas))) ≤ length out.old }
+    requires room { at + last_size v (sizes (inas_fields (bodies_of d.now u.now inas.now v.inas))) ≤ length out.old }
     ensures { Wrote at (contents (last_fields d.now u.now inas.now v (part 0 (8 * v.coord) list.now) (joined (bodies_of d.now u.now spas.now v.spas)))) out.old result out.new }
 {
     let p1 = put_inas_fields(d, u, inas, v.inas, out, at);
@@ -71,7 +72,7 @@ fn put_contents(
     at: usize,
 ) -> usize
     requires indexed { Indexed d.now u.now inas.now v m × Placed d.now u.now list.now spas.now v × Listed d.now u.now list.now v m }
-    requires m_in_bounds { at + (total v m).bytes ≤ length out.old }
+    requires room { at + (total v m).bytes ≤ length out.old }
     ensures { (f : Forest) → its d.now u.now list.now 0 v.attr ≡ flat 0 f → Wrote at (contents (version_fields d.now u.now inas.now v (tree_bytes f) (part 0 (8 * v.coord) list.now) (joined (bodies_of d.now u.now spas.now v.spas)))) out.old result out.new }
 {
     let p1 = put_first(v, out, at);

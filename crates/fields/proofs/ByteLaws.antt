@@ -2,6 +2,7 @@
 use Prim.Native.Nat.{ℕ, zero, suc, ◌+◌, ◌*◌, ◌/◌, ◌%◌, ◌^◌, ◌≤◌, ◌<◌, zero-le, suc-le-suc}
 use mathlib.Core.Path.{◌≡◌, refl, sym, ap, ◌∙◌}
 use mathlib.Core.Bool.{Bool, true, false, true≢false}
+use mathlib.Core.Logic.{◌⊎◌, inl, inr}
 use mathlib.Core.List.{List, [], ◌∷◌, ◌++◌}
 use native.Mathlib.Numerals.{add-one}
 use native.Mathlib.Nat.{not-suc-le-zero, le_of_suc-le-suc, pow-suc, div-lt_iff_lt-mul}
@@ -39,6 +40,13 @@ le4 l at h =
     let q : le 3 (drop (at + 1) l) ≡ get_or l (at + 1) 0 + 256 * le 2 (drop (at + 2) l) = rw e at (le_more 2 l (at + 1) (omega arith)) in
     omega (arith, le2 l at (omega arith))
 
+pub le4_bytes : (l : List ℕ) (at : ℕ) → at + 4 ≤ length l
+    → le 4 (drop at l) ≡ get_or l at 0 + 256 * get_or l (at + 1) 0 + 65536 * get_or l (at + 2) 0 + 16777216 * get_or l (at + 3) 0
+le4_bytes l at h =
+    let e : at + 2 + 1 ≡ at + 3 = omega arith in
+    let q : le 2 (drop (at + 2) l) ≡ get_or l (at + 2) 0 + 256 * get_or l (at + 3) 0 = rw e at (le2 l (at + 2) (omega arith)) in
+    omega (arith, le4 l at h, le2 l at (omega arith))
+
 -- ---- runs
 
 run_le_by : (t : Bool) (l : List ℕ) → run l ≤ length l → pick t 0 (suc (run l)) ≤ suc (length l)
@@ -60,18 +68,16 @@ module _ (l : List ℕ) (i e : ℕ) (inv : e ≡ i + run (drop i l)) where
   unfolding run
   run_none h = let r : run (drop i l) ≡ 0 = rw (drop_of_length-le l h) in omega arith
 
-  pub run_30 : i < length l → get_or l i 0 ≡ 30 → i ≡ e
-  run_30 h q = let r : run (drop i l) ≡ 0 = run_at l i h ∙ simp (eq-eqb _ _ q) in omega arith
-
-  pub run_31 : i < length l → get_or l i 0 ≡ 31 → i ≡ e
-  run_31 h q = let r : run (drop i l) ≡ 0 = run_at l i h ∙ rw q in omega arith
+  pub run_sep : i < length l → (get_or l i 0 ≡ 30) ⊎ ((get_or l i 0 ≡ 30 → ⊥) × (get_or l i 0 ≡ 31)) → i ≡ e
+  run_sep h (inl q) = let r : run (drop i l) ≡ 0 = run_at l i h ∙ simp (eq-eqb _ _ q) in omega arith
+  run_sep h (inr q) = let r : run (drop i l) ≡ 0 = run_at l i h ∙ rw q.1 in omega arith
 
   pub run_more : i < length l → (get_or l i 0 ≡ 30 → ⊥) → (get_or l i 0 ≡ 31 → ⊥) → e ≡ i + 1 + run (drop (i + 1) l)
   run_more h n m =
       let r : run (drop i l) ≡ suc (run (drop (i + 1) l)) = run_at l i h ∙ simp (ne_eqb _ _ n, ne_eqb _ _ m) in
       omega arith
 
-pub ruleset text_turn = (run_none, run_30, run_31, run_more, arith)
+pub ruleset text_turn = (run_none, run_sep, run_more, arith)
 
 -- ---- the bytes of a number
 

@@ -9,6 +9,7 @@ use native.Mathlib.Omega.{arith}
 use lib.ListN.{length, drop, length-drop}
 use lib.Dec.{eqb}
 use borrow.Author.Tests.{eq-eqb, eqb-true}
+use Rattle.std.specs.Prelude.{Ok, Err}
 use Rattle.base.specs.Choice.{pick}
 use Rattle.base.specs.Walk.{Got, before}
 use Rattle.base.proofs.OptionLaws.{some_inj}
@@ -17,7 +18,6 @@ use Rattle.fields.specs.Values.{Val, values}
 use Rattle.fields.specs.Content.{tuples, many, tallied, tally, tally_field, is_whole, fill, content}
 use Rattle.fields.specs.Places.{ending_at}
 use Rattle.fields.specs.declared.Sub.{Sub}
-use Rattle.fields.specs.declared.Tally.TheVariants.{Whole, Short}
 use Rattle.fields.proofs.SizeLaws.{all_num, widths, sizes_bound, num_widths}
 use Rattle.fields.proofs.TupleLaws.{split, tuples_end, tuples_on, first_tuple}
 
@@ -34,7 +34,7 @@ pub record Filled (h t : List Sub) (b : List ℕ) : Type 0 where
 whole_ending : (k : ℕ) (g : Got (List Val)) → is_whole (tallied k g) ≡ true → g.ending ≡ 0
 whole_ending k g e = go (eqb g.ending 0) refl e
   where
-    go : (u : Bool) → eqb g.ending 0 ≡ u → is_whole (pick u (Whole (k + length g.items)) (Short (k + length g.items + 1))) ≡ true → g.ending ≡ 0
+    go : (u : Bool) → eqb g.ending 0 ≡ u → is_whole (pick u (Ok (k + length g.items)) (Err (k + length g.items + 1))) ≡ true → g.ending ≡ 0
     go true q z = eqb-true g.ending 0 q
     go false q z = absurd (true≢false (sym z))
 
@@ -42,7 +42,7 @@ pub filled : (h t : List Sub) (b : List ℕ) → fill h t b ≡ true → Filled 
 unfolding fill tally_field tally ending_at content
 filled h t b e = go (sizes h b) refl e
   where
-    go : (o : Option ℕ) → sizes h b ≡ o → is_whole (on_size o (Short 0) (λ n. tally t (drop n b) 0)) ≡ true → Filled h t b
+    go : (o : Option ℕ) → sizes h b ≡ o → is_whole (on_size o (Err 0) (λ n. tally t (drop n b) 0)) ≡ true → Filled h t b
     go none q z = absurd (true≢false (sym z))
     go (some n) q z = record {
       bytes = n;
@@ -63,20 +63,20 @@ module _ (h t : List Sub) (b : List ℕ) where
   fills n q z = ap is_whole (field_some h t b n q) ∙ simp (eq-eqb (tuples t (drop n b)).ending 0 z)
 
   -- the count is that of the tuples
-  pub fill_count : fill h t b ≡ true → tally_field h t b ≡ Whole (length (content h t b).tuples)
+  pub fill_count : fill h t b ≡ true → tally_field h t b ≡ Ok (length (content h t b).tuples)
   unfolding ending_at tally many
   fill_count e =
       let r = filled h t b e in
       field_some h t b r.bytes r.taken
       ∙ simp (eq-eqb (tuples t (drop r.bytes b)).ending 0 r.rest)
-      (ap Whole (zero-add (length (many t (drop r.bytes b))) ∙ ap length (sym r.found)))
+      (ap Ok (zero-add (length (many t (drop r.bytes b))) ∙ ap length (sym r.found)))
 
-  pub count_fill : (n : ℕ) → tally_field h t b ≡ Whole n → fill h t b ≡ true
+  pub count_fill : (n : ℕ) → tally_field h t b ≡ Ok n → fill h t b ≡ true
   unfolding fill
   count_fill n e = ap is_whole e
 
-  pub count_is : (n : ℕ) → tally_field h t b ≡ Whole n → n ≡ length (content h t b).tuples
-  count_is n e = let q : tally_field h t b ≡ Whole (length (content h t b).tuples) = fill_count (count_fill n e) in cc
+  pub count_is : (n : ℕ) → tally_field h t b ≡ Ok n → n ≡ length (content h t b).tuples
+  count_is n e = let q : tally_field h t b ≡ Ok (length (content h t b).tuples) = fill_count (count_fill n e) in cc
 
 -- ---- heads of numbers, and fields without a head or without tuples
 

@@ -7,6 +7,7 @@ use mathlib.Core.List.{List}
 use native.Mathlib.Omega.{arith}
 use lib.ListN.{length, take, drop}
 use lib.Seq.{slice}
+use Rattle.std.specs.Prelude.{Option as StdOption, Some, None, Result, Err}
 use Rattle.fields.specs.Table.{head_of, tuple_of}
 use Rattle.fields.specs.Sizes.{sizes}
 use Rattle.fields.specs.Content.{tally, tally_field}
@@ -14,18 +15,13 @@ use Rattle.fields.specs.Places.{subfields_end, head_place, tally_at, tuple_at, a
 use Rattle.fields.specs.Rows.{rows, table, shape_of}
 use Rattle.fields.specs.declared.Format.{Format}
 use Rattle.fields.specs.declared.Sub.{Sub}
-use Rattle.fields.specs.declared.Stop.{Stop}
-use Rattle.fields.specs.declared.Stop.TheVariants.{At, Bad}
-use Rattle.fields.specs.declared.Tally.{Tally}
-use Rattle.fields.specs.declared.Tally.TheVariants.{Short}
-use Rattle.fields.specs.declared.Tuple.TheVariants.{Until, Over}
 use Rattle.fields.specs.declared.row.Shape.{Shape}
 use Rattle.fields.proofs.SizeLaws.{subfields_bound, after_at, after_bad}
 use Rattle.fields.proofs.RowLaws.{its, rows_take, rows_all}
 use Rattle.fields.proofs.TupleLaws.{tuple_end, tuple_bad, tuple_to}
 use Rattle.fields.proofs.FieldLaws.{field_some}
 
-field_none : (h t : List Sub) (b : List ℕ) → sizes h b ≡ none → Short 0 ≡ tally_field h t b
+field_none : (h t : List Sub) (b : List ℕ) → sizes h b ≡ none → Err 0 ≡ tally_field h t b
 unfolding tally_field
 field_none h t b e = sym (rw e)
 
@@ -42,18 +38,18 @@ module _ (k : Format) (s : Shape) (e : s ≡ shape_of k) where
   pub tuple_in : s.2 ≤ rows
   tuple_in = (its k s e).tuple_in
 
-  module _ (b : List ℕ) (r : Stop) (got : r ≡ subfields_end (slice s.0 s.1 table) b 0) where
+  module _ (b : List ℕ) (r : StdOption ℕ) (got : r ≡ subfields_end (slice s.0 s.1 table) b 0) where
     head_end : r ≡ subfields_end (head_of k) b 0
     head_end = got ∙ ap (λ (ds : List Sub). subfields_end ds b 0) (its k s e).head_is
 
-    pub head_inside : (n : ℕ) → r ≡ At n → n ≤ length b
+    pub head_inside : (n : ℕ) → r ≡ Some n → n ≤ length b
     head_inside n q = subfields_bound (head_of k) b 0 n (omega arith) (sym head_end ∙ q)
 
-    pub field_bad : r ≡ Bad → Short 0 ≡ tally_field (head_of k) (tuple_of k) b
+    pub field_bad : r ≡ None → Err 0 ≡ tally_field (head_of k) (tuple_of k) b
     unfolding subfields_end
     field_bad q = field_none (head_of k) (tuple_of k) b (after_bad 0 (sizes (head_of k) b) (sym head_end ∙ q))
 
-    pub field_on : (n : ℕ) → r ≡ At n → (y : Tally) → y ≡ tally_at (slice s.1 s.2 table) b n 0 → y ≡ tally_field (head_of k) (tuple_of k) b
+    pub field_on : (n : ℕ) → r ≡ Some n → (y : Result ℕ ℕ) → y ≡ tally_at (slice s.1 s.2 table) b n 0 → y ≡ tally_field (head_of k) (tuple_of k) b
     unfolding subfields_end tally_at
     field_on n q y z =
         let u = after_at 0 n (sizes (head_of k) b) (sym head_end ∙ q) in
@@ -63,20 +59,20 @@ module _ (k : Format) (s : Shape) (e : s ≡ shape_of k) where
         ∙ ap (λ (j : ℕ). tally (tuple_of k) (drop j b) 0) m
         ∙ sym (field_some (head_of k) (tuple_of k) b u.0 u.1)
 
-  module _ (b : List ℕ) (at : ℕ) (h : at < length b) (r : Stop) (got : r ≡ subfields_end (slice s.1 s.2 table) b at) where
+  module _ (b : List ℕ) (at : ℕ) (h : at < length b) (r : StdOption ℕ) (got : r ≡ subfields_end (slice s.1 s.2 table) b at) where
     tuple_stop : subfields_end (tuple_of k) b at ≡ r
     tuple_stop = sym (got ∙ ap (λ (ds : List Sub). subfields_end ds b at) (its k s e).tuple_is)
 
-    pub rows_over : r ≡ Bad → Over ≡ tuple_at (tuple_of k) b at
+    pub rows_over : r ≡ None → None ≡ tuple_at (tuple_of k) b at
     rows_over q = tuple_bad (tuple_of k) b at h (tuple_stop ∙ q)
 
-    pub rows_until : (n : ℕ) → r ≡ At n → Until n ≡ tuple_at (tuple_of k) b at
+    pub rows_until : (n : ℕ) → r ≡ Some n → Some n ≡ tuple_at (tuple_of k) b at
     rows_until n q = tuple_to (tuple_of k) b at h n (tuple_stop ∙ q)
 
   pub place_in_lem : (j : ℕ) → j < s.1 - s.0 → s.0 + j ≤ rows
   place_in_lem j h = let q : s.1 ≤ rows = head_in in omega arith
 
-  module _ (b : List ℕ) (j : ℕ) (r : Stop) where
+  module _ (b : List ℕ) (j : ℕ) (r : StdOption ℕ) where
     place_by : (ds : List Sub) → r ≡ subfields_end ds b 0 → take j (slice s.0 s.1 table) ≡ ds → r ≡ head_place (head_of k) j b
     unfolding head_place
     place_by ds got q =

@@ -10,6 +10,7 @@ use lib.Arith.{lt_of_le-ne}
 use lib.ListN.{length, get_or, take, drop}
 use lib.Seq.{slice, slice-cons, slice_empty, length-slice, take-take, take-nil, take_all}
 use lib.Dec.{T, leb, lit≤}
+use Rattle.std.specs.Prelude.{Option as StdOption, Some, None}
 use Rattle.base.specs.Choice.{pick}
 use Rattle.fields.specs.Table.{head_of, tuple_of}
 use Rattle.fields.specs.Places.{subfield_end, subfields_end, is_raw, all_raw}
@@ -18,8 +19,6 @@ use Rattle.fields.specs.declared.Format.{Format}
 use Rattle.fields.specs.declared.Format.TheVariants.{Dsid, DsidUpdate, Irid, IridNew, Prid, PridNew, Mrid, MridNew, Frid, FridNew, Foid, Attr, AttrNew, InasNew, InasGone, Spas, SpasNew, Cocc, C2it, C2il}
 use Rattle.fields.specs.declared.Sub.{Sub}
 use Rattle.fields.specs.declared.Sub.TheVariants.{Text}
-use Rattle.fields.specs.declared.Stop.{Stop}
-use Rattle.fields.specs.declared.Stop.TheVariants.{At, Bad}
 use Rattle.fields.specs.declared.row.Shape.{Shape}
 use Rattle.fields.proofs.SizeLaws.{next, end_nil, end_cons, subfield_bound}
 
@@ -96,7 +95,7 @@ rows_all f t j k h = take_all j (slice f t table) (le_trans (le_of_eq (length-sl
 
 -- ---- the ways through a loop over rows: where their subfields end
 
-module _ (j to : ℕ) (d : Sub) (b : List ℕ) (p : ℕ) (r W : Stop)
+module _ (j to : ℕ) (d : Sub) (b : List ℕ) (p : ℕ) (r W : StdOption ℕ)
     (h : j < to) (k : to ≤ rows) (row : d ≡ get_or table j Text) (got : r ≡ subfield_end d b p) (inv : subfields_end (slice j to table) b p ≡ W) where
   here : W ≡ next r (subfields_end (slice (j + 1) to table) b)
   here =
@@ -106,16 +105,16 @@ module _ (j to : ℕ) (d : Sub) (b : List ℕ) (p : ℕ) (r W : Stop)
       ∙ end_cons (get_or table j Text) (slice (suc j) to table) b p
       ∙ rw (← row, ← got, add-one)
 
-  pub row_bad : r ≡ Bad → Bad ≡ W
+  pub row_bad : r ≡ None → None ≡ W
   row_bad e = sym (here ∙ rw e)
 
-  pub row_on : (n : ℕ) → r ≡ At n → subfields_end (slice (j + 1) to table) b n ≡ W
+  pub row_on : (n : ℕ) → r ≡ Some n → subfields_end (slice (j + 1) to table) b n ≡ W
   row_on n e = sym (here ∙ rw e)
 
-pub row_in : (d : Sub) (b : List ℕ) (p n : ℕ) (r : Stop) → p ≤ length b → r ≡ subfield_end d b p → r ≡ At n → n ≤ length b
+pub row_in : (d : Sub) (b : List ℕ) (p n : ℕ) (r : StdOption ℕ) → p ≤ length b → r ≡ subfield_end d b p → r ≡ Some n → n ≤ length b
 row_in d b p n r h got e = subfield_bound d b p n h (sym got ∙ e)
 
-pub row_end : (j to : ℕ) (b : List ℕ) (p : ℕ) (W : Stop) → to ≤ j → j ≤ to → subfields_end (slice j to table) b p ≡ W → At p ≡ W
+pub row_end : (j to : ℕ) (b : List ℕ) (p : ℕ) (W : StdOption ℕ) → to ≤ j → j ≤ to → subfields_end (slice j to table) b p ≡ W → Some p ≡ W
 row_end j to b p W g h inv =
     let e : j ≡ to = omega arith in
     sym (ap (λ (k : ℕ). subfields_end (slice k to table) b p) e ∙ ap (λ (ds : List Sub). subfields_end ds b p) (slice_empty to table) ∙ end_nil b p) ∙ inv

@@ -10,6 +10,7 @@ use lib.ListN.{length, get_or, drop, length-drop}
 use lib.Seq.{get_or-drop, drop-drop}
 use lib.Dec.{leb, ltb, eqb}
 use borrow.Author.Tests.{eq-eqb, ne_eqb, le-leb, lt-leb, lt-ltb, le-ltb, leb-true, ltb-true}
+use Rattle.std.specs.Prelude.{Option as StdOption, Some, None}
 use Rattle.base.specs.Choice.{pick, both}
 use Rattle.base.proofs.ChoiceLaws.{both_hold}
 use Rattle.base.proofs.OptionLaws.{some_inj}
@@ -20,8 +21,6 @@ use Rattle.fields.specs.Valid.{allows}
 use Rattle.fields.specs.Places.{after, subfield_end, subfields_end}
 use Rattle.fields.specs.declared.Sub.{Sub}
 use Rattle.fields.specs.declared.Sub.TheVariants.{B11, B12, B14, Among, Raw, Text, Fixed}
-use Rattle.fields.specs.declared.Stop.{Stop}
-use Rattle.fields.specs.declared.Stop.TheVariants.{At, Bad}
 use Rattle.fields.proofs.ByteLaws.{run_le}
 
 -- ---- sizes that are there or not
@@ -150,78 +149,78 @@ sizes_bound (d ∷ ds) l n e =
 -- ---- a subfield at a place, test by test
 
 -- the end of a subfield by its format
-pub by_format : (d e : Sub) (b : List ℕ) (at : ℕ) (r : Stop) → r ≡ subfield_end e b at → d ≡ e → r ≡ subfield_end d b at
+pub by_format : (d e : Sub) (b : List ℕ) (at : ℕ) (r : StdOption ℕ) → r ≡ subfield_end e b at → d ≡ e → r ≡ subfield_end d b at
 by_format d e b at r q f = q ∙ ap (λ (x : Sub). subfield_end x b at) (sym f)
 
-after_pick : (at n : ℕ) (t : Bool) → after at (pick t (some n) none) ≡ pick t (At (at + n)) Bad
+after_pick : (at n : ℕ) (t : Bool) → after at (pick t (some n) none) ≡ pick t (Some (at + n)) None
 after_pick at n true = refl
 after_pick at n false = refl
 
 -- a number
 module _ (d : Sub) (b : List ℕ) (at : ℕ) (i : is_num d ≡ true) where
-  pub num_short : length b - at < width d → Bad ≡ subfield_end d b at
+  pub num_short : length b - at < width d → None ≡ subfield_end d b at
   unfolding subfield_end num_size
   num_short h = sym (ap (after at) (num_size_lem d (drop at b) i) ∙ simp (length-drop, lt-leb (width d) (length b - at) h))
 
-  pub num_there : width d ≤ length b - at → (v : ℕ) → v ≡ le (width d) (drop at b) → (r : Stop) → r ≡ pick (allows d v) (At (at + width d)) Bad
+  pub num_there : width d ≤ length b - at → (v : ℕ) → v ≡ le (width d) (drop at b) → (r : StdOption ℕ) → r ≡ pick (allows d v) (Some (at + width d)) None
       → r ≡ subfield_end d b at
   unfolding subfield_end num_size
   num_there h v e r q =
-      let there : subfield_end d b at ≡ pick (allows d (le (width d) (drop at b))) (At (at + width d)) Bad =
+      let there : subfield_end d b at ≡ pick (allows d (le (width d) (drop at b))) (Some (at + width d)) None =
       ap (after at) (num_size_lem d (drop at b) i)
       ∙ simp (length-drop, le-leb (width d) (length b - at) h) (after_pick at (width d) (allows d (le (width d) (drop at b))))
       in
-      q ∙ ap (λ (u : ℕ). pick (allows d u) (At (at + width d)) Bad) e ∙ sym there
+      q ∙ ap (λ (u : ℕ). pick (allows d u) (Some (at + width d)) None) e ∙ sym there
 
 -- any bytes
-pub raw_there : (n : ℕ) (b : List ℕ) (at : ℕ) → n ≤ length b - at → At (at + n) ≡ subfield_end (Raw n) b at
+pub raw_there : (n : ℕ) (b : List ℕ) (at : ℕ) → n ≤ length b - at → Some (at + n) ≡ subfield_end (Raw n) b at
 unfolding allows
-raw_there n b at h = num_there (Raw n) b at refl h (le n (drop at b)) refl (At (at + n)) refl
+raw_there n b at h = num_there (Raw n) b at refl h (le n (drop at b)) refl (Some (at + n)) refl
 
 -- a text; e, the end of the run
 module _ (b : List ℕ) (at e : ℕ) (q : e ≡ at + run (drop at b)) where
-  pub text_none : at ≤ length b → length b ≤ e → Bad ≡ subfield_end Text b at
+  pub text_none : at ≤ length b → length b ≤ e → None ≡ subfield_end Text b at
   unfolding subfield_end size text_size
   text_none g h = sym (simp (length-drop, le-ltb (run (drop at b)) (length b - at) (omega arith)))
 
-  pub text_there : e < length b → get_or b e 0 ≡ 31 → At (e + 1) ≡ subfield_end Text b at
+  pub text_there : e < length b → get_or b e 0 ≡ 31 → Some (e + 1) ≡ subfield_end Text b at
   unfolding subfield_end size text_size
   text_there h k =
       let k' : get_or b (at + run (drop at b)) 0 ≡ 31 = rw q at k in
       let s : e + 1 ≡ at + (run (drop at b) + 1) = omega arith in
-      ap At s ∙ sym (simp (length-drop, get_or-drop, lt-ltb (run (drop at b)) (length b - at) (omega arith), eq-eqb _ _ k'))
+      ap Some s ∙ sym (simp (length-drop, get_or-drop, lt-ltb (run (drop at b)) (length b - at) (omega arith), eq-eqb _ _ k'))
 
-  pub text_other : e < length b → (get_or b e 0 ≡ 31 → ⊥) → Bad ≡ subfield_end Text b at
+  pub text_other : e < length b → (get_or b e 0 ≡ 31 → ⊥) → None ≡ subfield_end Text b at
   unfolding subfield_end size text_size
   text_other h k =
       let k' : get_or b (at + run (drop at b)) 0 ≡ 31 → ⊥ = rw q at k in
       sym (simp (length-drop, get_or-drop, lt-ltb (run (drop at b)) (length b - at) (omega arith), ne_eqb _ _ k'))
 
-  pub fixed_short : (n : ℕ) → e - at < n → Bad ≡ subfield_end (Fixed n) b at
+  pub fixed_short : (n : ℕ) → e - at < n → None ≡ subfield_end (Fixed n) b at
   unfolding subfield_end size fixed_size
   fixed_short n h = sym (simp (lt-leb n (run (drop at b)) (omega arith)))
 
-  pub fixed_there : (n : ℕ) → n ≤ e - at → At (at + n) ≡ subfield_end (Fixed n) b at
+  pub fixed_there : (n : ℕ) → n ≤ e - at → Some (at + n) ≡ subfield_end (Fixed n) b at
   unfolding subfield_end size fixed_size
   fixed_there n h = sym (simp (le-leb n (run (drop at b)) (omega arith)))
 
 -- ---- where subfields end
 
-not_at {ℓ} : {X : Type ℓ} {n : ℕ} → Bad ≡ At n → X
+pub not_at {ℓ} : {X : Type ℓ} {n : ℕ} → None ≡ Some n → X
 not_at e = absurd (let z : ◌≡◌ {A = ℕ} 0 1 = cc in omega arith)
 
-pub at_inj : {m n : ℕ} → At m ≡ At n → m ≡ n
+pub at_inj : {m n : ℕ} → Some m ≡ Some n → m ≡ n
 at_inj e = cc
 
-pub after_bad : (at : ℕ) (o : Option ℕ) → after at o ≡ Bad → o ≡ none
+pub after_bad : (at : ℕ) (o : Option ℕ) → after at o ≡ None → o ≡ none
 after_bad at none e = refl
 after_bad at (some m) e = not_at (sym e)
 
-pub after_at : (at n : ℕ) (o : Option ℕ) → after at o ≡ At n → (m : ℕ) × (o ≡ some m) × (at + m ≡ n)
+pub after_at : (at n : ℕ) (o : Option ℕ) → after at o ≡ Some n → (m : ℕ) × (o ≡ some m) × (at + m ≡ n)
 after_at at n none e = not_at e
 after_at at n (some m) e = (m, refl, at_inj e)
 
-pub subfield_bound : (d : Sub) (b : List ℕ) (at n : ℕ) → at ≤ length b → subfield_end d b at ≡ At n → n ≤ length b
+pub subfield_bound : (d : Sub) (b : List ℕ) (at n : ℕ) → at ≤ length b → subfield_end d b at ≡ Some n → n ≤ length b
 unfolding subfield_end
 subfield_bound d b at n h e =
     let r = after_at at n (size d (drop at b)) e in
@@ -229,7 +228,7 @@ subfield_bound d b at n h e =
     let s : at + r.0 ≡ n = r.2 in
     omega (arith, length-drop at b)
 
-pub subfields_bound : (ds : List Sub) (b : List ℕ) (at n : ℕ) → at ≤ length b → subfields_end ds b at ≡ At n → n ≤ length b
+pub subfields_bound : (ds : List Sub) (b : List ℕ) (at n : ℕ) → at ≤ length b → subfields_end ds b at ≡ Some n → n ≤ length b
 unfolding subfields_end
 subfields_bound ds b at n h e =
     let r = after_at at n (sizes ds (drop at b)) e in
@@ -238,17 +237,17 @@ subfields_bound ds b at n h e =
     omega (arith, length-drop at b)
 
 -- one subfield's end, and then the end of the others from there
-abbrev pub next : Stop → (ℕ → Stop) → Stop
-next (At n) f = f n
-next Bad f = Bad
+abbrev pub next : StdOption ℕ → (ℕ → StdOption ℕ) → StdOption ℕ
+next (Some n) f = f n
+next None f = None
 
-pub end_nil : (b : List ℕ) (at : ℕ) → subfields_end [] b at ≡ At at
+pub end_nil : (b : List ℕ) (at : ℕ) → subfields_end [] b at ≡ Some at
 unfolding subfields_end sizes
-end_nil b at = ap At (add-zero at)
+end_nil b at = ap Some (add-zero at)
 
 after_plus : (at n : ℕ) (o : Option ℕ) → after at (plus n o) ≡ after (at + n) o
 after_plus at n none = refl
-after_plus at n (some m) = ap At (sym (add_assoc at n m))
+after_plus at n (some m) = ap Some (sym (add_assoc at n m))
 
 end_by : (ds : List Sub) (b : List ℕ) (at : ℕ) (o : Option ℕ)
     → after at (on_size o none (λ n. plus n (sizes ds (drop n (drop at b))))) ≡ next (after at o) (subfields_end ds b)

@@ -12,6 +12,7 @@ use lib.ListN.{length, drop, length-drop}
 use lib.Seq.{drop-drop}
 use lib.Dec.{ltb, eqb}
 use borrow.Author.Tests.{eq-eqb, ne_eqb, lt-ltb, le-ltb, ltb-true}
+use Rattle.std.specs.Prelude.{Option as StdOption, Some, None}
 use Rattle.base.specs.Choice.{pick}
 use Rattle.base.specs.Lists.{empty}
 use Rattle.base.specs.Walk.{Step, more, over, Got, before, follow, Lower}
@@ -22,10 +23,7 @@ use Rattle.fields.specs.Values.{Val, values}
 use Rattle.fields.specs.Content.{tuple_step, tuples, many}
 use Rattle.fields.specs.Places.{after, subfields_end, ending_at, tuple_at}
 use Rattle.fields.specs.declared.Sub.{Sub}
-use Rattle.fields.specs.declared.Stop.TheVariants.{At, Bad}
-use Rattle.fields.specs.declared.Tuple.{Tuple}
-use Rattle.fields.specs.declared.Tuple.TheVariants.{Until, Over}
-use Rattle.fields.proofs.SizeLaws.{sizes_bound, after_at, after_bad}
+use Rattle.fields.proofs.SizeLaws.{sizes_bound, not_at, at_inj, after_at, after_bad}
 
 -- at most, or more
 pub split {ℓ} : {X : Type ℓ} (a b : ℕ) → (a ≤ b → X) → (b < a → X) → X
@@ -127,17 +125,17 @@ module _ (t : List Sub) (b : List ℕ) (p : ℕ) where
   pub here_end : length b ≤ p → tuples t (drop p b) ≡ record { items = []; ending = 0 }
   here_end h = tuples_end t (drop p b) (omega (arith, length-drop p b))
 
-  pub here_bad : p < length b → subfields_end t b p ≡ Bad → tuples t (drop p b) ≡ record { items = []; ending = 5 }
+  pub here_bad : p < length b → subfields_end t b p ≡ None → tuples t (drop p b) ≡ record { items = []; ending = 5 }
   unfolding subfields_end
   here_bad h e = tuples_bad t (drop p b) (omega (arith, length-drop p b)) (after_bad p (sizes t (drop p b)) e)
 
-  pub here_stuck : p < length b → (n : ℕ) → subfields_end t b p ≡ At n → n ≤ p → tuples t (drop p b) ≡ record { items = []; ending = 5 }
+  pub here_stuck : p < length b → (n : ℕ) → subfields_end t b p ≡ Some n → n ≤ p → tuples t (drop p b) ≡ record { items = []; ending = 5 }
   unfolding subfields_end
   here_stuck h n e q =
       let r = after_at p n (sizes t (drop p b)) e in
       tuples_stuck t (drop p b) (omega (arith, length-drop p b)) r.0 r.1 (omega (arith, r.2))
 
-  pub here_on : p < length b → (n : ℕ) → subfields_end t b p ≡ At n → p < n → tuples t (drop p b) ≡ before (values t (drop p b)) (tuples t (drop n b))
+  pub here_on : p < length b → (n : ℕ) → subfields_end t b p ≡ Some n → p < n → tuples t (drop p b) ≡ before (values t (drop p b)) (tuples t (drop n b))
   unfolding subfields_end
   here_on h n e q =
       let r = after_at p n (sizes t (drop p b)) e in
@@ -147,25 +145,19 @@ module _ (t : List Sub) (b : List ℕ) (p : ℕ) where
 -- ---- the answers of the code
 
 module _ (t : List Sub) (b : List ℕ) (at : ℕ) where
-  pub tuple_end : length b ≤ at → Over ≡ tuple_at t b at
+  pub tuple_end : length b ≤ at → None ≡ tuple_at t b at
   unfolding tuple_at
   tuple_end h = sym (simp (le-ltb at (length b) h))
 
-  pub tuple_bad : at < length b → subfields_end t b at ≡ Bad → Over ≡ tuple_at t b at
+  pub tuple_bad : at < length b → subfields_end t b at ≡ None → None ≡ tuple_at t b at
   unfolding tuple_at
   tuple_bad h e = sym (simp (lt-ltb at (length b) h, e))
 
-  pub tuple_to : at < length b → (n : ℕ) → subfields_end t b at ≡ At n → Until n ≡ tuple_at t b at
+  pub tuple_to : at < length b → (n : ℕ) → subfields_end t b at ≡ Some n → Some n ≡ tuple_at t b at
   unfolding tuple_at
   tuple_to h n e = sym (simp (lt-ltb at (length b) h, e))
 
 -- ---- for a caller's loop over the tuples of a field that they fill
-
-over_until {ℓ} : {X : Type ℓ} {n : ℕ} → Over ≡ Until n → X
-over_until e = absurd (let z : ◌≡◌ {A = ℕ} 0 1 = cc in omega arith)
-
-until_inj : {m n : ℕ} → Until m ≡ Until n → m ≡ n
-until_inj e = cc
 
 -- a tuple from p to n, and those behind it
 pub record Next (t : List Sub) (b : List ℕ) (p n : ℕ) : Type 0 where
@@ -176,7 +168,7 @@ pub record Next (t : List Sub) (b : List ℕ) (p n : ℕ) : Type 0 where
   pub found : many t (drop p b) ≡ values t (drop p b) ∷ many t (drop n b)
 
 -- while a byte is left there is a next tuple
-pub tuple_there : (t : List Sub) (b : List ℕ) (p : ℕ) → p < length b → ending_at t b p ≡ 0 → (n : ℕ) × (tuple_at t b p ≡ Until n) × Next t b p n
+pub tuple_there : (t : List Sub) (b : List ℕ) (p : ℕ) → p < length b → ending_at t b p ≡ 0 → (n : ℕ) × (tuple_at t b p ≡ Some n) × Next t b p n
 unfolding ending_at subfields_end many
 tuple_there t b p h z =
     let r = first_tuple t (drop p b) (omega (arith, length-drop p b)) z in
@@ -193,16 +185,16 @@ tuple_there t b p h z =
       },
     )
 
-module _ (t : List Sub) (b : List ℕ) (p : ℕ) (r : Tuple) (got : r ≡ tuple_at t b p) (z : ending_at t b p ≡ 0) where
+module _ (t : List Sub) (b : List ℕ) (p : ℕ) (r : StdOption ℕ) (got : r ≡ tuple_at t b p) (z : ending_at t b p ≡ 0) where
   -- a tuple that is found
-  pub tuple_next : (n : ℕ) → r ≡ Until n → Next t b p n
+  pub tuple_next : (n : ℕ) → r ≡ Some n → Next t b p n
   tuple_next n q =
-      split (length b) p (λ h. over_until (tuple_end t b p h ∙ sym got ∙ q))
-      (λ h. let x = tuple_there t b p h z in let e : x.0 ≡ n = until_inj (sym x.1 ∙ sym got ∙ q) in rw e at x.2)
+      split (length b) p (λ h. not_at (tuple_end t b p h ∙ sym got ∙ q))
+      (λ h. let x = tuple_there t b p h z in let e : x.0 ≡ n = at_inj (sym x.1 ∙ sym got ∙ q) in rw e at x.2)
 
   -- where none is found there is none
-  pub tuple_over : r ≡ Over → (length b ≤ p) × (many t (drop p b) ≡ [])
+  pub tuple_over : r ≡ None → (length b ≤ p) × (many t (drop p b) ≡ [])
   unfolding many
   tuple_over q =
       split (length b) p (λ h. (h, ap (λ (g : Got (List Val)). g.items) (here_end t b p h)))
-      (λ h. let x = tuple_there t b p h z in over_until (sym q ∙ got ∙ x.1))
+      (λ h. let x = tuple_there t b p h z in not_at (sym q ∙ got ∙ x.1))

@@ -11,6 +11,7 @@ use lib.ListN.{length, get_or, take, drop, length-drop}
 use lib.Seq.{drop-drop}
 use lib.Dec.{leb, eqb}
 use borrow.Author.Tests.{leb-true, eqb-true}
+use Rattle.std.specs.Prelude.{Option as StdOption, Some, None}
 use Rattle.base.specs.Choice.{both}
 use Rattle.base.proofs.ChoiceLaws.{both_hold}
 use Rattle.base.proofs.OptionLaws.{some_inj}
@@ -22,8 +23,6 @@ use Rattle.fields.specs.Content.{fill}
 use Rattle.fields.specs.Places.{subfield_end, subfields_end, head_place}
 use Rattle.fields.specs.declared.Sub.{Sub}
 use Rattle.fields.specs.declared.Sub.TheVariants.{B11, B12, B14, Among, Raw, Text, Fixed}
-use Rattle.fields.specs.declared.Stop.{Stop}
-use Rattle.fields.specs.declared.Stop.TheVariants.{At, Bad}
 use Rattle.fields.proofs.SizeLaws.{is_num, num_size_lem, num_some, text_some, size_bound, sizes_cons, at_inj, end_nil, end_cons}
 use Rattle.fields.proofs.TupleLaws.{Next}
 use Rattle.fields.proofs.FieldLaws.{filled}
@@ -99,7 +98,7 @@ end_first d ds b at m e = end_cons d ds b at ∙ rw e
 
 -- subfields of n bytes from a place on; subfield j of them stands at p
 pub record Stands (ds : List Sub) (j : ℕ) (b : List ℕ) (at n p : ℕ) : Type 0 where
-  pub before : subfields_end (take j ds) b at ≡ At p
+  pub before : subfields_end (take j ds) b at ≡ Some p
   pub number : (w : ℕ) → is_number ds j w ≡ true → (p + w ≤ length b) × (num_at (values ds (drop at b)) j ≡ le w (drop p b))
   pub allowed : (w : ℕ) → is_number ds j w ≡ true → allows (get_or ds j Text) (num_at (values ds (drop at b)) j) ≡ true
   pub text : is_text_at ds j ≡ true → (p + run (drop p b) < length b) × (text_at (values ds (drop at b)) j ≡ take (run (drop p b)) (drop p b))
@@ -192,22 +191,22 @@ module _ (h t : List Sub) (b : List ℕ) (e : fill h t b ≡ true) where
   head_allowed j w i = (head_stands j (is_there h j w i)).1.allowed w i
 
   -- r, what the walk to subfield j gives
-  module _ (j : ℕ) (r : Stop) (got : r ≡ head_place h j b) where
+  module _ (j : ℕ) (r : StdOption ℕ) (got : r ≡ head_place h j b) where
     -- it comes there
-    pub place_found : j < length h → r ≡ Bad → ⊥
+    pub place_found : j < length h → r ≡ None → ⊥
     unfolding head_place
     place_found g q = let x = head_stands j g in let z : ◌≡◌ {A = ℕ} 0 1 = cc x.1.before in omega arith
 
-    placed : (p : ℕ) → j < length h → r ≡ At p → Stands h j b 0 (filled h t b e).bytes p
+    placed : (p : ℕ) → j < length h → r ≡ Some p → Stands h j b 0 (filled h t b e).bytes p
     unfolding head_place
     placed p g q = let x = head_stands j g in let s : x.0 ≡ p = at_inj (sym x.1.before ∙ sym got ∙ q) in rw s at x.1
 
     -- a number there
-    pub placed_number : (p w : ℕ) → is_number h j w ≡ true → r ≡ At p → (p + w ≤ length b) × (num_at (values h b) j ≡ le w (drop p b))
+    pub placed_number : (p w : ℕ) → is_number h j w ≡ true → r ≡ Some p → (p + w ≤ length b) × (num_at (values h b) j ≡ le w (drop p b))
     placed_number p w i q = (placed p (is_there h j w i) q).number w i
 
     -- a text there, which ends before the field does
-    pub placed_text : (p : ℕ) → is_text_at h j ≡ true → r ≡ At p
+    pub placed_text : (p : ℕ) → is_text_at h j ≡ true → r ≡ Some p
         → (p + run (drop p b) < length b) × (text_at (values h b) j ≡ take (run (drop p b)) (drop p b))
     placed_text p i q = (placed p (text_there h j i) q).text i
 

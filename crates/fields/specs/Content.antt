@@ -1,5 +1,5 @@
 -- What a field holds: a head, and then tuples to its end.
-use Rattle.std.specs.Prelude.{ℕ, ◌+◌, Bool, true, false, List, ◌++◌, length, drop, ltb, eqb}
+use Rattle.std.specs.Prelude.{ℕ, ◌+◌, Bool, true, false, List, ◌++◌, length, drop, ltb, eqb, Result, Ok, Err}
 use Rattle.std.proofs.Math.Option.{Option, none, some}
 use Rattle.base.specs.Choice.{pick}
 use Rattle.base.specs.Lists.{empty}
@@ -7,8 +7,6 @@ use Rattle.base.specs.Walk.{Step, more, over, Got, walk}
 use Rattle.fields.specs.Sizes.{on_size, sizes, amount}
 use Rattle.fields.specs.Values.{Val, values, puts, put_all}
 use Rattle.fields.specs.declared.Sub.{Sub}
-use Rattle.fields.specs.declared.Tally.{Tally}
-use Rattle.fields.specs.declared.Tally.TheVariants.{Whole, Short}
 
 -- ---- tuples
 
@@ -27,28 +25,28 @@ unfoldable pub many : List Sub → List ℕ → List (List Val)
 many t l = (tuples t l).items
 
 -- k tuples and those of a walk counted: how many there are, or which is the first that does not stand
-abbrev pub tallied : ℕ → Got (List Val) → Tally
-tallied k g = pick (eqb g.ending 0) (Whole (k + length g.items)) (Short (k + length g.items + 1))
+abbrev pub tallied : ℕ → Got (List Val) → Result ℕ ℕ
+tallied k g = pick (eqb g.ending 0) (Ok (k + length g.items)) (Err (k + length g.items + 1))
 
 -- the number that it refuses the field with: 5 where a tuple or the head does not stand
-abbrev pub number_of : Tally → ℕ
-number_of (Whole n) = 0
-number_of (Short k) = 5
+abbrev pub number_of : Result ℕ ℕ → ℕ
+number_of (Ok n) = 0
+number_of (Err k) = 5
 
 -- the tuples counted, where k stand before the bytes
-unfoldable pub tally : List Sub → List ℕ → ℕ → Tally
+unfoldable pub tally : List Sub → List ℕ → ℕ → Result ℕ ℕ
 tally t l k = tallied k (tuples t l)
 
 -- ---- a field
 
 -- the tuples of a field counted; 0 is the number of a head that does not stand
-unfoldable pub tally_field : List Sub → List Sub → List ℕ → Tally
-tally_field h t l = on_size (sizes h l) (Short 0) (λ n. tally t (drop n l) 0)
+unfoldable pub tally_field : List Sub → List Sub → List ℕ → Result ℕ ℕ
+tally_field h t l = on_size (sizes h l) (Err 0) (λ n. tally t (drop n l) 0)
 
 -- every tuple stands
-abbrev pub is_whole : Tally → Bool
-is_whole (Whole n) = true
-is_whole (Short k) = false
+abbrev pub is_whole : Result ℕ ℕ → Bool
+is_whole (Ok n) = true
+is_whole (Err k) = false
 
 -- the subfields fill the field, each within its range
 unfoldable pub fill : List Sub → List Sub → List ℕ → Bool

@@ -6,22 +6,14 @@ ghost use Rattle.fields.specs.Content.{tally_field};
 ghost use Rattle.fields.specs.Places.{is_raw, all_raw, tally_at};
 ghost use Rattle.fields.specs.Rows.{table, rows};
 
-use crate::row::{row, rows_end, rows_of};
-use crate::{Format, Stop, Sub, Tally};
+use crate::row::{Shape, row, rows_end, rows_of};
+use crate::{Format, Sub};
 
 // Any bytes will do.
 fn is_raw(d: Sub) -> bool
     ensures { result ≡ is_raw d }
 {
-    match d {
-        Sub::Raw(_) => true,
-        Sub::B11(_, _) => false,
-        Sub::B12(_, _) => false,
-        Sub::B14(_, _) => false,
-        Sub::Among(_, _, _, _) => false,
-        Sub::Text => false,
-        Sub::Fixed(_) => false,
-    }
+    matches!(d, Sub::Raw(_))
 }
 
 // Each of the rows from..to takes any bytes.
@@ -29,74 +21,64 @@ fn all_raw(from: usize, to: usize) -> bool
     requires { (from ≤ to) × (to ≤ rows) }
     ensures { result ≡ all_raw (slice from to table) }
 {
-    let mut j = from;
-    while j < to {
-        if is_raw(row(j)) {
-            j += 1;
-        } else {
+    for j in from..to {
+        if !is_raw(row(j)) {
             return false;
         }
     }
     true
 }
 
-// How many tuples of the rows from..to fill the bytes from `at` on, or which is the first that does not stand.
-fn tally_each(from: usize, to: usize, b: &[u8], at: usize) -> Tally
+// How many tuples of the rows from..to fill the bytes from `at` on, or the number of the first that does not stand.
+fn tally_each(from: usize, to: usize, b: &[u8], at: usize) -> Result<usize, usize>
     requires { (from ≤ to) × (to ≤ rows) × (at ≤ length b.now) }
     ensures { result ≡ tally_at (slice from to table) b.now at 0 }
 {
     let mut p = at;
     let mut k: usize = 0;
     while p < b.len() {
-        let r = rows_end(from, to, b, p);
-        match r {
-            Stop::Bad => {
-                return Tally::Short(k + 1);
-            }
-            Stop::At(n) => {
-                if n <= p {
-                    return Tally::Short(k + 1);
-                }
-                p = n;
-                k += 1;
-            }
+        let Some(n) = rows_end(from, to, b, p) else {
+            return Err(k + 1);
+        };
+        if n <= p {
+            return Err(k + 1);
         }
+        p = n;
+        k += 1;
     }
-    Tally::Whole(k)
+    Ok(k)
 }
 
 // The same where any bytes will do: the first tuple's length tells how many there are.
-fn tally_raw(from: usize, to: usize, b: &[u8], at: usize) -> Tally
+fn tally_raw(from: usize, to: usize, b: &[u8], at: usize) -> Result<usize, usize>
     requires { (from ≤ to) × (to ≤ rows) × (at ≤ length b.now) × (all_raw (slice from to table) ≡ true) }
     ensures { result ≡ tally_at (slice from to table) b.now at 0 }
 {
     if b.len() <= at {
-        return Tally::Whole(0);
+        return Ok(0);
     }
-    let Stop::At(n) = rows_end(from, to, b, at) else {
-        return Tally::Short(1);
+    let Some(n) = rows_end(from, to, b, at) else {
+        return Err(1);
     };
     if n <= at {
-        return Tally::Short(1);
+        return Err(1);
     }
     let left = b.len() - at;
     let width = n - at;
     if left % width == 0 {
-        return Tally::Whole(left / width);
+        return Ok(left / width);
     }
-    Tally::Short(left / width + 1)
+    Err(left / width + 1)
 }
 
-// The tuples of a field of this format counted: a list of coordinates by its length alone.
-pub fn tally_of(k: Format, b: &[u8]) -> Tally
+// How many tuples fill a field of this format, or the number of the first that does not stand, 0 for the head (5). A list of coordinates is counted by
+// its length alone.
+pub fn tally_of(k: Format, b: &[u8]) -> Result<usize, usize>
     ensures { result ≡ tally_field (head_of k) (tuple_of k) b.now }
 {
-    let s = rows_of(k);
-    let head = s.0;
-    let tuple = s.1;
-    let end = s.2;
-    let Stop::At(n) = rows_end(head, tuple, b, 0) else {
-        return Tally::Short(0);
+    let Shape(head, tuple, end) = rows_of(k);
+    let Some(n) = rows_end(head, tuple, b, 0) else {
+        return Err(0);
     };
     if all_raw(tuple, end) {
         return tally_raw(tuple, end, b, n);

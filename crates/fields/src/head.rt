@@ -3,16 +3,14 @@ ghost use Rattle.std.specs.Prelude.{◌≡◌};
 ghost use Rattle.fields.specs.Table.{head_of};
 ghost use Rattle.fields.specs.Places.{head_place};
 
-use crate::row::{rows_end, rows_of};
-use crate::{Format, Stop};
+use crate::Format;
+use crate::row::{Shape, rows_end, rows_of};
 
-// Where subfield j, from 0, of the head begins; the end of the head for one that it does not have.
-pub fn head_place(k: Format, j: usize, b: &[u8]) -> Stop
+// Where subfield j, from 0, of the head begins; the end of the head for one that it does not have. None where the subfields up to it do not stand.
+pub fn head_place(k: Format, j: usize, b: &[u8]) -> Option<usize>
     ensures { result ≡ head_place (head_of k) j b.now }
 {
-    let s = rows_of(k);
-    let head = s.0;
-    let tuple = s.1;
+    let Shape(head, tuple, _) = rows_of(k);
     if j < tuple - head {
         return rows_end(head, head + j, b, 0);
     }

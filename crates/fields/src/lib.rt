@@ -53,24 +53,3 @@ pub enum Sub {
     Text,
     Fixed(usize),
 }
-
-// Where subfields end, or that they do not stand, which is no refusal by itself: that is the field's, by its Tally.
-#[derive(Clone, Copy)]
-pub enum Stop {
-    At(usize),
-    Bad,
-}
-
-// How many tuples fill a field, or the number of the first that does not stand, 0 for the head (5).
-#[derive(Clone, Copy)]
-pub enum Tally {
-    Whole(usize),
-    Short(usize),
-}
-
-// Where the tuple at a place ends, or that there is none.
-#[derive(Clone, Copy)]
-pub enum Tuple {
-    Until(usize),
-    Over,
-}

@@ -15,9 +15,7 @@ pub fn le16(b: &[u8], at: usize) -> u16
     requires { at + 2 ≤ length b.now }
     ensures { result ≡ le 2 (drop at b.now) }
 {
-    let low = b[at] as u16;
-    let high = b[at + 1] as u16;
-    low + 256 * high
+    u16::from_le_bytes([b[at], b[at + 1]])
 }
 
 // A number of 4 bytes.
@@ -25,18 +23,12 @@ pub fn le32(b: &[u8], at: usize) -> u32
     requires { at + 4 ≤ length b.now }
     ensures { result ≡ le 4 (drop at b.now) }
 {
-    let low = le16(b, at) as u32;
-    let high = le16(b, at + 2) as u32;
-    low + 65536 * high
+    u32::from_le_bytes([b[at], b[at + 1], b[at + 2], b[at + 3]])
 }
 
 // A coordinate: the number that 32 bits are with a sign.
 pub fn signed(v: u32) -> i32
     ensures { result ≡ signed32 v }
 {
-    if v < 2147483648 {
-        return v as i32;
-    }
-    let m = (4294967295 - v) as i32;
-    -1 - m
+    v.cast_signed()
 }

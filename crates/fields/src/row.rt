@@ -10,7 +10,7 @@ ghost use Rattle.fields.specs.Places.{subfields_end};
 
 use crate::often::{association_end, attribute_end, feature_end, point_end, spatial_end};
 use crate::subfield::subfield_end;
-use crate::{Format, Stop, Sub};
+use crate::{Format, Sub};
 
 // The rows of a format: those of its head from the first number to the second, those of its tuple from the second to the third.
 #[derive(Clone, Copy)]
@@ -252,57 +252,39 @@ pub fn rows_of(k: Format) -> Shape
     }
 }
 
-// Where the subfields of the rows from..to end, read from `at` on: row by row.
-fn table_end(from: usize, to: usize, b: &[u8], at: usize) -> Stop
+// Where the subfields of the rows from..to end, read from `at` on: row by row. None where one does not stand, which is no refusal by itself: that is
+// the field's, by its tally.
+fn table_end(from: usize, to: usize, b: &[u8], at: usize) -> Option<usize>
     requires { (from ≤ to) × (to ≤ rows) × (at ≤ length b.now) }
     ensures { result ≡ subfields_end (slice from to table) b.now at }
 {
-    let mut j = from;
     let mut p = at;
-    while j < to {
-        let r = subfield_end(row(j), b, p);
-        match r {
-            Stop::Bad => {
-                return Stop::Bad;
-            }
-            Stop::At(n) => {
-                p = n;
-            }
-        }
-        j += 1;
+    for j in from..to {
+        p = subfield_end(row(j), b, p)?;
     }
-    Stop::At(p)
+    Some(p)
 }
 
-// The same; those of which most bytes are made are read by name.
-pub fn rows_end(from: usize, to: usize, b: &[u8], at: usize) -> Stop
+// The same; those of which most bytes are made are read by name, attributes first. Tests one after the other, since a `match` on both numbers reads
+// attributes by a third more slowly.
+pub fn rows_end(from: usize, to: usize, b: &[u8], at: usize) -> Option<usize>
     requires { (from ≤ to) × (to ≤ rows) × (at ≤ length b.now) }
     ensures { result ≡ subfields_end (slice from to table) b.now at }
 {
-    if from == 68 {
-        if to == 73 {
-            return attribute_end(b, at);
-        }
+    if from == 68 && to == 73 {
+        return attribute_end(b, at);
     }
-    if from == 87 {
-        if to == 93 {
-            return spatial_end(b, at);
-        }
+    if from == 87 && to == 93 {
+        return spatial_end(b, at);
     }
-    if from == 37 {
-        if to == 42 {
-            return feature_end(b, at);
-        }
+    if from == 37 && to == 42 {
+        return feature_end(b, at);
     }
-    if from == 46 {
-        if to == 50 {
-            return point_end(b, at);
-        }
+    if from == 46 && to == 50 {
+        return point_end(b, at);
     }
-    if from == 63 {
-        if to == 68 {
-            return association_end(b, at);
-        }
+    if from == 63 && to == 68 {
+        return association_end(b, at);
     }
     table_end(from, to, b, at)
 }

@@ -7,16 +7,11 @@ pub fn text_end(b: &[u8], at: usize) -> usize
     requires { at ≤ length b.now }
     ensures { result ≡ at + run (drop at b.now) }
 {
-    let mut i = at;
-    while i < b.len() {
+    for i in at..b.len() {
         let x = b[i];
-        if x == 30 {
+        if x == 30 || x == 31 {
             return i;
         }
-        if x == 31 {
-            return i;
-        }
-        i += 1;
     }
-    i
+    b.len()
 }

@@ -3,21 +3,16 @@ ghost use Rattle.std.specs.Prelude.{◌≡◌};
 ghost use Rattle.fields.specs.Table.{tuple_of};
 ghost use Rattle.fields.specs.Places.{tuple_at};
 
-use crate::row::{rows_end, rows_of};
-use crate::{Format, Stop, Tuple};
+use crate::Format;
+use crate::row::{Shape, rows_end, rows_of};
 
-// Where the tuple at `at` ends.
-pub fn tuple_at(k: Format, b: &[u8], at: usize) -> Tuple
+// Where the tuple at `at` ends, if there is one.
+pub fn tuple_at(k: Format, b: &[u8], at: usize) -> Option<usize>
     ensures { result ≡ tuple_at (tuple_of k) b.now at }
 {
     if b.len() <= at {
-        return Tuple::Over;
+        return None;
     }
-    let s = rows_of(k);
-    let tuple = s.1;
-    let end = s.2;
-    let Stop::At(n) = rows_end(tuple, end, b, at) else {
-        return Tuple::Over;
-    };
-    Tuple::Until(n)
+    let Shape(_, tuple, end) = rows_of(k);
+    rows_end(tuple, end, b, at)
 }

@@ -8,20 +8,19 @@ use borrow.Author.Tests.{le-ltb}
 use lib.Dec.{eqb, ltb}
 use lib.ListN.{length, take, drop}
 use lib.Seq.{take-take, get_or-take, length-take-le}
+use Rattle.std.specs.Prelude.{Option, Some, None, Result, Ok, Err}
 use Rattle.base.specs.Choice.{both}
 use Rattle.base.specs.Lists.{each}
 use Rattle.base.proofs.ChoiceLaws.{by_test}
 use Rattle.base.proofs.ListLaws.{drop_take}
 use Rattle.skeleton.specs.Digits.{digits, digits_from, number_at}
-use Rattle.skeleton.specs.Directory.{fields_of}
 use Rattle.skeleton.specs.File.{cut_out}
 use Rattle.skeleton.specs.Leader.{fits_byte, shaped, template, within, stated_of, leader_of}
 use Rattle.skeleton.specs.Place.{between, fields_at}
-use Rattle.skeleton.specs.Record.{with_directory, record_at}
-use Rattle.skeleton.specs.declared.digits.Number.{Number}
-use Rattle.skeleton.specs.declared.digits.Number.TheVariants.{Value, NotDigits}
+use Rattle.skeleton.specs.Record.{found_right, with_directory, record_at}
 use Rattle.skeleton.specs.declared.leader.Head.{Head}
-use Rattle.skeleton.specs.declared.leader.Head.TheVariants.{Good, Refused}
+use Rattle.skeleton.specs.declared.leader.Broken.{Broken}
+use Rattle.skeleton.specs.declared.leader.Broken.TheVariants.{Cut, Leader}
 use Rattle.skeleton.proofs.LeaderLaws.{Fitting, leader_fitting}
 use Rattle.skeleton.proofs.RecordLaws.{right, cut_is}
 use Rattle.fieldwise.specs.Reader.{passed_from}
@@ -49,61 +48,62 @@ template_long true = refl
 template_long false = refl
 
 -- the record's length is what the leader states
-abbrev length_of : Head → ℕ
-length_of (Good len base a b) = len
-length_of (Refused n) = 0
+abbrev length_of : Result Head Broken → ℕ
+length_of (Ok d) = d.len
+length_of (Err n) = 0
 
-within_cut : (s : List ℕ) (len base a b : ℕ) (x y : Number) → 24 ≤ len → len ≤ length s → within s x y ≡ Good len base a b → within (take len s) x y ≡ Good len base a b
-within_cut s len base a b (Value l) (Value c) h i =
-    by_test (λ (g : Head). g ≡ Good len base a b → within (take len s) (Value l) (Value c) ≡ Good len base a b) (ltb (length s) l) _ _
-    (λ _ e. refused 1 len base a b e)
+within_cut : (s : List ℕ) (d : Head) (x y : Option ℕ) → 24 ≤ d.len → d.len ≤ length s → within s x y ≡ Ok d → within (take d.len s) x y ≡ Ok d
+within_cut s d (Some l) (Some c) h i =
+    by_test (λ (g : Result Head Broken). g ≡ Ok d → within (take d.len s) (Some l) (Some c) ≡ Ok d) (ltb (length s) l) _ _
+    (λ _ e. refused Cut d e)
     (λ _ e.
-    let same : l ≡ len = ap length_of e in
-    let m = length-take-le len s i in
-    simp (le-ltb (length (take len s)) l (omega arith), get_or-take len s 20 0 (omega arith), get_or-take len s 21 0 (omega arith)) e)
-within_cut s len base a b (Value l) NotDigits h i = λ e. refused 2 len base a b e
-within_cut s len base a b NotDigits y h i = λ e. refused 2 len base a b e
+    let same : l ≡ d.len = ap length_of e in
+    let m = length-take-le d.len s i in
+    simp (le-ltb (length (take d.len s)) l (omega arith), get_or-take d.len s 20 0 (omega arith), get_or-take d.len s 21 0 (omega arith)) e)
+within_cut s d (Some l) None h i = λ e. refused Leader d e
+within_cut s d None y h i = λ e. refused Leader d e
 
-stated_cut : (s : List ℕ) (len base a b : ℕ) → 24 ≤ len → len ≤ length s → stated_of s ≡ Good len base a b → stated_of (take len s) ≡ Good len base a b
+stated_cut : (s : List ℕ) (d : Head) → 24 ≤ d.len → d.len ≤ length s → stated_of s ≡ Ok d → stated_of (take d.len s) ≡ Ok d
 unfolding stated_of
-stated_cut s len base a b h i e =
-    rw (number_cut s 0 5 len (omega arith), number_cut s 12 5 len (omega arith)) (within_cut s len base a b (number_at s 0 5) (number_at s 12 5) h i e)
+stated_cut s d h i e =
+    rw (number_cut s 0 5 d.len (omega arith), number_cut s 12 5 d.len (omega arith)) (within_cut s d (number_at s 0 5) (number_at s 12 5) h i e)
 
-leader_cut : (s : List ℕ) (first : Bool) (len base a b : ℕ) → 24 ≤ len → leader_of s first ≡ Good len base a b → leader_of (take len s) first ≡ Good len base a b
+leader_cut : (s : List ℕ) (first : Bool) (d : Head) → 24 ≤ d.len → leader_of s first ≡ Ok d → leader_of (take d.len s) first ≡ Ok d
 unfolding leader_of
-leader_cut s first len base a b h e = go (ltb (length s) 24) refl (shaped (template first) s) refl
+leader_cut s first d h e = go (ltb (length s) 24) refl (shaped (template first) s) refl
   where
-    inside : len ≤ length s
-    inside = let k : Fitting s (Good len base a b) = subst (Fitting s) e (leader_fitting s first) in k.0
+    inside : d.len ≤ length s
+    inside = let k : Fitting s (Ok d) = subst (Fitting s) e (leader_fitting s first) in k.0
 
-    go : (t : Bool) → ltb (length s) 24 ≡ t → (u : Bool) → shaped (template first) s ≡ u → leader_of (take len s) first ≡ Good len base a b
-    go true x u y = refused 1 len base a b (simp x at e)
-    go false x false y = refused 2 len base a b (simp (x, y) at e)
+    go : (t : Bool) → ltb (length s) 24 ≡ t → (u : Bool) → shaped (template first) s ≡ u → leader_of (take d.len s) first ≡ Ok d
+    go true x u y = refused Cut d (simp x at e)
+    go false x false y = refused Leader d (simp (x, y) at e)
     go false x true y =
-        let m = length-take-le len s inside in
-        let c = shaped_cut (template first) s len (omega (arith, template_long first)) in
-        let d : stated_of s ≡ Good len base a b = simp (x, y) at e in
-        simp (le-ltb (length (take len s)) 24 (omega arith), c, y) (stated_cut s len base a b h inside d)
+        let m = length-take-le d.len s inside in
+        let c = shaped_cut (template first) s d.len (omega (arith, template_long first)) in
+        let k : stated_of s ≡ Ok d = simp (x, y) at e in
+        simp (le-ltb (length (take d.len s)) 24 (omega arith), c, y) (stated_cut s d h inside k)
 
 -- ---- a record that is right
 
 -- its leader says what the record is
-leader_by : (s : List ℕ) (l : Head) (len base a b : ℕ) → with_directory s l ≡ Good len base a b → l ≡ Good len base a b
-leader_by s (Good len' base' a' b') len base a b =
-    by_test (λ (g : Head). g ≡ Good len base a b → Good len' base' a' b' ≡ Good len base a b) (eqb (fields_of (take len' s) base' a' b').ending 0) _ _
-    (λ _ e. e)
-    (λ _ e. refused (fields_of (take len' s) base' a' b').ending len base a b e)
-leader_by s (Refused n) len base a b = λ e. refused n len base a b e
+found_right_is : (c d : Head) (x : Result (Unit {0}) Broken) → found_right c x ≡ Ok d → ◌≡◌ {A = Result Head Broken} (Ok c) (Ok d)
+found_right_is c d (Ok u) e = e
+found_right_is c d (Err n) e = refused n d e
 
-leader_is : (f : List ℕ) (at len base a b : ℕ) → record_at f at ≡ Good len base a b → leader_of (drop at f) (eqb at 0) ≡ Good len base a b
+leader_by : (s : List ℕ) (l : Result Head Broken) (d : Head) → with_directory s l ≡ Ok d → l ≡ Ok d
+leader_by s (Ok c) d e = found_right_is c d _ e
+leader_by s (Err n) d e = refused n d e
+
+leader_is : (f : List ℕ) (at : ℕ) (d : Head) → record_at f at ≡ Ok d → leader_of (drop at f) (eqb at 0) ≡ Ok d
 unfolding record_at
-leader_is f at len base a b e = leader_by (drop at f) (leader_of (drop at f) (eqb at 0)) len base a b e
+leader_is f at d e = leader_by (drop at f) (leader_of (drop at f) (eqb at 0)) d e
 
 -- a reader of the part of its file passes its fields
-pub record_passed : (f : List ℕ) (at len base a b : ℕ) → Good len base a b ≡ record_at f at
-    → each (cut_out (between f at (at + len))) (passed_from (between f at (at + len)) 24) ≡ fields_at (between f at (at + len)) (record { base = base; a = a; b = b }) 24
-record_passed f at len base a b e =
-    let k = right f at (Good len base a b) e len base a b refl in
+pub record_passed : (f : List ℕ) (at : ℕ) (d : Head) → Ok d ≡ record_at f at
+    → each (cut_out (between f at (at + d.len))) (passed_from (between f at (at + d.len)) 24) ≡ fields_at (between f at (at + d.len)) d.shape 24
+record_passed f at d e =
+    let k = right f at (Ok d) e d refl in
     let long = k.long in
-    let l = leader_cut (drop at f) (eqb at 0) len base a b (omega arith) (leader_is f at len base a b (sym e)) in
-    passed_fields (between f at (at + len)) (eqb at 0) len base a b (rw (cut_is f at len) l) k.walked
+    let l = leader_cut (drop at f) (eqb at 0) d (omega arith) (leader_is f at d (sym e)) in
+    passed_fields (between f at (at + d.len)) (eqb at 0) d (rw (cut_is f at d.len) l) k.walked

@@ -2,36 +2,20 @@
 use mathlib.Core.Path.{◌≡◌, refl, sym, ap, ◌∙◌}
 use mathlib.Core.List.{List, [], ◌∷◌}
 use mathlib.Core.Option.{Option, some, none}
-use mathlib.Core.Bool.{Bool, true, false, true≢false}
+use mathlib.Core.Bool.{Bool, true, false}
 use Prim.Native.Nat.{ℕ, ◌+◌, ◌-◌, ◌≤◌, ◌<◌}
 use native.Mathlib.Omega.{arith}
-use borrow.Author.Tests.{eq-eqb, ne_eqb, eqb-true, eqb-false, ltb-true, ltb-false}
-use lib.Dec.{eqb, ltb}
+use borrow.Author.Tests.{eq-eqb, ne_eqb, eqb-true, eqb-false}
+use lib.Dec.{eqb}
 use lib.ListN.{length}
-use Rattle.base.specs.Choice.{pick}
+use Rattle.std.specs.Prelude.{Option as StdOption, Some, None}
 use Rattle.base.proofs.WalkLaws.{by_measure}
 use Rattle.skeleton.specs.Directory.{Body}
 use Rattle.skeleton.specs.declared.place.Place.{Place}
-use Rattle.skeleton.specs.declared.place.Place.TheVariants.{At, Done}
-use Rattle.fieldwise.specs.Reader.{field_here, next_of, next_here, passed_from}
-use Rattle.fieldwise.specs.Numbered.{numbered, found_of, field_numbered, goes_past, found_here}
+use Rattle.fieldwise.specs.Reader.{field_here, next_here, lying, passed_from}
+use Rattle.fieldwise.specs.Numbered.{numbered, found_at, found_of, field_numbered}
 use Rattle.fieldwise.specs.declared.numbered.Found.{Found}
-use Rattle.fieldwise.specs.declared.numbered.Found.TheVariants.{Nothing, Field}
 use Rattle.fieldwise.proofs.ReaderLaws.{stands, passed_more, passed_done}
-
--- ---- what the two tests answer
-
-module _ (p : Place) (n tag start end next : ℕ) (x : p ≡ At tag start end next) where
-  pub past_at : ltb 1 n ≡ goes_past p n
-  past_at = simp x
-
-  pub found_one : n ≡ 1 → Field tag start end ≡ found_here p n
-  found_one e = simp (x, eq-eqb n 1 e)
-
-  pub found_other : (n ≡ 1 → ⊥) → Nothing ≡ found_here p n
-  found_other e = simp (x, ne_eqb n 1 e)
-
-pub ruleset found_ways = (found_one, found_other)
 
 -- ---- the n-th of a list that begins with x
 
@@ -69,80 +53,69 @@ module _ {A B : Type 0} (R : Option A → Option B → Type 0) (n : ℕ) (x : A)
   pub by_number : R (numbered n (x ∷ xs)) (numbered n (y ∷ ys))
   by_number = by_tests (eqb n 0) (eqb n 1) refl refl
 
--- ---- a turn of the search, by the place p that was read at at
+-- ---- the search: each law takes `inv`, what the answer has to be
 
--- it goes past a field: what is wanted is one less further on
-pub record Past (r : List ℕ) (at n next : ℕ) : Type 0 where
-  pub same : numbered n (passed_from r at) ≡ numbered (n - 1) (passed_from r next)
-  pub further : length r - next < length r - at
-  pub counts : 0 < n
-
-past_of : (r : List ℕ) (at n : ℕ) (p : Place) → p ≡ field_here r at → goes_past p n ≡ true → Past r at n (next_of at p)
-past_of r at n (At tag start end next) e x =
-    let l = ltb-true 1 n x in
-    record {
-      same = ap (numbered n) (passed_more r at _ e tag start end next refl) ∙ numbered_later n _ (passed_from r next) l;
-      further = (stands r at _ e tag start end next refl).further;
-      counts = omega arith;
-    }
-past_of r at n Done e x = absurd (true≢false (sym x))
-
--- it ends at a field or behind the last
+-- the body's 1E is where it was
 end_is : (start end : ℕ) → start ≤ end → start + (end - start + 1) - 1 ≡ end
 end_is start end l = omega arith
 
-found_at : (n tag start end : ℕ) (bs : List Body) → start ≤ end → n ≤ 1 → (t : Bool) → eqb n 1 ≡ t
-    → pick (eqb n 1) (Field tag start end) Nothing ≡ found_of (numbered n (record { tag = tag; start = start; len = end - start + 1 } ∷ bs))
-found_at n tag start end bs l s true z =
-    rw (z, numbered_here n (record { tag = tag; start = start; len = end - start + 1 }) bs (eqb-true n 1 z)) (ap (Field tag start) (sym (end_is start end l)))
-found_at n tag start end bs l s false z =
-    let o = eqb-false n 1 z in
-    rw (z, numbered_none n (record { tag = tag; start = start; len = end - start + 1 }) bs (omega arith)) refl
+module _ (r : List ℕ) (at n : ℕ) (f : StdOption Found) (inv : found_of (numbered n (passed_from r at)) ≡ f) (p : StdOption Place) (e : p ≡ field_here r at) where
+  -- behind the last field there is none
+  pub turn_none : p ≡ None → None ≡ f
+  turn_none x = sym (ap found_of (ap (numbered n) (passed_done r at p e x) ∙ numbered_empty n)) ∙ inv
 
-found_of_lem : (r : List ℕ) (at n : ℕ) (p : Place) → p ≡ field_here r at → goes_past p n ≡ false → found_here p n ≡ found_of (numbered n (passed_from r at))
-found_of_lem r at n (At tag start end next) e x =
-    rw (passed_more r at _ e tag start end next refl)
-    (found_at n tag start end (passed_from r next) (stands r at _ e tag start end next refl).runs (ltb-false 1 n x) (eqb n 1) refl)
-found_of_lem r at n Done e x = rw (passed_done r at _ e refl, numbered_empty n) refl
+  module _ (d : Place) (x : p ≡ Some d) where
+    -- the field here is the one
+    pub turn_here : n ≡ 1 → found_at d.tag d.start d.end ≡ f
+    turn_here o =
+        ap (found_at d.tag d.start) (sym (end_is d.start d.end (stands r at p e d x).runs))
+        ∙ (sym (ap found_of (ap (numbered n) (passed_more r at p e d x) ∙ numbered_here n (lying d) (passed_from r d.next) o)) ∙ inv)
 
-module _ (r : List ℕ) (at n : ℕ) (p : Place) (e : p ≡ field_here r at) where
-  pub past : goes_past p n ≡ true → Past r at n (next_here r at)
-  unfolding next_here
-  past x = rw (← e) (past_of r at n p e x)
+    -- it is behind it
+    pub turn_on : 1 < n → found_of (numbered (n - 1) (passed_from r (next_here r at))) ≡ f
+    unfolding next_here
+    turn_on l = rw (← e, x) (sym (ap found_of (ap (numbered n) (passed_more r at p e d x) ∙ numbered_later n (lying d) (passed_from r d.next) l)) ∙ inv)
 
-  pub turn_found : goes_past p n ≡ false → found_here p n ≡ found_of (numbered n (passed_from r at))
-  turn_found x = found_of_lem r at n p e x
-
--- the search from the start finds the field of the number
+-- from the start
 pub from_start : (r : List ℕ) (n : ℕ) → found_of (numbered n (passed_from r 24)) ≡ field_numbered r n
 unfolding field_numbered
 from_start r n = refl
 
+-- there is no field of number 0
+pub field_zero : (r : List ℕ) (n : ℕ) → n ≡ 0 → None ≡ field_numbered r n
+unfolding field_numbered
+field_zero r n e = go (passed_from r 24)
+  where
+    go : (bs : List Body) → None ≡ found_of (numbered n bs)
+    go [] = sym (ap found_of (numbered_empty n))
+    go (b ∷ bs) = sym (ap found_of (numbered_none n b bs e))
+
+pub ruleset field_turn = (turn_none, turn_here, turn_on, from_start, field_zero)
+
 -- ---- what is found lies in the record
 
 -- its body and its 1E
-abbrev Inside : List ℕ → Found → Type 0
-Inside r (Field tag start end) = (start ≤ end) × (end < length r)
-Inside r Nothing = Unit {0}
+abbrev Inside : List ℕ → StdOption Found → Type 0
+Inside r (Some e) = (e.start ≤ e.end) × (e.end < length r)
+Inside r None = Unit {0}
 
-inside_at : (r : List ℕ) (n tag start end : ℕ) (bs : List Body) → start ≤ end → end < length r → Inside r (found_of (numbered (n - 1) bs))
-    → Inside r (found_of (numbered n (record { tag = tag; start = start; len = end - start + 1 } ∷ bs)))
-inside_at r n tag start end bs l i later =
-    let b : Body = record { tag = tag; start = start; len = end - start + 1 } in
-    by_number (λ (o : Option Body) (_ : Option Body). Inside r (found_of o)) n b b bs bs tt (omega arith, omega arith) later
+inside_at : (r : List ℕ) (n : ℕ) (p : Place) (bs : List Body) → p.start ≤ p.end → p.end < length r → Inside r (found_of (numbered (n - 1) bs))
+    → Inside r (found_of (numbered n (lying p ∷ bs)))
+inside_at r n p bs l i later =
+    by_number (λ (o : Option Body) (_ : Option Body). Inside r (found_of o)) n (lying p) (lying p) bs bs tt (omega arith, omega arith) later
 
-inside_by : (r : List ℕ) (at : ℕ) (p : Place) → p ≡ field_here r at
+inside_by : (r : List ℕ) (at : ℕ) (p : StdOption Place) → p ≡ field_here r at
     → ((q : ℕ) → length r - q < length r - at → (n : ℕ) → Inside r (found_of (numbered n (passed_from r q)))) → (n : ℕ) → Inside r (found_of (numbered n (passed_from r at)))
-inside_by r at (At tag start end next) e later n =
-    let k = stands r at _ e tag start end next refl in
-    rw (passed_more r at _ e tag start end next refl)
-    (inside_at r n tag start end (passed_from r next) k.runs k.inside (later next k.further (n - 1)))
-inside_by r at Done e later n = rw (passed_done r at _ e refl, numbered_empty n) tt
+inside_by r at (Some p) e later n =
+    let k = stands r at _ e p refl in
+    rw (passed_more r at _ e p refl)
+    (inside_at r n p (passed_from r p.next) k.runs k.inside (later p.next k.further (n - 1)))
+inside_by r at None e later n = rw (passed_done r at _ e refl, numbered_empty n) tt
 
 inside_all : (r : List ℕ) (n : ℕ) → Inside r (field_numbered r n)
 unfolding field_numbered
 inside_all r n =
     by_measure (λ q. length r - q) (λ q. (n : ℕ) → Inside r (found_of (numbered n (passed_from r q)))) (λ q later. inside_by r q (field_here r q) refl later) 24 n
 
-pub found_inside : (r : List ℕ) (n : ℕ) (e : Found) → e ≡ field_numbered r n → (tag start end : ℕ) → e ≡ Field tag start end → (start ≤ end) × (end < length r)
-found_inside r n e x tag start end y = let k : Inside r e = rw x (inside_all r n) in rw y at k
+pub found_inside : (r : List ℕ) (n : ℕ) (e : StdOption Found) → e ≡ field_numbered r n → (d : Found) → e ≡ Some d → (d.start ≤ d.end) × (d.end < length r)
+found_inside r n e x d y = let k : Inside r e = rw x (inside_all r n) in rw y at k

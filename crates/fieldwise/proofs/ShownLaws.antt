@@ -10,6 +10,7 @@ use borrow.Author.Tests.{eqb-true, eqb-false, ltb-true, ltb-false}
 use lib.Dec.{eqb, ltb}
 use lib.ListN.{length, take, drop, length-take}
 use lib.Seq.{drop-drop}
+use Rattle.std.specs.Prelude.{Option as StdOption, Some, None, Result, Ok, Err}
 use Rattle.base.specs.Lists.{each}
 use Rattle.base.proofs.WalkLaws.{by_measure}
 use Rattle.skeleton.specs.Directory.{Body}
@@ -17,7 +18,7 @@ use Rattle.skeleton.specs.File.{Field, cut_out, records_from, records_of}
 use Rattle.skeleton.specs.Place.{between, fields_at}
 use Rattle.skeleton.specs.Record.{record_at}
 use Rattle.skeleton.specs.declared.leader.Head.{Head}
-use Rattle.skeleton.specs.declared.leader.Head.TheVariants.{Good, Refused}
+use Rattle.skeleton.specs.declared.leader.Broken.{Broken}
 use Rattle.skeleton.proofs.RecordLaws.{record_falls}
 use Rattle.skeleton.proofs.FileLaws.{records_over, records_refused, records_more, records_none, records_all}
 use Rattle.skeleton.proofs.PlaceLaws.{body_size}
@@ -25,7 +26,6 @@ use Rattle.fieldwise.specs.Reader.{passed_from}
 use Rattle.fieldwise.specs.Numbered.{numbered, found_of, field_numbered}
 use Rattle.fieldwise.specs.InFile.{Lot, lots_from, moved_by, field_within, within_lot, field_from, field_in_file, as_field, among_fields}
 use Rattle.fieldwise.specs.declared.numbered.Found.{Found}
-use Rattle.fieldwise.specs.declared.numbered.Found.TheVariants.{Nothing, Field as FoundAt}
 use Rattle.fieldwise.proofs.NumberedLaws.{numbered_empty, by_number, found_inside}
 use Rattle.fieldwise.proofs.InFileLaws.{lots_over, lots_refused, lots_more}
 use Rattle.fieldwise.proofs.CutLaws.{window_cut, record_passed}
@@ -46,11 +46,11 @@ part_is f start end x y l i =
     let e : start + y - (start + x) ≡ y - x = omega arith in
     rw e (sym (window_cut x (y - x) (end - start) (drop start f) (omega arith) ∙ ap (take (y - x)) (drop-drop x start f)))
 
-moved_shown : (f : List ℕ) (start end n : ℕ) (e : Found) → e ≡ field_numbered (between f start end) n → as_field f (moved_by start e) ≡ as_field (between f start end) e
-moved_shown f start end n (FoundAt tag x y) k =
-    let i = found_inside (between f start end) n (FoundAt tag x y) k tag x y refl in
-    ap (λ (b : List ℕ). some (record { tag = tag; body = b })) (part_is f start end x y i.0 (omega (arith, i.1, length-take (end - start) (drop start f))))
-moved_shown f start end n Nothing k = refl
+moved_shown : (f : List ℕ) (start end n : ℕ) (e : StdOption Found) → e ≡ field_numbered (between f start end) n → as_field f (moved_by start e) ≡ as_field (between f start end) e
+moved_shown f start end n (Some e) k =
+    let i = found_inside (between f start end) n (Some e) k e refl in
+    ap (λ (b : List ℕ). some (record { tag = e.tag; body = b })) (part_is f start end e.start e.end i.0 (omega (arith, i.1, length-take (end - start) (drop start f))))
+moved_shown f start end n None k = refl
 
 within_shown : (f : List ℕ) (start end n : ℕ) → as_field f (field_within f start end n) ≡ numbered n (each (cut_out (between f start end)) (passed_from (between f start end) 24))
 unfolding field_within field_numbered
@@ -66,16 +66,16 @@ none_shown : (f : List ℕ) (at n : ℕ) → lots_from f at ≡ [] → (records_
 unfolding field_from
 none_shown f at n x y m = rw (x, y, numbered_empty {A = Lot} m, numbered_empty {A = List Field} m) refl
 
-record_shown : (f : List ℕ) (at n : ℕ) → at < length f → (h : Head) → h ≡ record_at f at → ((q : ℕ) → length f - q < length f - at → Shown f n q) → Shown f n at
+record_shown : (f : List ℕ) (at n : ℕ) → at < length f → (h : Result Head Broken) → h ≡ record_at f at → ((q : ℕ) → length f - q < length f - at → Shown f n q) → Shown f n at
 unfolding field_from
-record_shown f at n l (Good len base a b) e later m =
-    rw (lots_more f at l _ e len base a b refl, records_more f at l _ e len base a b refl)
+record_shown f at n l (Ok d) e later m =
+    rw (lots_more f at l _ e d refl, records_more f at l _ e d refl)
     (by_number (λ (o : Option Lot) (p : Option (List Field)). as_field f (within_lot f n o) ≡ among_fields n p) m
-    (record { start = at; end = at + len }) (fields_at (between f at (at + len)) (record { base = base; a = a; b = b }) 24) (lots_from f (at + len)) (records_from f (at + len)).items
+    (record { start = at; end = at + d.len }) (fields_at (between f at (at + d.len)) d.shape 24) (lots_from f (at + d.len)) (records_from f (at + d.len)).items
     refl
-    (within_shown f at (at + len) n ∙ ap (numbered n) (record_passed f at len base a b e))
-    (later (at + len) (record_falls f at _ e len base a b refl) (m - 1)))
-record_shown f at n l (Refused k) e later m =
+    (within_shown f at (at + d.len) n ∙ ap (numbered n) (record_passed f at d e))
+    (later (at + d.len) (record_falls f at _ e d refl) (m - 1)))
+record_shown f at n l (Err k) e later m =
     none_shown f at n (lots_refused f at l _ e k refl) (rw (records_refused f at l _ e k refl) refl) m
 
 shown_by_lem : (f : List ℕ) (n at : ℕ) (t : Bool) → ltb at (length f) ≡ t → ((q : ℕ) → length f - q < length f - at → Shown f n q) → Shown f n at

@@ -2,27 +2,26 @@
 ghost use Rattle.std.specs.Prelude.{◌≡◌};
 ghost use Rattle.fieldwise.specs.Reader.{led_by, field_here, next_here, body_here};
 
-use skeleton::directory::Shape;
-use skeleton::leader::{Head, leader};
+use skeleton::leader::{Broken, Head, leader};
 use skeleton::place::{Place, place_at};
 
 // What the leader of a record says, be it the first one or another.
-fn led(r: &[u8]) -> Head
+fn led(r: &[u8]) -> Result<Head, Broken>
     ensures { result ≡ led_by r.now }
 {
     match leader(r, true) {
-        Head::Good { len, base, a, b } => Head::Good { len, base, a, b },
-        Head::Refused(_) => leader(r, false),
+        Ok(head) => Ok(head),
+        Err(_) => leader(r, false),
     }
 }
 
 // The field whose entry stands at at; of a record whose leader is wrong there is none.
-pub fn field_here(r: &[u8], at: usize) -> Place
+pub fn field_here(r: &[u8], at: usize) -> Option<Place>
     ensures { result ≡ field_here r.now at }
 {
     match led(r) {
-        Head::Good { len: _, base, a, b } => place_at(r, Shape { base, a, b }, at),
-        Head::Refused(_) => Place::Done,
+        Ok(head) => place_at(r, head.shape, at),
+        Err(_) => None,
     }
 }
 
@@ -31,13 +30,8 @@ pub fn next_here(r: &[u8], at: usize) -> usize
     ensures { result ≡ next_here r.now at }
 {
     match field_here(r, at) {
-        Place::At {
-            tag: _,
-            start: _,
-            end: _,
-            next,
-        } => next,
-        Place::Done => at,
+        Some(field) => field.next,
+        None => at,
     }
 }
 
@@ -46,12 +40,7 @@ pub fn body_here(r: &[u8], at: usize) -> &[u8]
     ensures { result.now ≡ body_here r.now at }
 {
     match field_here(r, at) {
-        Place::At {
-            tag: _,
-            start,
-            end,
-            next: _,
-        } => &r[start..end],
-        Place::Done => &r[..0],
+        Some(field) => &r[field.start..field.end],
+        None => &[],
     }
 }

@@ -20,8 +20,8 @@ pub fn start<'a>(rec: &'a [u8]) -> Fields<'a>
     Fields { rec, at: 24 }
 }
 
-// The field where the reader stands.
-pub fn here<'a>(f: Fields<'a>) -> Place
+// The field where the reader stands; none behind the last, and none in a record whose leader is wrong.
+pub fn here<'a>(f: Fields<'a>) -> Option<Place>
     ensures { result ≡ field_here f.entry.rec.now f.entry.at }
 {
     field_here(f.rec, f.at)

@@ -125,11 +125,19 @@ module _ (old : List ℕ) (ho : Shape) (new : List ℕ) (hn : Shape) where
         ∙ ap (λ (k : ℕ). k + sizes (parts_from old ho new hn (j + 1))) (sym m.size_is)
 
   module _ (g : Passing old ho new hn) (j t : ℕ) (et : t ≡ get_or general_parts j 0) where
-    pub old_once : AtMostOne old ho t
+    old_once : AtMostOne old ho t
     old_once = once_there InDataset j t (fields_at old ho 24) g.old_passed et
 
-    pub new_once : AtMostOne new hn t
+    new_once : AtMostOne new hn t
     new_once = once_there InUpdate j t (fields_at new hn 24) g.new_passed et
+
+  -- tag number j stands at most once in each
+  module _ (g : Passing old ho new hn) (j : ℕ) where
+    pub old_once_at : AtMostOne old ho (get_or general_parts j 0)
+    old_once_at = old_once g j (get_or general_parts j 0) refl
+
+    pub new_once_at : AtMostOne new hn (get_or general_parts j 0)
+    new_once_at = new_once g j (get_or general_parts j 0) refl
 
   pub pass_old_bounded : Passing old ho new hn → Bounded ho
   pass_old_bounded g = g.old_bounded
@@ -166,9 +174,6 @@ module _ (old : List ℕ) (ho : Shape) (new : List ℕ) (hn : Shape) where
         let f = s.few in let m = s.small in let l = s.last in
         record { fields_are = omega (arith, s.count); bytes_are = omega (arith, s.size); few = omega arith; small = omega arith }
 
-    pub tag_word : j + 1 < 2 ^ 64
-    tag_word = let l = s.last in omega arith
-
     module _ (h : j < 8) (t : ℕ) (et : t ≡ get_or general_parts j 0) (n : ℕ) (m : Measured t (newer_at old ho new hn t) n) where
       pub count_bytes : bytes + n < 2 ^ 64
       count_bytes = let a = s.small in let b = m.small in omega arith
@@ -193,15 +198,14 @@ module _ (old : List ℕ) (ho : Shape) (new : List ℕ) (hn : Shape) where
             record { count = omega (arith, s.count); size = omega (arith, s.size); few = omega arith; small = omega arith; last = omega arith }
 
 pub ruleset count_ways = (
-  old_once,
-  new_once,
+  old_once_at,
+  new_once_at,
   pass_old_bounded,
   pass_new_bounded,
   pass_old_short,
   pass_new_short,
   count_start,
   count_over,
-  tag_word,
   count_bytes,
   count_fields,
   count_more,
@@ -231,9 +235,6 @@ module _ (old : List ℕ) (ho : Shape) (new : List ℕ) (hn : Shape) where
         put_all _ s.left (ap (entries field_width field_width pos) z)
         (omega (arith, s.count, length_entries field_width field_width 0 (parts_from old ho new hn 0)))
 
-    pub directory_tag : j + 1 < 2 ^ 64
-    directory_tag = let l = s.last in omega arith
-
     module _ (h : j < 8) (t : ℕ) (et : t ≡ get_or general_parts j 0) (n : ℕ) (m : Measured t (newer_at old ho new hn t) n) where
       pub directory_room : at + 14 * length (parts_from old ho new hn 0) ≤ length out₀ → p + 14 * one_if n ≤ length out
       directory_room g = omega (arith, s.count, s.long, count_there old ho new hn j h t et n m)
@@ -254,15 +255,14 @@ module _ (old : List ℕ) (ho : Shape) (new : List ℕ) (hn : Shape) where
           }
 
 pub ruleset directory_ways = (
-  old_once,
-  new_once,
+  old_once_at,
+  new_once_at,
   pass_old_bounded,
   pass_new_bounded,
   pass_old_short,
   pass_new_short,
   directory_start,
   directory_over,
-  directory_tag,
   directory_room,
   directory_word,
   directory_more,
@@ -290,9 +290,6 @@ module _ (old : List ℕ) (ho : Shape) (new : List ℕ) (hn : Shape) where
         let n : sizes (parts_from old ho new hn j) ≡ 0 = ap sizes z in
         put_all _ s.left (ap contents z) (omega (arith, s.count, length_contents (parts_from old ho new hn 0)))
 
-    pub fields_tag : j + 1 < 2 ^ 64
-    fields_tag = let l = s.last in omega arith
-
     module _ (h : j < 8) (t : ℕ) (et : t ≡ get_or general_parts j 0) where
       sizes_there : sizes (parts_from old ho new hn j) ≡ sizes (newer_at old ho new hn t) + sizes (parts_from old ho new hn (j + 1))
       sizes_there = ap sizes (parts_next old ho new hn j h t et) ∙ sizes_append (newer_at old ho new hn t) (parts_from old ho new hn (j + 1))
@@ -312,13 +309,12 @@ module _ (old : List ℕ) (ho : Shape) (new : List ℕ) (hn : Shape) where
           }
 
 pub ruleset fields_ways = (
-  old_once,
-  new_once,
+  old_once_at,
+  new_once_at,
   pass_old_bounded,
   pass_new_bounded,
   fields_start,
   fields_over,
-  fields_tag,
   fields_room,
   fields_more,
   arith,

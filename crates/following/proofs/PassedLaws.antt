@@ -6,6 +6,7 @@ use Prim.Native.Nat.{ℕ}
 use native.Mathlib.Omega.{arith}
 use borrow.Author.Tests.{eqb-true}
 use lib.Dec.{eqb}
+use Rattle.std.specs.Prelude.{Option, Some, None}
 use Rattle.base.specs.Choice.{pick}
 use Rattle.base.specs.Check.{no, bind, fault, pass}
 use Rattle.base.proofs.CheckLaws.{bind_inv}
@@ -15,7 +16,6 @@ use Rattle.skeleton.specs.File.{Field}
 use Rattle.skeleton.specs.Place.{between, place_at, fields_at}
 use Rattle.skeleton.specs.declared.directory.Shape.{Shape}
 use Rattle.skeleton.specs.declared.place.Place.{Place}
-use Rattle.skeleton.specs.declared.place.Place.TheVariants.{At, Done}
 use Rattle.skeleton.proofs.PlaceLaws.{fields_more, fields_done}
 use Rattle.rules.specs.Tags.{DSID}
 use Rattle.rules.specs.Kind.{general_rows}
@@ -55,11 +55,11 @@ unfolding general_format
 dsid_filled InDataset b e = stands_fill 1 Dsid b tt e
 dsid_filled InUpdate b e = (format_wider dsid b (stands_fill 1 DsidUpdate b tt e)).0
 
-module _ (m : Mode) (r : List ℕ) (h : Shape) (e : Place) (en : e ≡ place_at r h 24) (g : general_record m (fields_at r h 24) ≡ pass) where
-  pub never_none {ℓ} : {X : Type ℓ} → e ≡ Done → X
+module _ (m : Mode) (r : List ℕ) (h : Shape) (e : Option Place) (en : e ≡ place_at r h 24) (g : general_record m (fields_at r h 24) ≡ pass) where
+  pub never_none {ℓ} : {X : Type ℓ} → e ≡ None → X
   never_none x = some_field m (rw (fields_done r h 24 e en x) at g)
 
-  pub identified : (tag start end next : ℕ) → e ≡ At tag start end next → Identified (between r start end)
-  identified tag start end next x =
-      let p : general_record m (record { tag = tag; body = between r start end } ∷ fields_at r h next) ≡ pass = rw (fields_more r h 24 e en tag start end next x) at g in
-      dsid_filled m (between r start end) (headed m _ _ p).filled
+  pub identified : (d : Place) → e ≡ Some d → Identified (between r d.start d.end)
+  identified d x =
+      let p : general_record m (record { tag = d.tag; body = between r d.start d.end } ∷ fields_at r h d.next) ≡ pass = rw (fields_more r h 24 e en d x) at g in
+      dsid_filled m (between r d.start d.end) (headed m _ _ p).filled

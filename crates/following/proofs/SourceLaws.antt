@@ -5,6 +5,7 @@ use Prim.Native.Nat.{ℕ, suc, ◌+◌, ◌-◌, ◌^◌, ◌≤◌, ◌<◌}
 use native.Mathlib.Omega.{arith}
 use borrow.Author.Tests.{eq-eqb}
 use lib.ListN.{length}
+use Rattle.std.specs.Prelude.{Option, Some, None}
 use Rattle.base.specs.Lists.{empty}
 use Rattle.base.proofs.ListLaws.{none_long}
 use Rattle.memory.specs.Put.{part}
@@ -15,7 +16,6 @@ use Rattle.skeleton.specs.Emit.{sizes, contents}
 use Rattle.skeleton.specs.Place.{between, fields_at, find_from}
 use Rattle.skeleton.specs.declared.directory.Shape.{Shape}
 use Rattle.skeleton.specs.declared.place.Place.{Place}
-use Rattle.skeleton.specs.declared.place.Place.TheVariants.{At, Done}
 use Rattle.skeleton.proofs.FindLaws.{found_none, found_first, found_tag, found_runs, found_in}
 use Rattle.skeleton.proofs.BetweenLaws.{length_between}
 use Rattle.rules.specs.ByTag.{with_tag}
@@ -29,45 +29,45 @@ use Rattle.following.specs.declared.sources.Source.TheVariants.{Sent, Kept, Neit
 
 -- ---- the only field with a tag
 
-module _ (r : List ℕ) (h : Shape) (t : ℕ) (e : Place) (en : e ≡ find_from r h t 24) where
-  absent : e ≡ Done → with_tag t (fields_at r h 24) ≡ []
+module _ (r : List ℕ) (h : Shape) (t : ℕ) (e : Option Place) (en : e ≡ find_from r h t 24) where
+  absent : e ≡ None → with_tag t (fields_at r h 24) ≡ []
   unfolding with_tag
   absent x = with_from t (fields_at r h 24) ∙ ap (with_tag t) (found_none r h t 24 e en x)
 
-  module _ (tag start end next : ℕ) (x : e ≡ At tag start end next) (one : AtMostOne r h t) where
-    only : with_tag t (fields_at r h 24) ≡ field_as t (between r start end) ∷ []
+  module _ (d : Place) (x : e ≡ Some d) (one : AtMostOne r h t) where
+    only : with_tag t (fields_at r h 24) ≡ field_as t (between r d.start d.end) ∷ []
     unfolding with_tag
     only =
-        let z : tag ≡ t = found_tag r h t 24 e en tag start end next x in
-        let a : with_tag t (fields_at r h 24) ≡ field_as tag (between r start end) ∷ with_tag t (fields_at r h next) =
-        with_from t (fields_at r h 24) ∙ ap (with_tag t) (found_first r h t 24 e en tag start end next x) ∙ simp (eq-eqb tag t z) in
-        let n : length (with_tag t (fields_at r h 24)) ≡ suc (length (with_tag t (fields_at r h next))) = ap length a in
-        a ∙ rw (z, none_long (with_tag t (fields_at r h next)) (omega arith))
+        let z : d.tag ≡ t = found_tag r h t 24 e en d x in
+        let a : with_tag t (fields_at r h 24) ≡ field_as d.tag (between r d.start d.end) ∷ with_tag t (fields_at r h d.next) =
+        with_from t (fields_at r h 24) ∙ ap (with_tag t) (found_first r h t 24 e en d x) ∙ simp (eq-eqb d.tag t z) in
+        let n : length (with_tag t (fields_at r h 24)) ≡ suc (length (with_tag t (fields_at r h d.next))) = ap length a in
+        a ∙ rw (z, none_long (with_tag t (fields_at r h d.next)) (omega arith))
 
 -- ---- `source_of`
 
 module _ (old : List ℕ) (ho : Shape) (new : List ℕ) (hn : Shape) (t : ℕ) (oo : AtMostOne old ho t) (on : AtMostOne new hn t)
-    (e : Place) (en : e ≡ find_from new hn t 24) where
-  pub source_sent : (tag start end next : ℕ) → e ≡ At tag start end next → Sourced old ho new hn t (Sent start end)
+    (e : Option Place) (en : e ≡ find_from new hn t 24) where
+  pub source_sent : (d : Place) → e ≡ Some d → Sourced old ho new hn t (Sent d.start d.end)
   unfolding Sourced newer empty
-  source_sent tag start end next x = record {
-    is = rw (only new hn t e en tag start end next x on);
-    runs = found_runs new hn t 24 e en tag start end next x;
-    inside = found_in new hn t 24 e en tag start end next x;
+  source_sent d x = record {
+    is = rw (only new hn t e en d x on);
+    runs = found_runs new hn t 24 e en d x;
+    inside = found_in new hn t 24 e en d x;
   }
 
-  module _ (x : e ≡ Done) (d : Place) (ed : d ≡ find_from old ho t 24) where
-    pub source_kept : (tag start end next : ℕ) → d ≡ At tag start end next → Sourced old ho new hn t (Kept start end)
+  module _ (x : e ≡ None) (o : Option Place) (eo : o ≡ find_from old ho t 24) where
+    pub source_kept : (d : Place) → o ≡ Some d → Sourced old ho new hn t (Kept d.start d.end)
     unfolding Sourced newer empty
-    source_kept tag start end next y = record {
-      is = rw (absent new hn t e en x) (only old ho t d ed tag start end next y oo);
-      runs = found_runs old ho t 24 d ed tag start end next y;
-      inside = found_in old ho t 24 d ed tag start end next y;
+    source_kept d y = record {
+      is = rw (absent new hn t e en x) (only old ho t o eo d y oo);
+      runs = found_runs old ho t 24 o eo d y;
+      inside = found_in old ho t 24 o eo d y;
     }
 
-    pub source_neither : d ≡ Done → Sourced old ho new hn t Neither
+    pub source_neither : o ≡ None → Sourced old ho new hn t Neither
     unfolding Sourced newer empty
-    source_neither y = rw (absent new hn t e en x) (absent old ho t d ed y)
+    source_neither y = rw (absent new hn t e en x) (absent old ho t o eo y)
 
 pub ruleset source_ways = (source_sent, source_kept, source_neither)
 

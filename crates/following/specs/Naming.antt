@@ -1,5 +1,5 @@
 -- How the DSID of an update follows that of a dataset.
-use Rattle.std.specs.Prelude.{ℕ, ◌+◌, ◌≡◌, Bool, true, List, drop, eqb}
+use Rattle.std.specs.Prelude.{ℕ, ◌+◌, ◌≡◌, Bool, true, List, eqb}
 use Rattle.base.specs.Choice.{both}
 use Rattle.base.specs.Keys.{same}
 use Rattle.fields.specs.Table.{head_of, tuple_of}
@@ -10,10 +10,6 @@ use Rattle.fields.specs.declared.Format.TheVariants.{Dsid}
 -- the subfields of DSID fill a field
 abbrev pub Identified : List ℕ → Type 0
 Identified b = fill (head_of Dsid) (tuple_of Dsid) b ≡ true
-
--- two texts are the same from byte i on
-unfoldable pub same_from : List ℕ → List ℕ → ℕ → Bool
-same_from a b i = same (drop i a) (drop i b)
 
 -- DSNM (7) and EDTN (8) are the same, UPDN (9) is one more
 unfoldable pub dsid_follows : List ℕ → List ℕ → Bool

@@ -11,7 +11,7 @@ ghost use Rattle.rules.specs.declared.Mode.TheVariants.{InDataset, InUpdate};
 ghost use Rattle.writing.specs.Found.{Summed};
 ghost use Rattle.following.specs.Merging.{parts_from, Passing, one_if, entry_if};
 
-use crate::sources::{part_size, put_body, tag_of};
+use crate::sources::{TAGS, part_size, put_body};
 use memory::writing::put_byte;
 use skeleton::directory::Shape;
 use writing::measuring::Sum;
@@ -21,21 +21,19 @@ use writing::parts::{put_entry, put_leader};
 fn one_if(n: usize) -> usize
     ensures { result ≡ one_if n }
 {
-    if n == 0 {
-        return 0;
-    }
-    1
+    if n == 0 { 0 } else { 1 }
 }
 
-// The entry of a field of so many bytes; none where there are 0.
+// The entry of a field of so many bytes; none where there are 0, since sizes are added up.
 fn put_entry_if(out: &mut [u8], at: usize, tag: u32, n: usize, pos: usize) -> usize
     requires { at + 14 * one_if n ≤ length out.old }
     ensures { Wrote at (entry_if tag n pos) out.old result out.new }
 {
     if n == 0 {
-        return at;
+        at
+    } else {
+        put_entry(out, at, tag, n, pos)
     }
-    put_entry(out, at, tag, n, pos)
 }
 
 // Its fields counted.
@@ -43,14 +41,12 @@ fn count_parts(old: &[u8], ho: Shape, new: &[u8], hn: Shape) -> Sum
     requires { Passing old.now ho new.now hn }
     ensures { Summed (parts_from old.now ho new.now hn 0) result }
 {
-    let mut j = 0;
     let mut fields = 0;
     let mut bytes = 0;
-    while j < 8 {
-        let n = part_size(old, ho, new, hn, tag_of(j));
+    for tag in TAGS {
+        let n = part_size(old, ho, new, hn, tag);
         fields += one_if(n);
         bytes += n;
-        j += 1;
     }
     Sum { fields, bytes }
 }
@@ -61,15 +57,12 @@ fn put_directory(old: &[u8], ho: Shape, new: &[u8], hn: Shape, out: &mut [u8], a
     requires hn_in_bounds { (at + 14 * length (parts_from old.now ho new.now hn 0) ≤ length out.old) × (sizes (parts_from old.now ho new.now hn 0) ≤ 281474993487872) }
     ensures { Wrote at (entries field_width field_width 0 (parts_from old.now ho new.now hn 0)) out.old result out.new }
 {
-    let mut j = 0;
     let mut pos = 0;
     let mut p = at;
-    while j < 8 {
-        let tag = tag_of(j);
+    for tag in TAGS {
         let n = part_size(old, ho, new, hn, tag);
         p = put_entry_if(out, p, tag, n, pos);
         pos += n;
-        j += 1;
     }
     p
 }
@@ -80,11 +73,9 @@ fn put_fields(old: &[u8], ho: Shape, new: &[u8], hn: Shape, out: &mut [u8], at: 
     requires hn_in_bounds { at + sizes (parts_from old.now ho new.now hn 0) ≤ length out.old }
     ensures { Wrote at (contents (parts_from old.now ho new.now hn 0)) out.old result out.new }
 {
-    let mut j = 0;
     let mut p = at;
-    while j < 8 {
-        p = put_body(old, ho, new, hn, tag_of(j), out, p);
-        j += 1;
+    for tag in TAGS {
+        p = put_body(old, ho, new, hn, tag, out, p);
     }
     p
 }

@@ -1,5 +1,5 @@
 // Number 8: DSNM and EDTN of the update are the dataset's, and its UPDN is one more.
-ghost use Rattle.std.specs.Prelude.{◌≡◌, ◌≤◌, ◌<◌};
+ghost use Rattle.std.specs.Prelude.{◌≡◌, ◌≤◌, ◌<◌, Some};
 ghost use Rattle.base.specs.Choice.{pick};
 ghost use Rattle.base.specs.Check.{no, fault, pass};
 ghost use Rattle.base.specs.Keys.{same};
@@ -7,43 +7,29 @@ ghost use Rattle.fields.specs.Table.{head_of};
 ghost use Rattle.fields.specs.Values.{values, num_at, text_at};
 ghost use Rattle.fields.specs.Places.{head_place};
 ghost use Rattle.fields.specs.declared.Format.TheVariants.{Dsid};
-ghost use Rattle.fields.specs.declared.Stop.TheVariants.{At};
 ghost use Rattle.skeleton.specs.Place.{fields_at};
 ghost use Rattle.skeleton.specs.Shape.{Bounded};
 ghost use Rattle.rules.specs.General.{general_record, number8};
 ghost use Rattle.rules.specs.declared.Mode.TheVariants.{InDataset, InUpdate};
 ghost use Rattle.following.specs.Naming.{Identified, dsid_follows};
 
-use fields::{Format, Stop, head_place, le16, text_end};
+use fields::{Format, head_place, le16, text_end};
 use skeleton::directory::Shape;
-use skeleton::place::{Place, place_at};
+use skeleton::place::place_at;
 
 // Whether two texts are the same.
 pub fn same_bytes(a: &[u8], b: &[u8]) -> bool
     ensures { result ≡ same a.now b.now }
 {
-    if a.len() != b.len() {
-        return false;
-    }
-    let mut i = 0;
-    while i < a.len() {
-        if a[i] != b[i] {
-            return false;
-        }
-        i += 1;
-    }
-    true
+    a == b
 }
 
 // Where subfield j of the DSID b begins.
 pub fn place_in(b: &[u8], j: usize) -> usize
     requires { Identified b.now × (j < 11) }
-    ensures { At result ≡ head_place (head_of Dsid) j b.now }
+    ensures { Some result ≡ head_place (head_of Dsid) j b.now }
 {
-    match head_place(Format::Dsid, j, b) {
-        Stop::At(p) => p,
-        Stop::Bad => 0,
-    }
+    head_place(Format::Dsid, j, b).unwrap_or(0)
 }
 
 // EDTN (8) or UPDN (9) of the DSID b.
@@ -78,8 +64,8 @@ fn dsid_follows(a: &[u8], b: &[u8]) -> bool
     if number_in(b, 8) != number_in(a, 8) {
         return false;
     }
-    let old = number_in(a, 9) as usize;
-    let new = number_in(b, 9) as usize;
+    let old = usize::from(number_in(a, 9));
+    let new = usize::from(number_in(b, 9));
     new == old + 1
 }
 
@@ -89,23 +75,11 @@ pub fn follows(old: &[u8], ho: Shape, new: &[u8], hn: Shape) -> bool
     requires ho_value { (general_record InDataset (fields_at old.now ho 24) ≡ pass) × (general_record InUpdate (fields_at new.now hn 24) ≡ pass) }
     ensures { number8 (fields_at old.now ho 24) (fields_at new.now hn 24) ≡ pick result pass (no (fault 8 1 0)) }
 {
-    let Place::At {
-        tag: _,
-        start: i,
-        end: j,
-        next: _,
-    } = place_at(old, ho, 24)
-    else {
+    let Some(a) = place_at(old, ho, 24) else {
         return false;
     };
-    let Place::At {
-        tag: _,
-        start: k,
-        end: l,
-        next: _,
-    } = place_at(new, hn, 24)
-    else {
+    let Some(b) = place_at(new, hn, 24) else {
         return false;
     };
-    dsid_follows(&old[i..j], &new[k..l])
+    dsid_follows(&old[a.start..a.end], &new[b.start..b.end])
 }

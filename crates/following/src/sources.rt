@@ -6,10 +6,12 @@ ghost use Rattle.skeleton.specs.Shape.{Bounded};
 ghost use Rattle.following.specs.Merging.{general_parts, Sourced, newer_at, AtMostOne, Measured};
 
 use memory::writing::{put_byte, put_part};
+use rules::tags;
 use skeleton::directory::Shape;
-use skeleton::place::{Place, find};
+use skeleton::place::find;
 
 // A field by its tag: in the update or in the dataset, from a place up to another; or in neither.
+// An enum of its own: a `Result` of an `Option` would nest these three outcomes.
 #[derive(Clone, Copy)]
 pub enum Source {
     Sent(usize, usize),
@@ -18,42 +20,32 @@ pub enum Source {
 }
 
 // The tags of the general record in their order: DSID, DSSI, ATCS, ITCS, FTCS, IACS, FACS, ARCS.
-pub fn tag_of(j: usize) -> u32
-    requires { j < 8 }
-    ensures { result ≡ get_or general_parts j 0 }
-{
-    let tags: [u32; 8] = [
-        0x44534944, 0x44535349, 0x41544353, 0x49544353, 0x46544353, 0x49414353, 0x46414353,
-        0x41524353,
-    ];
-    tags[j]
-}
+pub const TAGS: [u32; 8] = [
+    tags::DSID,
+    tags::DSSI,
+    tags::ATCS,
+    tags::ITCS,
+    tags::FTCS,
+    tags::IACS,
+    tags::FACS,
+    tags::ARCS,
+];
 
 // The field with a tag that stands at most once in each: the update's if there, else the dataset's.
 fn source_of(old: &[u8], ho: Shape, new: &[u8], hn: Shape, tag: u32) -> Source
     requires { Bounded ho × Bounded hn × AtMostOne old.now ho tag × AtMostOne new.now hn tag }
     ensures { Sourced old.now ho new.now hn tag result }
 {
-    match find(new, hn, tag, 24) {
-        Place::At {
-            tag: _,
-            start,
-            end,
-            next: _,
-        } => Source::Sent(start, end),
-        Place::Done => match find(old, ho, tag, 24) {
-            Place::At {
-                tag: _,
-                start,
-                end,
-                next: _,
-            } => Source::Kept(start, end),
-            Place::Done => Source::Neither,
-        },
+    if let Some(field) = find(new, hn, tag, 24) {
+        return Source::Sent(field.start, field.end);
+    }
+    match find(old, ho, tag, 24) {
+        Some(field) => Source::Kept(field.start, field.end),
+        None => Source::Neither,
     }
 }
 
-// Its size, its 1E included; 0 where there is none.
+// Its size, its 1E included; 0 where there is none, since sizes are added up.
 pub fn part_size(old: &[u8], ho: Shape, new: &[u8], hn: Shape, tag: u32) -> usize
     requires { Bounded ho × Bounded hn × (length old.now ≤ 16777216) × (length new.now ≤ 16777216) × AtMostOne old.now ho tag × AtMostOne new.now hn tag }
     ensures { Measured tag (newer_at old.now ho new.now hn tag) result }

@@ -5,12 +5,14 @@ use mathlib.Core.List.{List}
 use Prim.Native.Nat.{ℕ, ◌+◌, ◌/◌, ◌≤◌, ◌<◌}
 use native.Mathlib.Omega.{arith}
 use lib.ListN.{length}
+use Rattle.std.specs.Prelude.{Option as StdOption, Result, Ok, Err}
 use Rattle.base.specs.Check.{Check, ok}
+use Rattle.base.specs.declared.Fault.{Fault}
 use Rattle.skeleton.specs.File.{Field}
 use Rattle.skeleton.specs.Place.{between, fields_at}
 use Rattle.skeleton.specs.Record.{record_at}
 use Rattle.skeleton.specs.declared.leader.Head.{Head}
-use Rattle.skeleton.specs.declared.leader.Head.TheVariants.{Good, Refused}
+use Rattle.skeleton.specs.declared.leader.Broken.{Broken}
 use Rattle.rules.specs.Record.{Rec, key_named, update_record}
 use Rattle.rules.specs.Change.{change as change_of}
 use Rattle.rules.specs.declared.Kind.{Kind}
@@ -20,8 +22,7 @@ use Rattle.incoming.specs.Fitting.{Rest}
 use Rattle.incoming.proofs.FittingLaws.{rest_good, rest_here}
 use Rattle.keys.specs.Key.{key_at, kind_ranked}
 use Rattle.version.specs.Present.{HeldAs, ChangedTo, FlagsKept}
-use Rattle.version.specs.declared.Present.{Present}
-use Rattle.version.specs.declared.Changed.{Changed}
+use Rattle.version.specs.declared.Version.{Version}
 use Rattle.history.specs.Here.{record_here, named_in}
 use Rattle.history.specs.Ready.{Short}
 use Rattle.history.specs.Played.{Acting, Acted}
@@ -36,31 +37,31 @@ changed_as : (k : Kind) (fs : List Field) → update_record fs ≡ ok k → (o :
 unfolding changed_by
 changed_as k fs r o = ap (λ (m : Option Kind). changed_by m fs o) (known_sent k fs r).kind
 
-module _ (u : List ℕ) (at : ℕ) (s : Rest u at) (h : at < length u) (q : Head) (e : q ≡ record_at u at) where
-  pub act_refused : {X : Type 0} → (n : ℕ) → q ≡ Refused n → X
+module _ (u : List ℕ) (at : ℕ) (s : Rest u at) (h : at < length u) (q : Result Head Broken) (e : q ≡ record_at u at) where
+  pub act_refused : {X : Type 0} → (n : Broken) → q ≡ Err n → X
   act_refused n x = absurd (rest_good u at s h q e n x)
 
-  module _ (len base a b : ℕ) (x : q ≡ Good len base a b) where
+  module _ (head : Head) (x : q ≡ Ok head) where
     abbrev fields : List Field
-    fields = fields_at (between u at (at + len)) (record { base = base; a = a; b = b }) 24
+    fields = fields_at (between u at (at + head.len)) head.shape 24
 
-    pub act_right : (key : ℕ) → key ≡ key_at u (at + base) → (k : Kind) → k ≡ kind_ranked (key / 4294967296) → update_record fields ≡ ok k
+    pub act_right : (key : ℕ) → key ≡ key_at u (at + head.shape.base) → (k : Kind) → k ≡ kind_ranked (key / 4294967296) → update_record fields ≡ ok k
     act_right key ek k e2 =
-        let t = rest_here u at s h q e len base a b x in
-        let z : k ≡ t.kind = here_kind u at q e len base a b x t.kind (known_sent t.kind _ t.right) key ek k e2 in
+        let t = rest_here u at s h q e head x in
+        let z : k ≡ t.kind = here_kind u at q e head x t.kind (known_sent t.kind _ t.right) key ek k e2 in
         rw z t.right
 
     module _ (k : Kind) (r : update_record fields ≡ ok k) where
       name_is : named_in (record_here u at) ≡ key_named k fields
-      name_is = ap named_in (here_is u at h q e len base a b x) ∙ named_as k fields r
+      name_is = ap named_in (here_is u at h q e head x) ∙ named_as k fields r
 
       change_is : (o : Option Rec) → chart.change (record_here u at) o ≡ change_of k fields o
-      change_is o = ap (λ (fs : List Field). chart.change fs o) (here_is u at h q e len base a b x) ∙ changed_as k fields r o
+      change_is o = ap (λ (fs : List Field). chart.change fs o) (here_is u at h q e head x) ∙ changed_as k fields r o
 
-      pub act_on_lem : (d w : List ℕ) (p : Present) → Acting d u w p (record_here u at) → (o : Option Rec) × HeldAs d u w p o × Under chart (key_named k fields) o
+      pub act_on_lem : (d w : List ℕ) (p : StdOption Version) → Acting d u w p (record_here u at) → (o : Option Rec) × HeldAs d u w p o × Under chart (key_named k fields) o
       act_on_lem d w p t = (t.what, t.held, subst (λ (n : List ℕ). Under chart n t.what) name_is t.under)
 
-      pub act_done : (d w w' : List ℕ) (p : Present) (c : Changed)
+      pub act_done : (d w w' : List ℕ) (p : StdOption Version) (c : Result (StdOption Version) Fault)
           → ((o : Option Rec) → HeldAs d u w p o → Under chart (key_named k fields) o → ChangedTo d u w' (change_of k fields o) c) → FlagsKept w w'
           → Acted d u w p (record_here u at) w' c
       act_done d w w' p c g f = record {

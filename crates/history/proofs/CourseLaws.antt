@@ -8,7 +8,9 @@ use native.Mathlib.Omega.{arith}
 use borrow.Author.Tests.{eq-eqb}
 use lib.ListN.{length, take, drop}
 use lib.Seq.{take_all}
-use Rattle.base.specs.Check.{Check, ok, bind, fault}
+use Rattle.std.specs.Prelude.{Option as StdOption, Some, None, Result, Ok, Err}
+use Rattle.base.specs.Check.{Check, ok, bind}
+use Rattle.base.specs.declared.Fault.{Fault}
 use Rattle.base.specs.Lists.{each, Each}
 use Rattle.base.proofs.EachLaws.{each_parts}
 use Rattle.base.specs.Keys.{same}
@@ -25,10 +27,9 @@ use Rattle.updates.specs.Acts.{chart}
 use Rattle.updates.proofs.Acted.{lawful}
 use Rattle.incoming.specs.Fitting.{Single, Rest}
 use Rattle.keys.specs.Listed.{key_of, listed}
-use Rattle.keys.specs.Look.{look_at, Sound}
+use Rattle.keys.specs.Look.{look_at, looked, Sound}
 use Rattle.keys.specs.Numbered.{number_of, Ranged}
 use Rattle.keys.specs.declared.look.Look.{Look}
-use Rattle.keys.specs.declared.look.Look.TheVariants.{At, Nothing}
 use Rattle.keys.proofs.SoundLaws.{sound_nothing}
 use Rattle.keys.proofs.NumberLaws.{same_number, number_inj}
 use Rattle.keys.specs.Places.{Leads, here, over}
@@ -36,9 +37,7 @@ use Rattle.sorting.specs.Places.{Next}
 use Rattle.keys.proofs.PlaceLaws.{same_look, leads_then}
 use Rattle.sorting.proofs.PlaceLaws.{next_up}
 use Rattle.version.specs.Present.{HeldAs, ChangedTo, FlagsKept}
-use Rattle.version.specs.declared.Present.{Present}
-use Rattle.version.specs.declared.Changed.{Changed}
-use Rattle.version.specs.declared.Changed.TheVariants.{Refused, Now}
+use Rattle.version.specs.declared.Version.{Version}
 use Rattle.history.specs.Here.{record_here, named_in}
 use Rattle.history.specs.Ready.{Short}
 use Rattle.history.specs.Played.{Acting, Acted, Playing, Played, EndsAt, Coursed}
@@ -60,14 +59,14 @@ history_past k r xs o s n = history_none chart k xs o (none_named xs s k r n)
 -- ---- `follow`
 
 -- what stands under the key k is held, and c is that
-pub record Standing (d u w : List ℕ) (p : Present) (k : List ℕ) (c : Check (Option Rec)) : Type 0 where
+pub record Standing (d u w : List ℕ) (p : StdOption Version) (k : List ℕ) (c : Check (Option Rec)) : Type 0 where
   pub what : Option Rec
   pub held : HeldAs d u w p what
   pub under : Under chart k what
   pub same : c ≡ ok what
 
 -- the workspace was w' with p' before the update records from `from` on; those up to q that name the key are played
-pub record Underway (d u : List ℕ) (us from key : ℕ) (w' : List ℕ) (p' : Present) (q : ℕ) (w : List ℕ) (p : Present) : Type 0 where
+pub record Underway (d u : List ℕ) (us from key : ℕ) (w' : List ℕ) (p' : StdOption Version) (q : ℕ) (w : List ℕ) (p : StdOption Version) : Type 0 where
   pub rest : Rest u q
   pub sound : Sound u q
   pub leads : Leads u us q
@@ -79,13 +78,13 @@ pub record Underway (d u : List ℕ) (us from key : ℕ) (w' : List ℕ) (p' : P
   pub kept : FlagsKept w' w
 
 -- and the one at q, if there is one, names it
-pub record Onto (d u : List ℕ) (us from key : ℕ) (w' : List ℕ) (p' : Present) (q : ℕ) (w : List ℕ) (p : Present) : Type 0 where
+pub record Onto (d u : List ℕ) (us from key : ℕ) (w' : List ℕ) (p' : StdOption Version) (q : ℕ) (w : List ℕ) (p : StdOption Version) : Type 0 where
   pub so_far : Underway d u us from key w' p' q w p
-  pub names : q < length u → (len : ℕ) × (look_at u q ≡ At len key)
+  pub names : q < length u → (len : ℕ) × (look_at u q ≡ looked len key)
 
-module _ (d u : List ℕ) (us from key : ℕ) (w' : List ℕ) (p' : Present) where
+module _ (d u : List ℕ) (us from key : ℕ) (w' : List ℕ) (p' : StdOption Version) where
   -- records that name other keys are passed over
-  onto : (q r : ℕ) (w : List ℕ) (p : Present) → Next u key q r → Underway d u us from key w' p' q w p → Onto d u us from key w' p' r w p
+  onto : (q r : ℕ) (w : List ℕ) (p : StdOption Version) → Next u key q r → Underway d u us from key w' p' q w p → Onto d u us from key w' p' r w p
   onto q r w p n a = record {
     so_far = record {
       rest = record { ended = n.sound.clean; singles = parts.1 };
@@ -112,7 +111,7 @@ module _ (d u : List ℕ) (us from key : ℕ) (w' : List ℕ) (p' : Present) whe
       parts : Each Single n.skips.skipped × Each Single (records_from u r).items
       parts = each_parts Single n.skips.skipped (records_from u r).items (subst (Each Single) n.skips.split a.rest.singles)
 
-pub onto_start : (d u : List ℕ) (us from key : ℕ) (w : List ℕ) (p : Present) → Short d u → Rest u from → from ≤ length u → Leads u us from → Playing d u w p key
+pub onto_start : (d u : List ℕ) (us from key : ℕ) (w : List ℕ) (p : StdOption Version) → Short d u → Rest u from → from ≤ length u → Leads u us from → Playing d u w p key
     → (r : ℕ) → Next u key from r → Onto d u us from key w p r w p
 unfolding history
 onto_start d u us from key w p s t i l y r n =
@@ -129,9 +128,9 @@ onto_start d u us from key w p s t i l y r n =
       kept = refl;
     })
 
-module _ (d u : List ℕ) (us from key : ℕ) (w' : List ℕ) (p' : Present) (q : ℕ) (w : List ℕ) (p : Present) (a : Onto d u us from key w' p' q w p) (s : Short d u) where
+module _ (d u : List ℕ) (us from key : ℕ) (w' : List ℕ) (p' : StdOption Version) (q : ℕ) (w : List ℕ) (p : StdOption Version) (a : Onto d u us from key w' p' q w p) (s : Short d u) where
   -- the update is over
-  pub onto_over : length u ≤ q → Coursed d u from w' p' key w (record { at = q; left = Now p })
+  pub onto_over : length u ≤ q → Coursed d u from w' p' key w (record { at = q; left = Ok p })
   unfolding EndsAt
   onto_over l = record {
     leads = a.so_far.since;
@@ -142,16 +141,16 @@ module _ (d u : List ℕ) (us from key : ℕ) (w' : List ℕ) (p' : Present) (q 
     kept = a.so_far.kept;
   }
 
-  module _ (e : Look) (en : e ≡ look_at u q) (h : q < length u) where
-    pub onto_nothing : e ≡ Nothing → (c : Course) → Coursed d u from w' p' key w c
+  module _ (e : StdOption Look) (en : e ≡ look_at u q) (h : q < length u) where
+    pub onto_nothing : e ≡ None → (c : Course) → Coursed d u from w' p' key w c
     onto_nothing x c = absurd (sound_nothing u q a.so_far.sound e en h x)
 
-    module _ (len j : ℕ) (x : e ≡ At len j) where
-      meets : Met u q len j
-      meets = met u q a.so_far.rest a.so_far.sound e en len j x
+    module _ (look : Look) (x : e ≡ Some look) where
+      meets : Met u q look.len look.key
+      meets = met u q a.so_far.rest a.so_far.sound e en look x
 
-      key_is : j ≡ key
-      key_is = let m = a.names h in (same_look e len j m.0 key x (en ∙ m.1)).1
+      key_is : look.key ≡ key
+      key_is = let m = a.names h in (same_look e look.len look.key m.0 key x (en ∙ m.1)).1
 
       number_is : number_of (named_in (record_here u q)) ≡ key
       number_is = meets.number ∙ key_is
@@ -167,41 +166,41 @@ module _ (d u : List ℕ) (us from key : ℕ) (w' : List ℕ) (p' : Present) (q 
           let y = a.so_far.playing in
           record { what = y.what; held = y.held; under = y.under (named_in (record_here u q)) meets.ranged number_is }
 
-      pub onto_leads : Leads u us (q + len)
+      pub onto_leads : Leads u us (q + look.len)
       onto_leads = leads_then a.so_far.leads (over (sym en ∙ x) here)
 
-      pub onto_word : q + len ≤ 16777216
+      pub onto_word : q + look.len ≤ 16777216
       onto_word = let i = meets.inside in let l = s.new in omega arith
 
-      pub onto_falls : (r : ℕ) → Next u key (q + len) r → length u - r < length u - q
-      onto_falls r n = let g = next_up (rest_sound u (q + len) meets.rest meets.inside s.new) n in let l = meets.long in omega arith
+      pub onto_falls : (r : ℕ) → Next u key (q + look.len) r → length u - r < length u - q
+      onto_falls r n = let g = next_up (rest_sound u (q + look.len) meets.rest meets.inside s.new) n in let l = meets.long in omega arith
 
-      module _ (v : List ℕ) (c : Changed) (b : Acted d u w p (record_here u q) v c) where
+      module _ (v : List ℕ) (c : Result (StdOption Version) Fault) (b : Acted d u w p (record_here u q) v c) where
         changes : (k : List ℕ) → Ranged k → number_of k ≡ key → (o : Option Rec) → HeldAs d u w p o → Under chart k o → ChangedTo d u v (chart.change (record_here u q) o) c
         changes k r n o g z = b.came o g (subst (λ (l : List ℕ). Under chart l o) (own k r n) z)
 
         -- it is refused
-        pub onto_no : (f i l : ℕ) → c ≡ Refused f i l → Coursed d u from w' p' key v (record { at = q; left = Refused f i l })
+        pub onto_no : (f : Fault) → c ≡ Err f → Coursed d u from w' p' key v (record { at = q; left = Err f })
         unfolding ChangedTo EndsAt
-        onto_no f i l y = record {
+        onto_no f y = record {
           leads = a.so_far.since;
           sound = a.so_far.sound;
           passed = a.so_far.passed;
           split = a.so_far.split;
           came = λ k r n o g z.
               let t = a.so_far.answer k r n o g z in
-              let r2 = subst (λ (i : Changed). ChangedTo d u v (chart.change (record_here u q) t.what) i) y (changes k r n t.what t.held t.under) in
+              let r2 = subst (λ (i : Result (StdOption Version) Fault). ChangedTo d u v (chart.change (record_here u q) t.what) i) y (changes k r n t.what t.held t.under) in
               (t.what, t.same, (h, hit k r n, r2));
           kept = b.kept ∙ a.so_far.kept;
         }
 
         -- it leaves p2
-        module _ (p2 : Present) (y : c ≡ Now p2) where
+        module _ (p2 : StdOption Version) (y : c ≡ Ok p2) where
           made : (k : List ℕ) → Ranged k → number_of k ≡ key → (o : Option Rec) → HeldAs d u w p o → Under chart k o
               → Standing d u v p2 k (chart.change (record_here u q) o)
           unfolding ChangedTo history
           made k r n o g z =
-              let t = subst (λ (i : Changed). ChangedTo d u v (chart.change (record_here u q) o) i) y (changes k r n o g z) in
+              let t = subst (λ (i : Result (StdOption Version) Fault). ChangedTo d u v (chart.change (record_here u q) o) i) y (changes k r n o g z) in
               record {
                 what = t.0;
                 held = t.2;
@@ -209,15 +208,15 @@ module _ (d u : List ℕ) (us from key : ℕ) (w' : List ℕ) (p' : Present) (q 
                 same = t.1;
               }
 
-          moved : Underway d u us from key w' p' (q + len) v p2
+          moved : Underway d u us from key w' p' (q + look.len) v p2
           moved = record {
             rest = meets.rest;
-            sound = rest_sound u (q + len) meets.rest meets.inside s.new;
+            sound = rest_sound u (q + look.len) meets.rest meets.inside s.new;
             leads = onto_leads;
             since = leads_then a.so_far.since (over (sym en ∙ x) here);
             passed = a.so_far.passed ++ (record_here u q ∷ []);
             split = a.so_far.split ∙ ap (λ (xs : List (List Field)). a.so_far.passed ++ xs) meets.split
-                ∙ sym (append_assoc a.so_far.passed (record_here u q ∷ []) (records_from u (q + len)).items);
+                ∙ sym (append_assoc a.so_far.passed (record_here u q ∷ []) (records_from u (q + look.len)).items);
             playing =
                 let y = a.so_far.playing in
                 let n = named_in (record_here u q) in
@@ -236,12 +235,12 @@ module _ (d u : List ℕ) (us from key : ℕ) (w' : List ℕ) (p' : Present) (q 
             kept = b.kept ∙ a.so_far.kept;
           }
 
-          pub onto_next : (r : ℕ) → Next u key (q + len) r → Onto d u us from key w' p' r v p2
-          onto_next r n = onto d u us from key w' p' (q + len) r v p2 n moved
+          pub onto_next : (r : ℕ) → Next u key (q + look.len) r → Onto d u us from key w' p' r v p2
+          onto_next r n = onto d u us from key w' p' (q + look.len) r v p2 n moved
 
 -- ---- `play_all`
 
-module _ (d u : List ℕ) (from : ℕ) (w : List ℕ) (p : Present) (key : ℕ) (w' : List ℕ) (c : Course) (a : Coursed d u from w p key w' c) where
+module _ (d u : List ℕ) (from : ℕ) (w : List ℕ) (p : StdOption Version) (key : ℕ) (w' : List ℕ) (c : Course) (a : Coursed d u from w p key w' c) where
   all_taken_lem : take (length u) (records_from u from).items ≡ a.passed ++ (records_from u c.at).items
   all_taken_lem = take_all (length u) (records_from u from).items (omega (arith, few_records u from)) ∙ a.split
 
@@ -252,14 +251,14 @@ module _ (d u : List ℕ) (from : ℕ) (w : List ℕ) (p : Present) (key : ℕ) 
     kept = a.kept;
   }
     where
-      go : (l : Changed) (k : List ℕ) (o t : Option Rec) → history chart k a.passed o ≡ ok t → EndsAt d u w' c.at k t l
+      go : (l : Result (StdOption Version) Fault) (k : List ℕ) (o t : Option Rec) → history chart k a.passed o ≡ ok t → EndsAt d u w' c.at k t l
           → ChangedTo d u w' (history chart k (take (length u) (records_from u from).items) o) l
-      go (Refused f i j) k o t e x =
+      go (Err f) k o t e x =
           ap (λ (xs : List (List Field)). history chart k xs o)
           (all_taken_lem ∙ ap (λ (xs : List (List Field)). a.passed ++ xs) (sound_first u c.at a.sound x.0))
           ∙ history_then k a.passed (record_here u c.at ∷ drop 1 (records_from u c.at).items) o t e
-          ∙ history_no chart k t (record_here u c.at) (drop 1 (records_from u c.at).items) (fault f i j) x.1 x.2
-      go (Now p2) k o t e x = (
+          ∙ history_no chart k t (record_here u c.at) (drop 1 (records_from u c.at).items) f x.1 x.2
+      go (Ok p2) k o t e x = (
         t,
         ap (λ (xs : List (List Field)). history chart k xs o)
             (all_taken_lem ∙ ap (λ (g : Got (List Field)). a.passed ++ g.items) (records_over u c.at x.0) ∙ append-nil a.passed) ∙ e,

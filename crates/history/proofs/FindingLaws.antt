@@ -3,11 +3,12 @@ use mathlib.Core.Path.{◌≡◌, refl, sym, ap, ◌∙◌, subst}
 use mathlib.Core.Bool.{Bool, true, false, true≢false}
 use mathlib.Core.Option.{Option, some, none}
 use mathlib.Core.List.{List, [], ◌∷◌}
-use Prim.Native.Nat.{ℕ, zero, suc, ◌+◌, ◌/◌, ◌≤◌, ◌<◌}
+use Prim.Native.Nat.{ℕ, zero, suc, ◌+◌, ◌/◌, ◌<◌}
 use native.Mathlib.Omega.{arith}
 use borrow.Author.Tests.{eq-eqb, ne_eqb}
 use lib.ListN.{length, drop}
 use lib.Seq.{drop_at}
+use Rattle.std.specs.Prelude.{Option as StdOption, Some, None, Result, Ok, Err}
 use Rattle.base.specs.Choice.{pick}
 use Rattle.base.specs.Lists.{each, Each}
 use Rattle.base.proofs.EachLaws.{each_parts}
@@ -17,7 +18,7 @@ use Rattle.skeleton.specs.File.{Field, records_from}
 use Rattle.skeleton.specs.Place.{between, fields_at}
 use Rattle.skeleton.specs.Record.{record_at}
 use Rattle.skeleton.specs.declared.leader.Head.{Head}
-use Rattle.skeleton.specs.declared.leader.Head.TheVariants.{Good, Refused}
+use Rattle.skeleton.specs.declared.leader.Broken.{Broken}
 use Rattle.rules.specs.Record.{Rec, key_of as key_in_rules, key_named, rec_of}
 use Rattle.rules.specs.declared.Kind.{Kind}
 use Rattle.rules.proofs.Locality.{key_named_lem}
@@ -31,16 +32,15 @@ use Rattle.keys.specs.Key.{key_at, kind_ranked}
 use Rattle.keys.specs.Listed.{key_of, keys_from, listed, has_from, EachOnce}
 use Rattle.keys.specs.Look.{Sound}
 use Rattle.keys.specs.Numbered.{number_of, Ranged}
-use Rattle.keys.specs.Places.{Names, site_of}
+use Rattle.keys.specs.Places.{Names, site_in}
 use Rattle.keys.proofs.ListLaws.{listed_none, listed_later, not_first, not_later}
-use Rattle.keys.proofs.PlaceLaws.{follows, leads_sound, Sited, site_known}
+use Rattle.keys.proofs.PlaceLaws.{follows, leads_sound, SiteKnown, site_known}
 use Rattle.keys.proofs.NumberLaws.{same_number}
 use Rattle.sorting.proofs.PlaceLaws.{Mid, leads_mid}
 use Rattle.items.specs.Items.{source}
 use Rattle.version.specs.Held.{Held}
 use Rattle.version.specs.Present.{HeldAs, FlagsKept}
 use Rattle.version.specs.declared.Version.{Version}
-use Rattle.version.specs.declared.Present.TheVariants.{Here}
 use Rattle.history.specs.Here.{record_here}
 use Rattle.history.proofs.HereLaws.{here_is, here_word, here_fits, here_keyed, here_kind, Known, known_stored}
 
@@ -129,11 +129,12 @@ pub record Stands (d : List ℕ) (ds key : ℕ) (s : Rec) : Type 0 where
   pub number : number_of (key_in_rules s) ≡ key
   pub found : find chart (key_in_rules s) (stock_from d ds) ≡ some s
 
--- it begins at r, where that is before the dataset's end; else there is none
-pub record Located (d : List ℕ) (ds key r : ℕ) : Type 0 where
-  pub stock : r < length d → Stock d r
-  pub there : r < length d → Stands d ds key (rec_in (record_here d r))
-  pub gone : length d ≤ r → (k : List ℕ) → Ranged k → number_of k ≡ key → find chart k (stock_from d ds) ≡ none
+-- it begins at the place, where there is one; else there is no such record
+pub record Located (d : List ℕ) (ds key : ℕ) (r : StdOption ℕ) : Type 0 where
+  pub stock : (p : ℕ) → r ≡ Some p → Stock d p
+  pub inside : (p : ℕ) → r ≡ Some p → p < length d
+  pub there : (p : ℕ) → r ≡ Some p → Stands d ds key (rec_in (record_here d p))
+  pub gone : r ≡ None → (k : List ℕ) → Ranged k → number_of k ≡ key → find chart k (stock_from d ds) ≡ none
 
 module _ (d : List ℕ) (ds : ℕ) (s : Stock d ds) (o : Once chart (stock_from d ds)) where
   pub keys_once_lem : EachOnce (keys_from d ds)
@@ -169,38 +170,39 @@ module _ (d : List ℕ) (ds : ℕ) (s : Stock d ds) (o : Once chart (stock_from 
           }
 
     -- what stands where the key's place is
-    pub located : (r : ℕ) → r ≡ site_of d ds key → Located d ds key r
+    pub located : (r : StdOption ℕ) → r ≡ site_in d ds key → Located d ds key r
     unfolding stock_from has_from keys_from
     located r e =
-        let t : Sited d ds key r = rw e (site_known d ds key sound) in
+        let t : SiteKnown d ds key r = site_known d ds key sound r e in
         record {
-          stock = λ h. names_stock r (t.there h);
-          there = λ h. names_stands r (t.there h);
+          stock = λ p h. names_stock p (t.there p h);
+          inside = t.inside;
+          there = λ p h. names_stands p (t.there p h);
           gone = λ h k g x. none_listed (records_from d ds).items s.right k g (rw x (t.gone h));
         }
 
 -- ---- `load_at`
 
-module _ (d : List ℕ) (at : ℕ) (s : Stock d at) (h : at < length d) (q : Head) (e : q ≡ record_at d at) where
-  pub load_refused : {X : Type 0} → (n : ℕ) → q ≡ Refused n → X
+module _ (d : List ℕ) (at : ℕ) (s : Stock d at) (h : at < length d) (q : Result Head Broken) (e : q ≡ record_at d at) where
+  pub load_refused : {X : Type 0} → (n : Broken) → q ≡ Err n → X
   load_refused n x = absurd (stock_good d at s h q e n x)
 
-  module _ (len base a b : ℕ) (x : q ≡ Good len base a b) where
-    pub load_fields : (key : ℕ) → key ≡ key_at d (at + base) → (k : Kind) → k ≡ kind_ranked (key / 4294967296)
-        → Stored k (fields_at (between d at (at + len)) (record { base = base; a = a; b = b }) 24)
+  module _ (head : Head) (x : q ≡ Ok head) where
+    pub load_fields : (key : ℕ) → key ≡ key_at d (at + head.shape.base) → (k : Kind) → k ≡ kind_ranked (key / 4294967296)
+        → Stored k (fields_at (between d at (at + head.len)) head.shape 24)
     load_fields key ek k e2 =
-        let t = stock_here d at s h q e len base a b x in
-        let z : k ≡ t.0 = here_kind d at q e len base a b x t.0 (known_stored t.0 _ t.1) key ek k e2 in
+        let t = stock_here d at s h q e head x in
+        let z : k ≡ t.0 = here_kind d at q e head x t.0 (known_stored t.0 _ t.1) key ek k e2 in
         rw z t.1
 
-    pub load_held : (k : Kind) → Stored k (fields_at (between d at (at + len)) (record { base = base; a = a; b = b }) 24)
+    pub load_held : (k : Kind) → Stored k (fields_at (between d at (at + head.len)) head.shape 24)
         → (w : List ℕ) (v : Version)
-        → ((c u : List ℕ) → source 0 c u ≡ d → Held c u w v (rec_of k (fields_at (between d at (at + len)) (record { base = base; a = a; b = b }) 24)))
-        → (u : List ℕ) → Writable (rec_in (record_here d at)) → HeldAs d u w (Here v) (some (rec_in (record_here d at)))
+        → ((c u : List ℕ) → source 0 c u ≡ d → Held c u w v (rec_of k (fields_at (between d at (at + head.len)) head.shape 24)))
+        → (u : List ℕ) → Writable (rec_in (record_here d at)) → HeldAs d u w (Some v) (some (rec_in (record_here d at)))
     unfolding HeldAs source
     load_held k t w v g u y =
-        let z : rec_in (record_here d at) ≡ rec_of k (fields_at (between d at (at + len)) (record { base = base; a = a; b = b }) 24)
-        = ap rec_in (here_is d at h q e len base a b x) ∙ said_as k _ t in
+        let z : rec_in (record_here d at) ≡ rec_of k (fields_at (between d at (at + head.len)) head.shape 24)
+        = ap rec_in (here_is d at h q e head x) ∙ said_as k _ t in
         (rec_in (record_here d at), refl, rw z (g d u refl), y)
 
 -- what stands behind the areas of a version, said in one word

@@ -7,6 +7,7 @@ use Prim.Native.Nat.{ℕ, ◌+◌, ◌/◌, ◌^◌, ◌≤◌, ◌<◌}
 use native.Mathlib.Omega.{arith}
 use lib.ListN.{length, get_or, drop}
 use lib.Dec.{eqb, ltb}
+use Rattle.std.specs.Prelude.{Result, Ok}
 use Rattle.base.specs.Choice.{pick}
 use Rattle.base.specs.Check.{ok, no, bind, fault, Passed, pass}
 use Rattle.base.specs.Lists.{each}
@@ -16,7 +17,7 @@ use Rattle.skeleton.specs.File.{Field, records_from}
 use Rattle.skeleton.specs.Place.{between, fields_at}
 use Rattle.skeleton.specs.Record.{record_at}
 use Rattle.skeleton.specs.declared.leader.Head.{Head}
-use Rattle.skeleton.specs.declared.leader.Head.TheVariants.{Good}
+use Rattle.skeleton.specs.declared.leader.Broken.{Broken}
 use Rattle.skeleton.proofs.FileLaws.{records_more}
 use Rattle.skeleton.proofs.RecordLaws.{right}
 use Rattle.rules.specs.ByTag.{first_tag, front}
@@ -40,16 +41,16 @@ use Rattle.history.specs.Here.{record_here}
 
 -- ---- by what its leader says
 
-module _ (f : List ℕ) (p : ℕ) (h : p < length f) (q : Head) (e : q ≡ record_at f p) (len base a b : ℕ) (x : q ≡ Good len base a b) where
-  pub here_is : record_here f p ≡ fields_at (between f p (p + len)) (record { base = base; a = a; b = b }) 24
+module _ (f : List ℕ) (p : ℕ) (h : p < length f) (q : Result Head Broken) (e : q ≡ record_at f p) (head : Head) (x : q ≡ Ok head) where
+  pub here_is : record_here f p ≡ fields_at (between f p (p + head.len)) head.shape 24
   unfolding record_here
-  here_is = ap (λ (g : Got (List Field)). get_or g.items 0 []) (records_more f p h q e len base a b x)
+  here_is = ap (λ (g : Got (List Field)). get_or g.items 0 []) (records_more f p h q e head x)
 
   -- the place of its key can be told
-  pub here_word : length f ≤ 16777216 → p + base < 2 ^ 63
-  here_word s = let r = (right f p q e len base a b x).bounded.base_small in omega arith
+  pub here_word : length f ≤ 16777216 → p + head.shape.base < 2 ^ 63
+  here_word s = let r = (right f p q e head x).bounded.base_small in omega arith
 
-  pub here_fits : length f ≤ 16777216 → p + base < 2 ^ 64
+  pub here_fits : length f ≤ 16777216 → p + head.shape.base < 2 ^ 64
   here_fits s = let r = here_word s in omega arith
 
 -- ---- by its key
@@ -109,10 +110,10 @@ known_sent k fs e =
     go false c j y = ok_inj j k y
 
 -- the kind by the key that stands at the base address
-pub here_kind : (f : List ℕ) (p : ℕ) (q : Head) → q ≡ record_at f p → (len base a b : ℕ) → q ≡ Good len base a b
-    → (k : Kind) → Known k (fields_at (between f p (p + len)) (record { base = base; a = a; b = b }) 24)
-    → (key : ℕ) → key ≡ key_at f (p + base) → (j : Kind) → j ≡ kind_ranked (key / 4294967296) → j ≡ k
-here_kind f p q e len base a b x k n key ek j ej =
-    let r = right f p q e len base a b x in
-    let i : key ≡ key_of (fields_at (between f p (p + len)) (record { base = base; a = a; b = b }) 24) = ek ∙ first_key f p len base a b r.walked n.keyed.some in
+pub here_kind : (f : List ℕ) (p : ℕ) (q : Result Head Broken) → q ≡ record_at f p → (head : Head) → q ≡ Ok head
+    → (k : Kind) → Known k (fields_at (between f p (p + head.len)) head.shape 24)
+    → (key : ℕ) → key ≡ key_at f (p + head.shape.base) → (j : Kind) → j ≡ kind_ranked (key / 4294967296) → j ≡ k
+here_kind f p q e head x k n key ek j ej =
+    let r = right f p q e head x in
+    let i : key ≡ key_of (fields_at (between f p (p + head.len)) head.shape 24) = ek ∙ first_key f p head.len head.shape r.walked n.keyed.some in
     ej ∙ ap (λ (z : ℕ). kind_ranked (z / 4294967296)) i ∙ ap kind_ranked n.keyed.kind ∙ kind_ranked_lem k

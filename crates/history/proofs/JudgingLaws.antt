@@ -8,9 +8,11 @@ use native.Mathlib.Omega.{arith}
 use borrow.Author.Tests.{not-true, not-false, eqb-true, ltb-true, ltb-false, lt-ltb, le-ltb, leb-true, leb-false}
 use lib.Dec.{eqb, ltb, leb}
 use lib.ListN.{length, drop, length-append}
+use Rattle.std.specs.Prelude.{Option as StdOption, Some, None, Result, Ok, Err}
 use Rattle.base.specs.Choice.{pick, either}
 use Rattle.base.specs.Check.{ok, no, bind, fault}
 use Rattle.base.specs.Lists.{each, Each}
+use Rattle.base.specs.Verdict.{refusal}
 use Rattle.base.specs.declared.Fault.{Fault}
 use Rattle.base.proofs.CheckLaws.{bind_inv}
 use Rattle.base.proofs.EachLaws.{each_parts}
@@ -35,19 +37,15 @@ use Rattle.keys.specs.Listed.{key_of, keys_from, listed}
 use Rattle.keys.specs.Look.{look_at, Sound}
 use Rattle.keys.specs.Numbered.{number_of, Ranged}
 use Rattle.keys.specs.declared.look.Look.{Look}
-use Rattle.keys.specs.declared.look.Look.TheVariants.{At, Nothing}
 use Rattle.keys.proofs.ListLaws.{listed_none, listed_more}
 use Rattle.keys.proofs.NumberLaws.{number_inj}
 use Rattle.keys.proofs.SoundLaws.{sound_nothing}
-use Rattle.keys.specs.Places.{site_of, Leads, here, over}
+use Rattle.keys.specs.Places.{site_in, Leads, here, over}
 use Rattle.sorting.specs.Places.{Next}
 use Rattle.keys.proofs.PlaceLaws.{leads_sound, leads_up, leads_then, leads_on, leads_end}
 use Rattle.version.specs.Areas.{flag_area}
 use Rattle.version.specs.Present.{HeldAs, FlagsKept}
-use Rattle.version.specs.declared.Present.{Present}
-use Rattle.version.specs.declared.Present.TheVariants.{Absent}
-use Rattle.version.specs.declared.Changed.{Changed}
-use Rattle.version.specs.declared.Changed.TheVariants.{Refused, Now}
+use Rattle.version.specs.declared.Version.{Version}
 use Rattle.history.specs.Here.{record_here, named_in, records_up_to}
 use Rattle.history.specs.Flags.{key_flag, Flags, Marked}
 use Rattle.history.proofs.FindingLaws.{Stands, Located, located}
@@ -56,7 +54,6 @@ use Rattle.history.specs.Played.{Playing, EndsAt, Coursed}
 use Rattle.history.specs.Judged.{keys_up_to, Naming, Through, RefusedAt, Followed, earlier_by, earlier_of, Judging, judged_by, AllJudged}
 use Rattle.history.specs.declared.playing.Course.{Course}
 use Rattle.history.specs.declared.judging.Stop.{Stop}
-use Rattle.history.specs.declared.judging.Judged.TheVariants.{Fine, Stopped}
 use Rattle.history.proofs.FlagLaws.{flags_none, flags_clear, flags_more, flags_kept, area_long}
 use Rattle.history.proofs.UpToLaws.{sound_first, leads_past, listed_middle, upto_start, upto_end, upto_split, upto_more, upto_one, upto_later, none_before, one_before}
 use Rattle.history.proofs.PlayingLaws.{Met, met, Named, single_named, rest_sound}
@@ -128,15 +125,15 @@ is_new b true e h = absurd (true≢false (sym (not-false b h) ∙ e))
 -- ---- `earlier`
 
 module _ (c : Course) (s : Stop) where
-  pub earlier_new : (number field tuple : ℕ) → c.left ≡ Refused number field tuple → c.at < s.at → record { at = c.at; number = number; field = field; tuple = tuple } ≡ earlier_of c s
+  pub earlier_new : (x : Fault) → c.left ≡ Err x → c.at < s.at → record { at = c.at; fault = x } ≡ earlier_of c s
   unfolding earlier_by
-  earlier_new number field tuple e h = rw (e, lt-ltb c.at s.at h) refl
+  earlier_new x e h = rw (e, lt-ltb c.at s.at h) refl
 
-  pub earlier_old : (number field tuple : ℕ) → c.left ≡ Refused number field tuple → s.at ≤ c.at → s ≡ earlier_of c s
+  pub earlier_old : (x : Fault) → c.left ≡ Err x → s.at ≤ c.at → s ≡ earlier_of c s
   unfolding earlier_by
-  earlier_old number field tuple e h = rw (e, le-ltb c.at s.at h) refl
+  earlier_old x e h = rw (e, le-ltb c.at s.at h) refl
 
-  pub earlier_none : (p : Present) → c.left ≡ Now p → s ≡ earlier_of c s
+  pub earlier_none : (p : StdOption Version) → c.left ≡ Ok p → s ≡ earlier_of c s
   unfolding earlier_by
   earlier_none p e = rw e refl
 
@@ -191,7 +188,7 @@ module _ (d : List ℕ) (ds : ℕ) (u : List ℕ) (us : ℕ) (y : Ready d ds u u
     pub course_sound : Sound u us
     course_sound = ready_sound
 
-    module _ (w v : List ℕ) (p : Present) (v2 : List ℕ) (c : Course) (f : FlagsKept w v) (a : Coursed d u q v p key v2 c)
+    module _ (w v : List ℕ) (p : StdOption Version) (v2 : List ℕ) (c : Course) (f : FlagsKept w v) (a : Coursed d u q v p key v2 c)
         (h : (k : List ℕ) → Ranged k → number_of k ≡ key → HeldAs d u v p (find chart k (stock_from d ds)) × Under chart k (find chart k (stock_from d ds))) where
       -- what the update records before `at` make of the key
       version_is : (k : List ℕ) → Ranged k → number_of k ≡ key
@@ -218,51 +215,51 @@ module _ (d : List ℕ) (ds : ℕ) (u : List ℕ) (us : ℕ) (y : Ready d ds u u
         kept = a.kept ∙ f;
       }
         where
-          go : (x : Changed) → c.left ≡ x → c.at < length u → (o : Option Rec) → version chart (stock_from d ds) (records_up_to u us c.at) (named_in (record_here u q)) ≡ ok o
+          go : (x : Result (StdOption Version) Fault) → c.left ≡ x → c.at < length u → (o : Option Rec) → version chart (stock_from d ds) (records_up_to u us c.at) (named_in (record_here u q)) ≡ ok o
               → EndsAt d u v2 c.at (named_in (record_here u q)) o x
-              → (number field tuple : ℕ) × (c.left ≡ Refused number field tuple) × RefusedAt d ds u us c.at number field tuple
-          go (Refused i j m) e g o z t =
+              → (f : Fault) × (c.left ≡ Err f) × RefusedAt d ds u us c.at f
+          go (Err f) e g o z t =
               let n = same_sound (named_in (record_here u c.at)) (named_in (record_here u q)) t.1 in
-              (i, j, m, e, due_of chart 0 (stock_from d ds) (records_up_to u us c.at) (record_here u c.at) [] o (ap (version chart (stock_from d ds) (records_up_to u us c.at)) n ∙ z) ∙ t.2)
-          go (Now p2) e g o z t = absurd (let i = t.0 in omega arith)
+              (f, e, due_of chart 0 (stock_from d ds) (records_up_to u us c.at) (record_here u c.at) [] o (ap (version chart (stock_from d ds) (records_up_to u us c.at)) n ∙ z) ∙ t.2)
+          go (Ok p2) e g o z t = absurd (let i = t.0 in omega arith)
 
     -- the record that was located
-    module _ (sound : Sound d ds) (r : ℕ) (e : r ≡ site_of d ds key) where
+    module _ (sound : Sound d ds) (r : StdOption ℕ) (e : r ≡ site_in d ds key) where
       pub at : Located d ds key r
       at = located d ds y.stock y.once key sound r e
 
-      module _ (h : r < length d) (v : List ℕ) (p : Present)
-          (g : (c : List ℕ) → Writable (rec_in (record_here d r)) → HeldAs d c v p (some (rec_in (record_here d r)))) where
-        stands : Stands d ds key (rec_in (record_here d r))
-        stands = at.there h
+      module _ (place : ℕ) (h : r ≡ Some place) (v : List ℕ) (p : StdOption Version)
+          (g : (c : List ℕ) → Writable (rec_in (record_here d place)) → HeldAs d c v p (some (rec_in (record_here d place)))) where
+        stands : Stands d ds key (rec_in (record_here d place))
+        stands = at.there place h
 
-        writes : Writable (rec_in (record_here d r))
+        writes : Writable (rec_in (record_here d place))
         writes =
-            subst (Has chart Writable) stands.found (each_find chart Writable (key_in_rules (rec_in (record_here d r))) (stock_from d ds) y.writable)
+            subst (Has chart Writable) stands.found (each_find chart Writable (key_in_rules (rec_in (record_here d place))) (stock_from d ds) y.writable)
 
-        key_of_lem : (k : List ℕ) → Ranged k → number_of k ≡ key → key_in_rules (rec_in (record_here d r)) ≡ k
-        key_of_lem k a n = number_inj (key_in_rules (rec_in (record_here d r))) k stands.ranged a (n ∙ sym stands.number)
+        key_of_lem : (k : List ℕ) → Ranged k → number_of k ≡ key → key_in_rules (rec_in (record_here d place)) ≡ k
+        key_of_lem k a n = number_inj (key_in_rules (rec_in (record_here d place))) k stands.ranged a (n ∙ sym stands.number)
 
         pub there_playing : Playing d u v p key
-        there_playing = record { what = some (rec_in (record_here d r)); held = g u writes; under = λ k a n. key_of_lem k a n }
+        there_playing = record { what = some (rec_in (record_here d place)); held = g u writes; under = λ k a n. key_of_lem k a n }
 
         pub there_followed : (w : List ℕ) → FlagsKept w v → (v2 : List ℕ) (c : Course) → Coursed d u q v p key v2 c → Followed d ds u us q key w v2 c
         there_followed w f v2 c a =
             followed w v p v2 c f a
             (λ k x n.
-            let e : find chart k (stock_from d ds) ≡ some (rec_in (record_here d r))
-            = subst (λ (i : List ℕ). find chart i (stock_from d ds) ≡ some (rec_in (record_here d r))) (key_of_lem k x n) stands.found in
+            let e : find chart k (stock_from d ds) ≡ some (rec_in (record_here d place))
+            = subst (λ (i : List ℕ). find chart i (stock_from d ds) ≡ some (rec_in (record_here d place))) (key_of_lem k x n) stands.found in
             (subst (HeldAs d u v p) (sym e) (g u writes), subst (Under chart k) (sym e) (key_of_lem k x n)))
 
       -- none was
-      pub gone_playing : (w : List ℕ) → Playing d u w Absent key
+      pub gone_playing : (w : List ℕ) → Playing d u w None key
       unfolding HeldAs
       gone_playing w = record { what = none; held = refl; under = λ k a n. tt }
 
-      pub gone_followed : length d ≤ r → (w v : List ℕ) (c : Course) → Coursed d u q w Absent key v c → Followed d ds u us q key w v c
+      pub gone_followed : r ≡ None → (w v : List ℕ) (c : Course) → Coursed d u q w None key v c → Followed d ds u us q key w v c
       unfolding HeldAs
       gone_followed h w v c a =
-          followed w w Absent v c refl a (λ k x n. (let e = at.gone h k x n in (e, subst (Under chart k) (sym e) tt)))
+          followed w w None v c refl a (λ k x n. (let e = at.gone h k x n in (e, subst (Under chart k) (sym e) tt)))
 
   -- ---- `first_stop`
 
@@ -280,23 +277,23 @@ module _ (d : List ℕ) (ds : ℕ) (u : List ℕ) (us : ℕ) (y : Ready d ds u u
       before_end = (leads_sound j.leads ready_sound).inside
 
       -- that of the course is the first
-      new_stop : (number field tuple : ℕ) → c.left ≡ Refused number field tuple → c.at < s.at
-          → Judging d ds u us q (record { at = c.at; number = number; field = field; tuple = tuple }) × Through d ds u us c.at key × FlagsKept w v
+      new_stop : (f : Fault) → c.left ≡ Err f → c.at < s.at
+          → Judging d ds u us q (record { at = c.at; fault = f }) × Through d ds u us c.at key × FlagsKept w v
       unfolding RefusedAt
-      new_stop number field tuple e h = (
+      new_stop f e h = (
         record {
           leads = at_course;
           ahead = leads_up a.leads (leads_sound l ready_sound);
           through = λ k i. through_less c.at s.at k at_course j.leads (omega arith) (j.through k i);
-          ends = λ g. (let x = a.ends g in same_fault x.0 x.1 x.2 x.3 x.4);
+          ends = λ g. (let x = a.ends g in same_fault x.0 x.1 x.2);
         },
         a.through,
         a.kept,
       )
         where
-          same_fault : (m i t : ℕ) → c.left ≡ Refused m i t → due chart (stock_from d ds) (records_up_to u us c.at) (record_here u c.at) ≡ no (fault m i t)
-              → due chart (stock_from d ds) (records_up_to u us c.at) (record_here u c.at) ≡ no (fault number field tuple)
-          same_fault m i t z f = f ∙ ap no (let a : m ≡ number = cc in let b : i ≡ field = cc in let g : t ≡ tuple = cc in cc)
+          same_fault : (g : Fault) → c.left ≡ Err g → due chart (stock_from d ds) (records_up_to u us c.at) (record_here u c.at) ≡ no g
+              → due chart (stock_from d ds) (records_up_to u us c.at) (record_here u c.at) ≡ no f
+          same_fault g z y = y ∙ ap no (let a : g ≡ f = cc in a)
 
       -- or that which was found before
       old_stop : s.at ≤ c.at → Judging d ds u us q s × Through d ds u us s.at key × FlagsKept w v
@@ -307,18 +304,18 @@ module _ (d : List ℕ) (ds : ℕ) (u : List ℕ) (us : ℕ) (y : Ready d ds u u
       stop_earlier r e =
           subst (λ (x : Stop). Judging d ds u us q x × Through d ds u us x.at key × FlagsKept w v) (sym e) (go c.left refl)
         where
-          go : (x : Changed) → c.left ≡ x → Judging d ds u us q (earlier_by x c.at s) × Through d ds u us (earlier_by x c.at s).at key × FlagsKept w v
-          go (Now p) z = old_stop (past (ltb c.at (length u)) refl)
+          go : (x : Result (StdOption Version) Fault) → c.left ≡ x → Judging d ds u us q (earlier_by x c.at s) × Through d ds u us (earlier_by x c.at s).at key × FlagsKept w v
+          go (Ok p) z = old_stop (past (ltb c.at (length u)) refl)
             where
               past : (b : Bool) → ltb c.at (length u) ≡ b → s.at ≤ c.at
               past true g = absurd (let x = a.ends (ltb-true c.at (length u) g) in let n : ◌≡◌ {A = ℕ} 0 1 = cc in omega arith)
               past false g = let i = ltb-false c.at (length u) g in let m = before_end in omega arith
-          go (Refused number field tuple) z = which (ltb c.at s.at) refl
+          go (Err f) z = which (ltb c.at s.at) refl
             where
               which : (b : Bool) → ltb c.at s.at ≡ b
-                  → Judging d ds u us q (pick b (record { at = c.at; number = number; field = field; tuple = tuple }) s)
-                  × Through d ds u us (pick b (record { at = c.at; number = number; field = field; tuple = tuple }) s).at key × FlagsKept w v
-              which true g = new_stop number field tuple z (ltb-true c.at s.at g)
+                  → Judging d ds u us q (pick b (record { at = c.at; fault = f }) s)
+                  × Through d ds u us (pick b (record { at = c.at; fault = f }) s).at key × FlagsKept w v
+              which true g = new_stop f z (ltb-true c.at s.at g)
               which false g = old_stop (ltb-false c.at s.at g)
 
 -- ---- `judge`
@@ -332,7 +329,7 @@ pub record Verdicts (d : List ℕ) (ds : ℕ) (u : List ℕ) (us q j : ℕ) (s :
   pub small : j ≤ q
 
 module _ (d : List ℕ) (ds : ℕ) (u : List ℕ) (us : ℕ) (y : Ready d ds u us) where
-  pub verdicts_start : (w : List ℕ) → Verdicts d ds u us us 0 (record { at = length u; number = 0; field = 0; tuple = 0 }) w
+  pub verdicts_start : (w : List ℕ) → Verdicts d ds u us us 0 (record { at = length u; fault = fault 0 0 0 }) w
   unfolding each
   verdicts_start w = record {
     leads = here;
@@ -358,7 +355,7 @@ module _ (d : List ℕ) (ds : ℕ) (u : List ℕ) (us : ℕ) (y : Ready d ds u u
     verdicts_word = let a = t.small in let b = sound_here.inside in let c = y.short.new in omega arith
 
     -- all are accepted
-    pub verdicts_over : length u ≤ q → AllJudged d ds u us w Fine
+    pub verdicts_over : length u ≤ q → AllJudged d ds u us w (Ok tt)
     unfolding verdicts judged_by in_update keys_from
     verdicts_over h =
         let e : records_up_to u us q ≡ (records_from u us).items = upto_end u us q h in
@@ -370,29 +367,29 @@ module _ (d : List ℕ) (ds : ℕ) (u : List ℕ) (us : ℕ) (y : Ready d ds u u
           flags = λ _. subst (λ (xs : List (List Field)). Flags (each key_of xs) (flag_area w)) e t.flags;
         }
 
-    module _ (e : Look) (en : e ≡ look_at u q) (h : q < length u) where
-      pub verdicts_nothing : e ≡ Nothing → AllJudged d ds u us w Fine
+    module _ (e : StdOption Look) (en : e ≡ look_at u q) (h : q < length u) where
+      pub verdicts_nothing : e ≡ None → AllJudged d ds u us w (Ok tt)
       verdicts_nothing x = absurd (sound_nothing u q sound_here e en h x)
 
-      module _ (len key : ℕ) (x : e ≡ At len key) where
-        meets : Met u q len key
-        meets = met u q (rest_at d ds u us y q t.leads) sound_here e en len key x
+      module _ (look : Look) (x : e ≡ Some look) where
+        meets : Met u q look.len look.key
+        meets = met u q (rest_at d ds u us y q t.leads) sound_here e en look x
 
-        pub verdicts_naming : Naming u q key
+        pub verdicts_naming : Naming u q look.key
         verdicts_naming = record { there = h; ranged = meets.ranged; number = meets.number }
 
-        pub verdicts_fits : q + len < 2 ^ 64
+        pub verdicts_fits : q + look.len < 2 ^ 64
         verdicts_fits = let i = meets.inside in let l = y.short.new in omega arith
 
-        pub verdicts_falls : length u - (q + len) < length u - q
+        pub verdicts_falls : length u - (q + look.len) < length u - q
         verdicts_falls = let i = meets.inside in let l = meets.long in omega arith
 
-        module _ (r : Stop) (v : List ℕ) (b : Judging d ds u us q r × Through d ds u us r.at key × FlagsKept w v) where
+        module _ (r : Stop) (v : List ℕ) (b : Judging d ds u us q r × Through d ds u us r.at look.key × FlagsKept w v) where
           -- the one at q is refused
-          pub verdicts_stop : r.at ≡ q → AllJudged d ds u us v (Stopped r.number (j + 3) r.field r.tuple)
+          pub verdicts_stop : r.at ≡ q → AllJudged d ds u us v (Err (refusal (j + 3) r.fault))
           unfolding verdicts judged_by in_update RefusedAt
           verdicts_stop z =
-              let x = fault r.number r.field r.tuple in
+              let x = r.fault in
               let f = all_through d ds u us y q t.leads (λ k i. subst (λ (c : ℕ). Through d ds u us c k) z (b.0.through k i)) in
               let refusal : due chart (stock_from d ds) (records_up_to u us q) (record_here u q) ≡ no x
               = subst (λ (c : ℕ). due chart (stock_from d ds) (records_up_to u us c) (record_here u c) ≡ no x) z (b.0.ends (omega arith)) in
@@ -413,18 +410,18 @@ module _ (d : List ℕ) (ds : ℕ) (u : List ℕ) (us : ℕ) (y : Ready d ds u u
               }
 
           -- it is not, and its flag is raised
-          module _ (z : r.at ≡ q → ⊥) (long : 400000 ≤ length v) (v2 : List ℕ) (m : Marked v key v2) where
-            one : records_up_to u us (q + len) ≡ records_up_to u us q ++ (record_here u q ∷ [])
-            one = upto_one u us (ready_sound d ds u us y) q t.leads len key (sym en ∙ x)
+          module _ (z : r.at ≡ q → ⊥) (long : 400000 ≤ length v) (v2 : List ℕ) (m : Marked v look.key v2) where
+            one : records_up_to u us (q + look.len) ≡ records_up_to u us q ++ (record_here u q ∷ [])
+            one = upto_one u us (ready_sound d ds u us y) q t.leads look.len look.key (sym en ∙ x)
 
-            keys_one : keys_up_to u us (q + len) ≡ keys_up_to u us q ++ (key ∷ [])
+            keys_one : keys_up_to u us (q + look.len) ≡ keys_up_to u us q ++ (look.key ∷ [])
             unfolding each
             keys_one = ap (each key_of) one ∙ each_append key_of (records_up_to u us q) (record_here u q ∷ []) ∙ ap (λ (k : ℕ). keys_up_to u us q ++ (k ∷ [])) meets.numbered
 
             on : q < r.at
             on = let a = b.0.ahead in omega arith
 
-            pub verdicts_next : Verdicts d ds u us (q + len) (j + 1) r v2
+            pub verdicts_next : Verdicts d ds u us (q + look.len) (j + 1) r v2
             verdicts_next = record {
               leads = leads_then t.leads (over (sym en ∙ x) here);
               judging = record {
@@ -432,18 +429,18 @@ module _ (d : List ℕ) (ds : ℕ) (u : List ℕ) (us : ℕ) (y : Ready d ds u u
                 ahead =
                     leads_up
                     (leads_past sound_here (sym en ∙ x) (leads_on (ready_sound d ds u us y) t.leads b.0.leads (omega (arith, on))) on)
-                    (rest_sound u (q + len) meets.rest meets.inside y.short.new);
-                through = λ k i. which k (listed k (keys_up_to u us q)) refl (sym (listed_more k key (keys_up_to u us q)) ∙ ap (listed k) (sym keys_one) ∙ i);
+                    (rest_sound u (q + look.len) meets.rest meets.inside y.short.new);
+                through = λ k i. which k (listed k (keys_up_to u us q)) refl (sym (listed_more k look.key (keys_up_to u us q)) ∙ ap (listed k) (sym keys_one) ∙ i);
                 ends = b.0.ends;
               };
               flags =
                   subst (λ (l : List ℕ). Flags l (flag_area v2)) (sym keys_one)
-                  (flags_more (keys_up_to u us q) (flag_area v) (flag_area v2) key (area_long v long)
+                  (flags_more (keys_up_to u us q) (flag_area v) (flag_area v2) look.key (area_long v long)
                   (subst (Flags (keys_up_to u us q)) (sym (flags_kept w v b.2)) t.flags) m.flags);
               counted = (let c = t.counted in omega (arith, ap length one, length-append (records_up_to u us q) (record_here u q ∷ [])));
               small = (let c = t.small in let l = meets.long in omega arith);
             }
               where
-                which : (k : ℕ) (c : Bool) → listed k (keys_up_to u us q) ≡ c → either (listed k (keys_up_to u us q)) (eqb key k) ≡ true → Through d ds u us r.at k
+                which : (k : ℕ) (c : Bool) → listed k (keys_up_to u us q) ≡ c → either (listed k (keys_up_to u us q)) (eqb look.key k) ≡ true → Through d ds u us r.at k
                 which k true g i = b.0.through k g
-                which k false g i = subst (Through d ds u us r.at) (eqb-true key k (sym (ap (λ (c : Bool). either c (eqb key k)) g) ∙ i)) b.1
+                which k false g i = subst (Through d ds u us r.at) (eqb-true look.key k (sym (ap (λ (c : Bool). either c (eqb look.key k)) g) ∙ i)) b.1

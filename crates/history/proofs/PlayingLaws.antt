@@ -5,6 +5,7 @@ use mathlib.Core.List.{List, [], ◌∷◌}
 use Prim.Native.Nat.{ℕ, ◌+◌, ◌≤◌, ◌<◌}
 use borrow.Author.Tests.{ne_eqb}
 use lib.ListN.{length}
+use Rattle.std.specs.Prelude.{Option, Some}
 use Rattle.base.specs.Lists.{each, Each}
 use Rattle.base.specs.Keys.{same}
 use Rattle.skeleton.specs.File.{Field, records_from}
@@ -15,7 +16,6 @@ use Rattle.keys.specs.Listed.{key_of, keys_from, listed, has_from}
 use Rattle.keys.specs.Look.{look_at, Sound}
 use Rattle.keys.specs.Numbered.{number_of, Ranged}
 use Rattle.keys.specs.declared.look.Look.{Look}
-use Rattle.keys.specs.declared.look.Look.TheVariants.{At}
 use Rattle.keys.proofs.ListLaws.{listed_none, listed_later, not_first, not_later}
 use Rattle.keys.proofs.SoundLaws.{sound_next}
 use Rattle.keys.proofs.NumberLaws.{same_number}
@@ -58,13 +58,13 @@ single_named fs s =
     let e = named_as s.kind fs s.right in
     record { ranged = subst Ranged (sym e) n.ranged; number = n.number ∙ ap number_of (sym e) }
 
-pub met : (u : List ℕ) (q : ℕ) → Rest u q → Sound u q → (e : Look) → e ≡ look_at u q → (len key : ℕ) → e ≡ At len key → Met u q len key
+pub met : (u : List ℕ) (q : ℕ) → Rest u q → Sound u q → (e : Option Look) → e ≡ look_at u q → (look : Look) → e ≡ Some look → Met u q look.len look.key
 unfolding Each
-met u q s o e en len key x =
-    let n = sound_next u q o e en len key x in
-    let h = here_keyed u q key (keys_from u (q + len)) n.found.keys in
-    let y : (records_from u q).items ≡ record_here u q ∷ (records_from u (q + len)).items = h.0 ∙ ap (λ (l : List (List Field)). record_here u q ∷ l) n.found.later in
-    let a : Each Single (record_here u q ∷ (records_from u (q + len)).items) = subst (Each Single) y s.singles in
+met u q s o e en look x =
+    let n = sound_next u q o e en look x in
+    let h = here_keyed u q look.key (keys_from u (q + look.len)) n.found.keys in
+    let y : (records_from u q).items ≡ record_here u q ∷ (records_from u (q + look.len)).items = h.0 ∙ ap (λ (l : List (List Field)). record_here u q ∷ l) n.found.later in
+    let a : Each Single (record_here u q ∷ (records_from u (q + look.len)).items) = subst (Each Single) y s.singles in
     let m = single_named (record_here u q) a.0 in
     record {
       split = y;

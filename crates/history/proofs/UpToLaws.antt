@@ -8,14 +8,14 @@ use borrow.Author.Tests.{eqb-true, eqb-false}
 use lib.Dec.{eqb}
 use lib.ListN.{length, take, drop, length-append}
 use lib.Seq.{take_at}
+use Rattle.std.specs.Prelude.{Option, Some, None}
 use Rattle.base.specs.Lists.{each}
 use Rattle.base.specs.Walk.{Got}
 use Rattle.skeleton.specs.File.{Field, records_from}
 use Rattle.skeleton.proofs.FileLaws.{records_over}
 use Rattle.keys.specs.Listed.{key_of, keys_from, listed}
-use Rattle.keys.specs.Look.{look_at, Sound}
+use Rattle.keys.specs.Look.{look_at, looked, Sound}
 use Rattle.keys.specs.declared.look.Look.{Look}
-use Rattle.keys.specs.declared.look.Look.TheVariants.{At, Nothing}
 use Rattle.keys.proofs.ListLaws.{listed_here, listed_later, listed_none, not_first, not_later}
 use Rattle.keys.proofs.SoundLaws.{sound_nothing}
 use Rattle.keys.specs.Places.{Leads, here, over}
@@ -57,12 +57,12 @@ listed_front k (x ∷ xs) ys e =
 pub sound_first : (u : List ℕ) (q : ℕ) → Sound u q → q < length u → (records_from u q).items ≡ record_here u q ∷ drop 1 (records_from u q).items
 sound_first u q s h = go (look_at u q) refl
   where
-    go : (e : Look) → e ≡ look_at u q → (records_from u q).items ≡ record_here u q ∷ drop 1 (records_from u q).items
-    go Nothing x = absurd (sound_nothing u q s Nothing x h refl)
-    go (At len key) x = (here_keyed u q key (keys_from u (q + len)) (follows u q len key s (sym x)).found.keys).0
+    go : (e : Option Look) → e ≡ look_at u q → (records_from u q).items ≡ record_here u q ∷ drop 1 (records_from u q).items
+    go None x = absurd (sound_nothing u q s None x h refl)
+    go (Some look) x = (here_keyed u q look.key (keys_from u (q + look.len)) (follows u q look.len look.key s (sym x)).found.keys).0
 
 -- a record, its key, and those behind it
-one_over : (u : List ℕ) (p len key : ℕ) → Sound u p → look_at u p ≡ At len key
+one_over : (u : List ℕ) (p len key : ℕ) → Sound u p → look_at u p ≡ looked len key
     → ((records_from u p).items ≡ record_here u p ∷ (records_from u (p + len)).items) × (key_of (record_here u p) ≡ key)
 one_over u p len key s e =
     let f = (follows u p len key s e).found in
@@ -70,7 +70,7 @@ one_over u p len key s e =
     (h.0 ∙ ap (λ (l : List (List Field)). record_here u p ∷ l) f.later, h.1)
 
 -- a place that is behind a record is not before the record's end
-pub leads_past : {u : List ℕ} {p q len key : ℕ} → Sound u p → look_at u p ≡ At len key → Leads u p q → p < q → Leads u (p + len) q
+pub leads_past : {u : List ℕ} {p q len key : ℕ} → Sound u p → look_at u p ≡ looked len key → Leads u p q → p < q → Leads u (p + len) q
 leads_past s e here h = absurd (omega arith)
 leads_past {u} {p} {q} {len} {key} s e (over {len = n} {key = k} d l) h =
     let z = same_look (look_at u p) len key n k e d in subst (λ (i : ℕ). Leads u (p + i) q) (sym z.0) l
@@ -104,7 +104,7 @@ module _ (u : List ℕ) (us : ℕ) (s : Sound u us) (q : ℕ) (l : Leads u us q)
       upto_is u us r (records_up_to u us q ++ mid)
       (upto_split ∙ ap (λ (xs : List (List Field)). records_up_to u us q ++ xs) e ∙ sym (append_assoc (records_up_to u us q) mid (records_from u r).items))
 
-  pub upto_one : (len key : ℕ) → look_at u q ≡ At len key → records_up_to u us (q + len) ≡ records_up_to u us q ++ (record_here u q ∷ [])
+  pub upto_one : (len key : ℕ) → look_at u q ≡ looked len key → records_up_to u us (q + len) ≡ records_up_to u us q ++ (record_here u q ∷ [])
   upto_one len key e = upto_more (q + len) (record_here u q ∷ []) (one_over u q len key (leads_sound l s) e).0
 
   pub upto_later : (r : ℕ) → Leads u us r → q ≤ r → (mid : List (List Field)) × (records_up_to u us r ≡ records_up_to u us q ++ mid)

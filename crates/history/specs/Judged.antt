@@ -1,9 +1,12 @@
 -- The verdicts on an update's records.
-use Rattle.std.specs.Prelude.{ℕ, ◌≤◌, ◌<◌, ◌≡◌, true, List, ltb, length}
+use Rattle.std.specs.Prelude.{ℕ, ◌≤◌, ◌<◌, ◌≡◌, true, List, ltb, length, Option as StdOption, Result, Ok, Err}
 use Rattle.std.proofs.Math.Option.{Option}
 use Rattle.base.specs.Choice.{pick}
-use Rattle.base.specs.Check.{ok, no, fault}
+use Rattle.base.specs.Check.{ok, no}
 use Rattle.base.specs.Lists.{each}
+use Rattle.base.specs.Verdict.{refusal}
+use Rattle.base.specs.declared.Fault.{Fault}
+use Rattle.base.specs.declared.Refusal.{Refusal}
 use Rattle.skeleton.specs.File.{records_from}
 use Rattle.rules.specs.Outcome.{Outcome, done, refused}
 use Rattle.rules.specs.Record.{Rec}
@@ -16,12 +19,9 @@ use Rattle.keys.specs.Numbered.{number_of, Ranged}
 use Rattle.keys.specs.Places.{Leads}
 use Rattle.version.specs.Areas.{flag_area}
 use Rattle.version.specs.Present.{FlagsKept}
-use Rattle.version.specs.declared.Changed.{Changed}
-use Rattle.version.specs.declared.Changed.TheVariants.{Refused, Now}
+use Rattle.version.specs.declared.Version.{Version}
 use Rattle.history.specs.Here.{record_here, named_in, records_up_to}
 use Rattle.history.specs.Flags.{Flags}
-use Rattle.history.specs.declared.judging.Judged.{Judged}
-use Rattle.history.specs.declared.judging.Judged.TheVariants.{Fine, Stopped}
 use Rattle.history.specs.declared.judging.Stop.{Stop}
 use Rattle.history.specs.declared.playing.Course.{Course}
 
@@ -41,20 +41,20 @@ module _ (d : List ℕ) (ds : ℕ) (u : List ℕ) (us : ℕ) where
   Through b key = (k : List ℕ) → Ranged k → number_of k ≡ key → (o : Option Rec) × (version chart (stock_from d ds) (records_up_to u us b) k ≡ ok o)
 
   -- the one at b is refused with this fault, by the history of its own key
-  unfoldable pub RefusedAt : ℕ → ℕ → ℕ → ℕ → Type 0
-  RefusedAt b number field tuple = due chart (stock_from d ds) (records_up_to u us b) (record_here u b) ≡ no (fault number field tuple)
+  unfoldable pub RefusedAt : ℕ → Fault → Type 0
+  RefusedAt b x = due chart (stock_from d ds) (records_up_to u us b) (record_here u b) ≡ no x
 
   -- the course of the key that the update record at q is the first to name: it goes through, or the record where it ends is refused
   pub record Followed (q key : ℕ) (w w' : List ℕ) (c : Course) : Type 0 where
     pub leads : Leads u q c.at
     pub through : Through c.at key
-    pub ends : c.at < length u → (number field tuple : ℕ) × (c.left ≡ Refused number field tuple) × RefusedAt c.at number field tuple
+    pub ends : c.at < length u → (x : Fault) × (c.left ≡ Err x) × RefusedAt c.at x
     pub kept : FlagsKept w w'
 
 -- the first of two refusals: of one that a course may have ended with, and of another
-unfoldable pub earlier_by : Changed → ℕ → Stop → Stop
-earlier_by (Refused number field tuple) at s = pick (ltb at s.at) (record { at = at; number = number; field = field; tuple = tuple }) s
-earlier_by (Now p) at s = s
+unfoldable pub earlier_by : Result (StdOption Version) Fault → ℕ → Stop → Stop
+earlier_by (Err x) at s = pick (ltb at s.at) (record { at = at; fault = x }) s
+earlier_by (Ok p) at s = s
 
 abbrev pub earlier_of : Course → Stop → Stop
 earlier_of c s = earlier_by c.left c.at s
@@ -65,14 +65,14 @@ module _ (d : List ℕ) (ds : ℕ) (u : List ℕ) (us : ℕ) where
     pub leads : Leads u us s.at
     pub ahead : q ≤ s.at
     pub through : (key : ℕ) → listed key (keys_up_to u us q) ≡ true → Through d ds u us s.at key
-    pub ends : s.at < length u → RefusedAt d ds u us s.at s.number s.field s.tuple
+    pub ends : s.at < length u → RefusedAt d ds u us s.at s.fault
 
--- what code answers: no refusal, or its number, record, field and tuple
-unfoldable pub judged_by : Outcome (Unit {0}) → Judged
-judged_by (done a) = Fine
-judged_by (refused file n x) = Stopped x.number n x.field x.tuple
+-- what code answers: no refusal, or it, with its record
+unfoldable pub judged_by : Outcome (Unit {0}) → Result (Unit {0}) Refusal
+judged_by (done a) = Ok tt
+judged_by (refused file n x) = Err (refusal n x)
 
 -- the verdicts on all of them; where none is a refusal, the flags are those of the keys that they name
-pub record AllJudged (d : List ℕ) (ds : ℕ) (u : List ℕ) (us : ℕ) (w' : List ℕ) (r : Judged) : Type 0 where
+pub record AllJudged (d : List ℕ) (ds : ℕ) (u : List ℕ) (us : ℕ) (w' : List ℕ) (r : Result (Unit {0}) Refusal) : Type 0 where
   pub came : r ≡ judged_by (verdicts (stock_from d ds) (records_from u us).items)
-  pub flags : r ≡ Fine → Flags (keys_from u us) (flag_area w')
+  pub flags : r ≡ Ok tt → Flags (keys_from u us) (flag_area w')

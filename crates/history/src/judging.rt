@@ -16,25 +16,16 @@ ghost use Rattle.history.specs.Judged.{keys_up_to, Naming, Through, Followed, ea
 use crate::finding::{load_at, locate};
 use crate::flags::{flagged, lower, mark};
 use crate::playing::{Course, follow};
-use keys::look::{Look, look_at};
+use base::{Fault, Refusal};
+use keys::look::look_at;
 use sorting::index::next;
 use sorting::limits::{Limits, new_index};
-use version::{Changed, Present};
-
-// No refusal, or its number, record, field and tuple.
-#[derive(Clone, Copy)]
-pub enum Judged {
-    Fine,
-    Stopped(u8, usize, usize, usize),
-}
 
 // The place of an update record that is refused, and why; the update's end where none is.
 #[derive(Clone, Copy)]
 pub struct Stop {
     pub at: usize,
-    pub number: u8,
-    pub field: usize,
-    pub tuple: usize,
+    pub fault: Fault,
 }
 
 // Whether no update record before the one at q, which names the key, names it too.
@@ -42,10 +33,7 @@ fn is_first(u: &[u8], us: usize, q: usize, key: u64, index: &[u8], work: &[u8]) 
     requires { Sound u.now us × Leads u.now us q × Indexed u.now us index.now × (400000 ≤ length work.now) × Flags (keys_up_to u.now us q) (flag_area work.now) }
     ensures { result ≡ not (listed key (keys_up_to u.now us q)) }
 {
-    if !flagged(work, key) {
-        return true;
-    }
-    q <= next(u, us, index, us, key)
+    !flagged(work, key) || q <= next(u, us, index, us, key)
 }
 
 // The course of the key that the update record at q is the first to name.
@@ -67,34 +55,22 @@ fn course(
     requires leads { Leads u.now us q × Naming u.now q key × (listed key (keys_up_to u.now us q) ≡ false) }
     ensures { Followed d.now ds u.now us q key work.old work.new result }
 {
-    let at = locate(d, ds, t, n, map, out, lim, key);
     let index = new_index(out, lim);
-    if at < d.len() {
+    if let Some(at) = locate(d, ds, t, n, map, out, lim, key) {
         let p = load_at(d, at, work);
-        return follow(d, u, us, index, q, key, p, work);
+        follow(d, u, us, index, q, key, p, work)
+    } else {
+        follow(d, u, us, index, q, key, None, work)
     }
-    follow(d, u, us, index, q, key, Present::Absent, work)
 }
 
 // The first of two refusals: of one that a course may have ended with, and of another.
 fn earlier(c: Course, s: Stop) -> Stop
     ensures { result ≡ earlier_of c s }
 {
-    let at = c.at;
-    let left = c.left;
-    match left {
-        Changed::Refused(number, field, tuple) => {
-            if at < s.at {
-                return Stop {
-                    at,
-                    number,
-                    field,
-                    tuple,
-                };
-            }
-            s
-        }
-        Changed::Now(_) => s,
+    match c.left {
+        Err(fault) if c.at < s.at => Stop { at: c.at, fault },
+        _ => s,
     }
 }
 
@@ -125,7 +101,7 @@ fn first_stop(
     earlier(c, s)
 }
 
-// All of them, from us on; the first has number 3.
+// All of them, from us on, of which the first has number 3: the first refusal, if there is one.
 pub fn judge(
     d: &[u8],
     ds: usize,
@@ -137,7 +113,7 @@ pub fn judge(
     out: &[u8],
     lim: Limits,
     work: &mut [u8],
-) -> Judged
+) -> Result<(), Refusal>
     requires { Ready d.now ds u.now us × Laid d.now ds t.now n map.now × (400000 ≤ length work.old) × Indices d.now ds u.now us lim out.now }
     ensures { AllJudged d.now ds u.now us work.new result }
 {
@@ -146,21 +122,26 @@ pub fn judge(
     let mut j = 0;
     let mut s = Stop {
         at: u.len(),
-        number: 0,
-        field: 0,
-        tuple: 0,
+        fault: Fault {
+            number: 0,
+            field: 0,
+            tuple: 0,
+        },
     };
     while q < u.len() {
-        let Look::At { len, key } = look_at(u, q) else {
-            return Judged::Fine;
+        let Some(look) = look_at(u, q) else {
+            return Ok(());
         };
-        s = first_stop(d, ds, t, n, map, u, us, out, lim, q, key, s, work);
+        s = first_stop(d, ds, t, n, map, u, us, out, lim, q, look.key, s, work);
         if s.at == q {
-            return Judged::Stopped(s.number, j + 3, s.field, s.tuple);
+            return Err(Refusal {
+                rec: j + 3,
+                fault: s.fault,
+            });
         }
-        mark(work, key);
-        q += len;
+        mark(work, look.key);
+        q += look.len;
         j += 1;
     }
-    Judged::Fine
+    Ok(())
 }

@@ -1,33 +1,23 @@
 // The update records that name a key, one after the other, on what stands under it.
-ghost use Rattle.std.specs.Prelude.{◌≡◌, ◌≤◌, length};
+ghost use Rattle.std.specs.Prelude.{◌≤◌, length};
 ghost use Rattle.incoming.specs.Fitting.{Rest};
 ghost use Rattle.keys.specs.Look.{Sound};
 ghost use Rattle.keys.specs.Places.{Leads};
 ghost use Rattle.sorting.specs.Places.{Indexed};
-ghost use Rattle.version.specs.declared.Changed.TheVariants.{Now};
 ghost use Rattle.history.specs.Ready.{Short};
 ghost use Rattle.history.specs.Played.{Playing, Played, Coursed};
 
 use crate::single::act;
-use keys::look::{Look, look_at};
+use base::Fault;
+use keys::look::look_at;
 use sorting::index::next;
-use version::{Changed, Present};
+use version::Version;
 
-// Where they end, at the first that is refused or at the update's end, and what the last of them left.
+// Where they end, at the first that is refused or at the update's end, and what the last of them left, or its refusal.
 #[derive(Clone, Copy)]
 pub struct Course {
     pub at: usize,
-    pub left: Changed,
-}
-
-// None is refused: they end at the update's end, with v.
-fn ended(at: usize, v: Present) -> Course
-    ensures { result ≡ record { at = at; left = Now v } }
-{
-    Course {
-        at,
-        left: Changed::Now(v),
-    }
+    pub left: Result<Option<Version>, Fault>,
 }
 
 // Those from `from` on, found by an index of those from us on.
@@ -38,7 +28,7 @@ pub fn follow(
     index: &[u8],
     from: usize,
     key: u64,
-    p: Present,
+    p: Option<Version>,
     work: &mut [u8],
 ) -> Course
     requires short { Short d.now u.now × Rest u.now from × (from ≤ length u.now) × (400000 ≤ length work.old) }
@@ -49,26 +39,24 @@ pub fn follow(
     let mut q = next(u, us, index, from, key);
     let mut v = p;
     while q < u.len() {
-        let Look::At { len, key: _ } = look_at(u, q) else {
-            return ended(u.len(), v);
+        let Some(look) = look_at(u, q) else {
+            break;
         };
-        match act(d, u, q, v, work) {
-            Changed::Refused(n, i, j) => {
+        v = match act(d, u, q, v, work) {
+            Ok(made) => made,
+            Err(fault) => {
                 return Course {
                     at: q,
-                    left: Changed::Refused(n, i, j),
+                    left: Err(fault),
                 };
             }
-            Changed::Now(made) => {
-                v = made;
-                q = next(u, us, index, q + len, key);
-            }
-        }
+        };
+        q = next(u, us, index, q + look.len, key);
     }
-    ended(q, v)
+    Course { at: q, left: Ok(v) }
 }
 
-// What they leave.
+// What they leave, or the first refusal.
 pub fn play_all(
     d: &[u8],
     u: &[u8],
@@ -76,9 +64,9 @@ pub fn play_all(
     index: &[u8],
     from: usize,
     key: u64,
-    p: Present,
+    p: Option<Version>,
     work: &mut [u8],
-) -> Changed
+) -> Result<Option<Version>, Fault>
     requires short { Short d.now u.now × Rest u.now from × (from ≤ length u.now) × (400000 ≤ length work.old) }
     requires sound { Sound u.now us × Leads u.now us from × Indexed u.now us index.now }
     requires playing { Playing d.now u.now work.old p key }

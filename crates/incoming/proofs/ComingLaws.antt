@@ -6,18 +6,22 @@ use Prim.Native.Nat.{ℕ, ◌+◌, ◌-◌, ◌^◌, ◌≤◌, ◌<◌}
 use native.Mathlib.Omega.{arith}
 use borrow.Author.Tests.{ne_eqb, lt-leb}
 use lib.ListN.{length}
+use Rattle.std.specs.Prelude.{Result, Ok, Err}
+use Rattle.std.specs.Result.{IsErrAnd}
+use Rattle.std.proofs.lemmas.Result.{err_from_is_err_and}
 use Rattle.base.specs.Check.{ok, no, bind, fault, Passed, passed}
-use Rattle.base.specs.Verdict.{verdict_of}
-use Rattle.base.specs.declared.Verdict.{Verdict}
-use Rattle.base.specs.declared.Verdict.TheVariants.{Passed as Through, Refused as Failed}
+use Rattle.base.specs.Verdict.{verdict_of, refusal}
+use Rattle.base.specs.declared.Fault.{Fault}
+use Rattle.base.specs.declared.Refusal.{Refusal}
 use Rattle.base.proofs.CheckLaws.{passed_is, refused_is}
 use Rattle.skeleton.specs.File.{Field, records_of}
+use Rattle.skeleton.specs.Leader.{number_of}
 use Rattle.skeleton.specs.Place.{between, fields_at}
 use Rattle.skeleton.specs.Record.{record_at}
 use Rattle.skeleton.specs.RightFrom.{RightFrom}
 use Rattle.skeleton.specs.Shape.{Bounded}
 use Rattle.skeleton.specs.declared.leader.Head.{Head}
-use Rattle.skeleton.specs.declared.leader.Head.TheVariants.{Good, Refused}
+use Rattle.skeleton.specs.declared.leader.Broken.{Broken}
 use Rattle.skeleton.proofs.FileLaws.{records_over, records_none, records_all}
 use Rattle.skeleton.proofs.RecordLaws.{record_in_lem, record_falls, record_bounded}
 use Rattle.skeleton.proofs.RightLaws.{right_start}
@@ -29,15 +33,11 @@ use Rattle.rules.specs.declared.Mode.{Mode}
 use Rattle.rules.specs.declared.Mode.TheVariants.{InUpdate}
 use Rattle.rules.proofs.FileLaws.{taken_over}
 use Rattle.rules.proofs.OutcomeLaws.{and_then_assoc, and_then_inv}
-use Rattle.opening.specs.Carried.{head_at, tested_by, carried, unread, first_two, opened_by}
-use Rattle.opening.specs.declared.carried.Opened.{Opened}
-use Rattle.opening.specs.declared.carried.Opened.TheVariants.{Behind, Stopped as Shut}
+use Rattle.opening.specs.Carried.{with_fault, head_at, tested_by, carried, unread, first_two, opened_by}
 use Rattle.opening.proofs.CarriedLaws.{behind_is, behind_in}
 use Rattle.opening.proofs.OpeningLaws.{by_head, taken_carried, empty_head}
 use Rattle.dataset.proofs.FileLaws.{file_two, shut_is}
-use Rattle.incoming.specs.Came.{third_on, behind_two, came_by}
-use Rattle.incoming.specs.declared.walk.Came.{Came}
-use Rattle.incoming.specs.declared.walk.Came.TheVariants.{Fit, Stopped}
+use Rattle.incoming.specs.Came.{third_on, Checked, behind_two, came_by}
 
 -- ---- record after record, from the third on
 
@@ -48,6 +48,39 @@ own fs = passed (update_record fs)
 pub test_third : (n : ℕ) → 3 ≤ n → (fs : List Field) → update_test n [] fs ≡ adds_none (own fs)
 unfolding update_test
 test_third n h fs = simp (ne_eqb n 1 (λ e. omega arith), ne_eqb n 2 (λ e. omega arith))
+
+module _ (u : List ℕ) (p : ℕ) (l : p < length u) (q : Result Head Broken) (eq : q ≡ record_at u p) where
+  turn : (n : ℕ) → 3 ≤ n → third_on u n p ≡ and_then (tested_by 2 n own u p (with_fault q)) (λ e. third_on u (n + 1) e)
+  unfolding third_on
+  turn n h = by_head update_test 2 2 n [] own (test_third n h) u p l q eq
+
+  pub at_broken : (b : Broken) → q ≡ Err b → (r : Result ℕ Fault) → IsErrAnd r (λ y. y ≡ fault (number_of b) 0 0) → Checked u p r
+  unfolding Checked and_then
+  at_broken b x r er = let z = err_from_is_err_and r er in rw (z.1, z.2) (λ n h. rw x at (turn n h))
+
+  module _ (d : Head) (x : q ≡ Ok d) where
+    pub at_in : p + d.len ≤ length u
+    at_in = record_in_lem u p q eq d x
+
+    pub at_word : length u ≤ 16777216 → p + d.len < 2 ^ 64
+    at_word g = let i = at_in in omega arith
+
+    pub at_bounded : Bounded d.shape
+    at_bounded = record_bounded u p q eq d x
+
+    pub at_right : RightFrom (between u p (p + d.len)) d.shape 24
+    at_right = right_start u p d.len d.shape (sym eq ∙ x)
+
+    module _ (v : Result (Unit {0}) Fault) (ev : v ≡ verdict_of (own (fields_at (between u p (p + d.len)) d.shape 24))) where
+      pub at_refused : (y : Fault) → v ≡ Err y → Checked u p (Err y)
+      unfolding Checked and_then at
+      at_refused y ey n h = rw (x, refused_is _ y (sym ey ∙ ev)) at (turn n h)
+
+      pub at_passed : (w : Unit {0}) → v ≡ Ok w → Checked u p (Ok (p + d.len))
+      unfolding Checked and_then at
+      at_passed w ey = (omega (arith, record_falls u p q eq d x), at_in, λ n h. rw (x, passed_is _ (sym ey ∙ ev)) at (turn n h))
+
+pub ruleset at_ways = (at_in, at_word, at_bounded, at_right, arith)
 
 -- the loop at p, where the next record has number n
 pub record ThirdAt (u : List ℕ) (start p n : ℕ) : Type 0 where
@@ -60,58 +93,37 @@ pub third_start : (u : List ℕ) (start : ℕ) → start ≤ length u → ThirdA
 third_start u start h = record { same = refl; least = omega arith; few = omega arith; inside = h }
 
 module _ (u : List ℕ) (start p n : ℕ) (s : ThirdAt u start p n) where
-  pub third_over : length u ≤ p → Fit start ≡ came_by start (third_on u 3 start)
+  pub third_over : length u ≤ p → Ok start ≡ came_by start (third_on u 3 start)
   unfolding came_by third_on ending
   third_over h =
       let m = s.least in
       let e : third_on u n p ≡ done [] = ap (taken update_test 2 2 n []) (records_over u p h) ∙ taken_over update_test 2 2 n 0 [] ∙ simp (lt-leb n 2 (omega arith)) in
       rw (← s.same, e)
 
-  module _ (l : p < length u) (q : Head) (eq : q ≡ record_at u p) where
-    turn : and_then (tested_by 2 n own u p q) (λ e. third_on u (n + 1) e) ≡ third_on u 3 start
-    unfolding third_on
-    turn = sym (by_head update_test 2 2 n [] own (test_third n s.least) u p l q eq) ∙ s.same
+  module _ (r : Result ℕ Fault) (c : Checked u p r) where
+    pub third_stopped : (y : Fault) → r ≡ Err y → Err (refusal n y) ≡ came_by start (third_on u 3 start)
+    unfolding came_by Checked
+    third_stopped y x =
+        let g : (k : ℕ) → 3 ≤ k → third_on u k p ≡ refused 2 k y = rw x at c in
+        rw (← s.same, g n s.least)
 
-    pub third_refused : (k : ℕ) → q ≡ Refused k → Stopped k n 0 0 ≡ came_by start (third_on u 3 start)
-    unfolding and_then came_by
-    third_refused k x = let z : refused 2 n (fault k 0 0) ≡ third_on u 3 start = rw x at turn in rw (← z)
+    module _ (e : ℕ) (x : r ≡ Ok e) where
+      onward : (p < e) × (e ≤ length u) × ((k : ℕ) → 3 ≤ k → third_on u k p ≡ third_on u (k + 1) e)
+      unfolding Checked
+      onward = rw x at c
 
-    module _ (len base a b : ℕ) (x : q ≡ Good len base a b) where
-      pub third_in : p + len ≤ length u
-      third_in = record_in_lem u p q eq len base a b x
-
-      pub third_word : length u ≤ 16777216 → p + len < 2 ^ 64
-      third_word g = let i = third_in in omega arith
-
-      pub third_falls : length u - (p + len) < length u - p
-      third_falls = record_falls u p q eq len base a b x
-
-      pub third_bounded : Bounded (record { base = base; a = a; b = b })
-      third_bounded = record_bounded u p q eq len base a b x
-
-      pub third_right : RightFrom (between u p (p + len)) (record { base = base; a = a; b = b }) 24
-      third_right = right_start u p len _ (sym eq ∙ x)
+      pub third_falls : length u - e < length u - p
+      third_falls = omega (arith, onward.0, onward.1)
 
       pub number_word : length u ≤ 16777216 → n + 1 < 2 ^ 64
-      number_word g = let f = s.few in omega arith
+      number_word g = omega (arith, s.few, onward.0, onward.1)
 
-      module _ (v : Verdict) (ev : v ≡ verdict_of (passed (update_record (fields_at (between u p (p + len)) (record { base = base; a = a; b = b }) 24)))) where
-        pub third_stopped : (k i j : ℕ) → v ≡ Failed k i j → Stopped k n i j ≡ came_by start (third_on u 3 start)
-        unfolding and_then at came_by
-        third_stopped k i j y =
-            let z : refused 2 n (fault k i j) ≡ third_on u 3 start = rw (x, refused_is _ k i j (sym y ∙ ev)) at turn in
-            rw (← z)
+      pub third_more : ThirdAt u start e (n + 1)
+      third_more =
+          let m = s.least in
+          record { same = sym (onward.2 n s.least) ∙ s.same; least = omega arith; few = omega (arith, s.few, onward.0); inside = onward.1 }
 
-        pub third_more : v ≡ Through → ThirdAt u start (p + len) (n + 1)
-        unfolding and_then at
-        third_more y =
-            let z : third_on u (n + 1) (p + len) ≡ third_on u 3 start = rw (x, passed_is _ (sym y ∙ ev)) at turn in
-            let f = s.few in
-            let d = third_falls in
-            record { same = z; least = omega arith; few = omega arith; inside = third_in }
-
-pub ruleset third_ways =
-    (third_start, third_over, third_refused, third_in, third_word, third_falls, third_bounded, third_right, number_word, third_stopped, third_more)
+pub ruleset third_ways = (third_start, third_over, third_stopped, third_falls, number_word, third_more)
 
 -- ---- the first two records, and then the others
 
@@ -156,12 +168,12 @@ whole u = rw (opened u)
 -- ---- `check_update`
 
 -- an answer says nothing of the file
-same_tested : (a b n : ℕ) (test : List Field → Passed) (f : List ℕ) (p : ℕ) (q : Head) → opened_by (tested_by a n test f p q) ≡ opened_by (tested_by b n test f p q)
+same_tested : (a b n : ℕ) (test : List Field → Passed) (f : List ℕ) (p : ℕ) (q : Result Head Fault) → opened_by (tested_by a n test f p q) ≡ opened_by (tested_by b n test f p q)
 unfolding opened_by and_then at
-same_tested a b n test f p (Refused k) = refl
-same_tested a b n test f p (Good len base x y) = go (test (fields_at (between f p (p + len)) (record { base = base; a = x; b = y }) 24))
+same_tested a b n test f p (Err x) = refl
+same_tested a b n test f p (Ok d) = go (test (fields_at (between f p (p + d.len)) d.shape 24))
   where
-    go : (c : Passed) → opened_by (and_then (at a n c) (λ _. done (p + len))) ≡ opened_by (and_then (at b n c) (λ _. done (p + len)))
+    go : (c : Passed) → opened_by (and_then (at a n c) (λ _. done (p + d.len))) ≡ opened_by (and_then (at b n c) (λ _. done (p + d.len)))
     go (ok u) = refl
     go (no z) = refl
 
@@ -195,21 +207,21 @@ unfolding came_by and_then
 came_same start (done a) b = refl
 came_same start (refused file n x) b = refl
 
-module _ (u : List ℕ) (q : Opened) (eq : q ≡ opened_by (first_two 1 InUpdate u)) where
-  pub two_there : (start : ℕ) → q ≡ Behind start → first_two 2 InUpdate u ≡ done start
+module _ (u : List ℕ) (q : Result ℕ Refusal) (eq : q ≡ opened_by (first_two 1 InUpdate u)) where
+  pub two_there : (start : ℕ) → q ≡ Ok start → first_two 2 InUpdate u ≡ done start
   two_there start x = behind_is (first_two 2 InUpdate u) start (sym x ∙ eq ∙ same_two 1 2 InUpdate u)
 
-  pub two_in : (start : ℕ) → q ≡ Behind start → start ≤ length u
+  pub two_in : (start : ℕ) → q ≡ Ok start → start ≤ length u
   two_in start x = two_inside u start (two_there start x)
 
-  pub came_later : (start : ℕ) → q ≡ Behind start → (r : Came) → r ≡ came_by start (third_on u 3 start) → r ≡ came_by (behind_two u) (read_update u)
+  pub came_later : (start : ℕ) → q ≡ Ok start → (r : Result ℕ Refusal) → r ≡ came_by start (third_on u 3 start) → r ≡ came_by (behind_two u) (read_update u)
   unfolding behind_two and_then
   came_later start x r er = rw (whole u) (rw (two_there start x) (er ∙ came_same start (third_on u 3 start) (sent_as (records_of u).items)))
 
-  pub came_shut : (k n i j : ℕ) → q ≡ Shut k n i j → Stopped k n i j ≡ came_by (behind_two u) (read_update u)
+  pub came_shut : (y : Refusal) → q ≡ Err y → Err y ≡ came_by (behind_two u) (read_update u)
   unfolding and_then came_by
-  came_shut k n i j x =
-      let z = shut_is 2 (first_two 2 InUpdate u) (file_two 2 InUpdate u) k n i j (sym x ∙ eq ∙ same_two 1 2 InUpdate u) in
+  came_shut y x =
+      let z = shut_is 2 (first_two 2 InUpdate u) (file_two 2 InUpdate u) y (sym x ∙ eq ∙ same_two 1 2 InUpdate u) in
       rw (whole u) (rw z)
 
 pub ruleset came_ways = (two_in, came_later, came_shut)

@@ -4,17 +4,21 @@ use mathlib.Core.List.{List, [], ◌∷◌, ◌++◌}
 use Prim.Native.Nat.{ℕ, ◌+◌, ◌≤◌, ◌<◌}
 use native.Mathlib.Omega.{arith}
 use lib.ListN.{length, drop, get_or}
-use Rattle.base.specs.Check.{ok, fault, pass, passed}
+use Rattle.std.specs.Prelude.{Result, Ok, Err}
+use Rattle.base.specs.Check.{ok, pass, passed}
 use Rattle.base.specs.Lists.{Each}
+use Rattle.base.specs.Verdict.{refusal}
 use Rattle.base.specs.Walk.{Got, before}
+use Rattle.base.specs.declared.Refusal.{Refusal}
 use Rattle.base.proofs.CheckLaws.{bind_inv, ok_inj}
 use Rattle.skeleton.specs.File.{Field, records_from, records_of}
+use Rattle.skeleton.specs.Leader.{number_of, good}
 use Rattle.skeleton.specs.Place.{between, fields_at}
 use Rattle.skeleton.specs.Record.{record_at}
 use Rattle.skeleton.specs.declared.leader.Head.{Head}
-use Rattle.skeleton.specs.declared.leader.Head.TheVariants.{Good, Refused}
+use Rattle.skeleton.specs.declared.leader.Broken.{Broken}
 use Rattle.skeleton.proofs.FileLaws.{records_refused, records_more, records_all}
-use Rattle.skeleton.proofs.RecordLaws.{refusal_some}
+use Rattle.skeleton.proofs.LeaderLaws.{number_some}
 use Rattle.rules.specs.General.{general_record}
 use Rattle.rules.specs.Record.{Rec, update_record}
 use Rattle.rules.specs.Outcome.{Outcome, done, refused, and_then, at}
@@ -24,10 +28,9 @@ use Rattle.rules.proofs.OutcomeLaws.{and_then_inv, at_inv}
 use Rattle.rules.proofs.FileLaws.{ending_inv}
 use Rattle.opening.specs.Carried.{carried, unread, first_two}
 use Rattle.opening.proofs.OpeningLaws.{carried_over}
-use Rattle.dataset.proofs.FileLaws.{AtFile, file_then, file_done, file_two, file_taken}
+use Rattle.dataset.proofs.FileLaws.{refusal_same, AtFile, file_then, file_done, file_two, file_taken}
 use Rattle.incoming.specs.Came.{third_on, place_in, behind_two, came_by}
 use Rattle.incoming.specs.Fitting.{Single, Rest, Fitting}
-use Rattle.incoming.specs.declared.walk.Came.TheVariants.{Fit, Stopped}
 use Rattle.incoming.proofs.ComingLaws.{own, test_third, whole, two_inside}
 
 -- ---- a refusal
@@ -37,18 +40,13 @@ unfolding third_on
 update_file u =
     rw (whole u) (file_then 2 _ _ (file_then 2 _ _ (file_two 2 InUpdate u) (λ p. file_taken 2 update_test 2 3 [] (records_from u p))) (λ _. file_done 2 _))
 
-stopped_is : (start : ℕ) (c : Outcome Sent) → AtFile 2 c → (k n i j : ℕ) → Stopped k n i j ≡ came_by start c → c ≡ refused 2 n (fault k i j)
+stopped_is : (start : ℕ) (c : Outcome Sent) → AtFile 2 c → (y : Refusal) → Err y ≡ came_by start c → c ≡ refused 2 y.rec y.fault
 unfolding came_by AtFile
-stopped_is start (done a) o k n i j e = absurd (let y : ◌≡◌ {A = ℕ} 0 1 = cc in omega arith)
-stopped_is start (refused other m x) o k n i j e =
-    let a : k ≡ x.number = cc in
-    let b : n ≡ m = cc in
-    let c : i ≡ x.field = cc in
-    let d : j ≡ x.tuple = cc in
-    rw (o, a, b, c, d)
+stopped_is start (done a) o y e = absurd (let w : ◌≡◌ {A = ℕ} 0 1 = cc in omega arith)
+stopped_is start (refused other n x) o y e = let s : y ≡ refusal n x = cc in rw (o, (refusal_same n x y s).0, (refusal_same n x y s).1)
 
-pub came_stopped : (u : List ℕ) (k n i j : ℕ) → Stopped k n i j ≡ came_by (behind_two u) (read_update u) → read_update u ≡ refused 2 n (fault k i j)
-came_stopped u k n i j e = stopped_is (behind_two u) (read_update u) (update_file u) k n i j e
+pub came_stopped : (u : List ℕ) (y : Refusal) → Err y ≡ came_by (behind_two u) (read_update u) → read_update u ≡ refused 2 y.rec y.fault
+came_stopped u y e = stopped_is (behind_two u) (read_update u) (update_file u) y e
 
 -- ---- each record on its own
 
@@ -81,7 +79,7 @@ rest_of u start recs e =
 
 -- ---- the whole
 
-fit_is : (start place : ℕ) (c : Outcome Sent) → Fit start ≡ came_by place c → (start ≡ place) × (s : Sent) × (c ≡ done s)
+fit_is : (start place : ℕ) (c : Outcome Sent) → Ok start ≡ came_by place c → (start ≡ place) × (s : Sent) × (c ≡ done s)
 unfolding came_by
 fit_is start place (done s) e = let z : start ≡ place = cc in (z, s, refl)
 fit_is start place (refused file n x) e = absurd (let y : ◌≡◌ {A = ℕ} 0 1 = cc in omega arith)
@@ -105,14 +103,14 @@ module _ (u : List ℕ) (start : ℕ) (two : first_two 2 InUpdate u ≡ done sta
         long = b.long;
         first_shape = a.shape;
         shape = b.shape;
-        first_there = a.there ∙ ap (λ (m : ℕ). Good m a.shape.base a.shape.a a.shape.b) (sym z);
+        first_there = a.there ∙ ap (λ (m : ℕ). good m a.shape) (sym z);
         there = b.there;
         behind = b.behind;
         general = ap (λ (g : Got (List Field)). get_or g.items 1 []) e;
         passed = b.passed;
       }
 
-pub came_fit : (u : List ℕ) (start : ℕ) → Fit start ≡ came_by (behind_two u) (read_update u) → Fitting u start
+pub came_fit : (u : List ℕ) (start : ℕ) → Ok start ≡ came_by (behind_two u) (read_update u) → Fitting u start
 unfolding behind_two
 came_fit u start e =
     let f = fit_is start (behind_two u) (read_update u) e in
@@ -123,26 +121,26 @@ came_fit u start e =
 
 -- ---- a loop over the records after the second
 
-module _ (u : List ℕ) (p : ℕ) (s : Rest u p) (l : p < length u) (q : Head) (eq : q ≡ record_at u p) where
+module _ (u : List ℕ) (p : ℕ) (s : Rest u p) (l : p < length u) (q : Result Head Broken) (eq : q ≡ record_at u p) where
   -- the skeleton refuses none
-  pub rest_good : (n : ℕ) → q ≡ Refused n → ⊥
-  rest_good n x =
-      let z = refusal_some u p q eq n x in
-      let e : n ≡ 0 = rw (records_refused u p l q eq n x) at s.ended in
+  pub rest_good : (b : Broken) → q ≡ Err b → ⊥
+  rest_good b x =
+      let z = number_some b in
+      let e : number_of b ≡ 0 = rw (records_refused u p l q eq b x) at s.ended in
       omega arith
 
-  module _ (len base a b : ℕ) (x : q ≡ Good len base a b) where
+  module _ (d : Head) (x : q ≡ Ok d) where
     -- this one is right on its own
-    pub rest_here : Single (fields_at (between u p (p + len)) (record { base = base; a = a; b = b }) 24)
+    pub rest_here : Single (fields_at (between u p (p + d.len)) d.shape 24)
     unfolding Each
-    rest_here = let z = rw (records_more u p l q eq len base a b x) at s.singles in z.0
+    rest_here = let z = rw (records_more u p l q eq d x) at s.singles in z.0
 
     -- and so are those behind it
-    pub rest_more : Rest u (p + len)
+    pub rest_more : Rest u (p + d.len)
     unfolding Each
     rest_more = record {
-      ended = rw (records_more u p l q eq len base a b x) at s.ended;
-      singles = let z = rw (records_more u p l q eq len base a b x) at s.singles in z.1;
+      ended = rw (records_more u p l q eq d x) at s.ended;
+      singles = let z = rw (records_more u p l q eq d x) at s.singles in z.1;
     }
 
 pub ruleset rest_ways = (rest_good, rest_here, rest_more)

@@ -6,16 +6,15 @@ use Prim.Native.Nat.{ℕ}
 use lib.Dec.{eqb}
 use lib.ListN.{get_or}
 use Rattle.base.specs.Choice.{pick}
+use Rattle.std.specs.Prelude.{Option, Some, None, Result, Ok, Err}
 use Rattle.base.specs.Check.{Check, ok, no, bind, Passed, pass, passed}
-use Rattle.base.specs.Verdict.{verdict_of}
-use Rattle.base.specs.declared.Verdict.{Verdict}
-use Rattle.base.specs.declared.Verdict.TheVariants.{Passed as Through, Refused}
-use Rattle.base.proofs.CheckLaws.{bind_inv, ok_inj}
+use Rattle.base.specs.Verdict.{result_of, verdict_of}
+use Rattle.base.specs.declared.Fault.{Fault}
+use Rattle.base.proofs.CheckLaws.{bind_inv, ok_inj, value_is, fault_is}
 use Rattle.skeleton.specs.File.{Field}
 use Rattle.skeleton.specs.Place.{between, place_at, fields_at}
 use Rattle.skeleton.specs.declared.directory.Shape.{Shape}
 use Rattle.skeleton.specs.declared.place.Place.{Place}
-use Rattle.skeleton.specs.declared.place.Place.TheVariants.{At, Done}
 use Rattle.skeleton.proofs.PlaceLaws.{fields_more, fields_done, place_runs, place_in_lem}
 use Rattle.rules.specs.ByTag.{front, first_tag}
 use Rattle.rules.specs.Kind.{coded, tag_of}
@@ -26,18 +25,14 @@ use Rattle.rules.specs.Associations.{number7}
 use Rattle.rules.specs.Record.{update_record}
 use Rattle.rules.specs.declared.Kind.{Kind}
 use Rattle.rules.specs.declared.Mode.TheVariants.{InUpdate}
-use Rattle.records.specs.Graded.{graded}
-use Rattle.records.specs.declared.grammar.Tags.{Tags}
-use Rattle.records.specs.declared.grammar.Tags.TheVariants.{Right, Wrong}
 use Rattle.contents.proofs.SevenLaws.{four_first}
 use Rattle.keys.proofs.PassedLaws.{regroup}
 use Rattle.dataset.specs.Numbers.{four_to_six_in}
-use Rattle.dataset.proofs.VerdictLaws.{right_is, wrong_is}
 
 -- ---- whether it is inserted
 
-module _ (r : List ℕ) (h : Shape) (k : Kind) (e : Place) (en : e ≡ place_at r h 24) where
-  pub inserted_none : e ≡ Done → false ≡ eqb (ruin_byte k (front (fields_at r h 24))) 1
+module _ (r : List ℕ) (h : Shape) (k : Kind) (e : Option Place) (en : e ≡ place_at r h 24) where
+  pub inserted_none : e ≡ None → false ≡ eqb (ruin_byte k (front (fields_at r h 24))) 1
   unfolding front ruin_byte
   inserted_none x = rw (fields_done r h 24 e en x) (go (coded k))
     where
@@ -45,10 +40,10 @@ module _ (r : List ℕ) (h : Shape) (k : Kind) (e : Place) (en : e ≡ place_at 
       go true = refl
       go false = refl
 
-  module _ (tag start end next : ℕ) (x : e ≡ At tag start end next) where
-    pub inserted_there : (b : Bool) → b ≡ as_stored InUpdate (ruin_byte k (between r start end)) → b ≡ eqb (ruin_byte k (front (fields_at r h 24))) 1
+  module _ (field : Place) (x : e ≡ Some field) where
+    pub inserted_there : (b : Bool) → b ≡ as_stored InUpdate (ruin_byte k (between r field.start field.end)) → b ≡ eqb (ruin_byte k (front (fields_at r h 24))) 1
     unfolding front as_stored
-    inserted_there b eb = rw (fields_more r h 24 e en tag start end next x) eb
+    inserted_there b eb = rw (fields_more r h 24 e en field x) eb
 
 pub ruleset inserted_ways = (inserted_none, inserted_there, place_runs, place_in_lem)
 
@@ -63,14 +58,14 @@ parts : (fs : List Field) → update_record fs ≡ bind (four_to_six_in InUpdate
 unfolding update_record four_to_six_in
 parts fs = regroup (number4 InUpdate 0 fs) (λ k. number5 InUpdate k fs) (λ k. number6 InUpdate k fs) (once_in fs)
 
-module _ (fs : List Field) (t : Tags) (et : t ≡ graded (four_to_six_in InUpdate 0 fs)) where
-  pub single_wrong : (n i j : ℕ) → t ≡ Wrong n i j → Refused n i j ≡ verdict_of (passed (update_record fs))
+module _ (fs : List Field) (t : Result Kind Fault) (et : t ≡ result_of (four_to_six_in InUpdate 0 fs)) where
+  pub single_wrong : (z : Fault) → t ≡ Err z → Err z ≡ verdict_of (passed (update_record fs))
   unfolding verdict_of passed bind
-  single_wrong n i j x = rw (parts fs) (rw (wrong_is (four_to_six_in InUpdate 0 fs) n i j (sym x ∙ et)))
+  single_wrong z x = rw (parts fs) (rw (fault_is (four_to_six_in InUpdate 0 fs) z (sym x ∙ et)))
 
-  module _ (k : Kind) (x : t ≡ Right k) where
+  module _ (k : Kind) (x : t ≡ Ok k) where
     right : four_to_six_in InUpdate 0 fs ≡ ok k
-    right = right_is (four_to_six_in InUpdate 0 fs) k (sym x ∙ et)
+    right = value_is (four_to_six_in InUpdate 0 fs) k (sym x ∙ et)
 
     four_five : (number4 InUpdate 0 fs ≡ ok k) × (number5 InUpdate k fs ≡ pass)
     unfolding four_to_six_in
@@ -93,11 +88,11 @@ module _ (fs : List Field) (t : Tags) (et : t ≡ graded (four_to_six_in InUpdat
     then_once = parts fs ∙ rw right
 
     module _ (b : Bool) (eb : b ≡ eqb (ruin_byte k (front fs)) 1) where
-      pub single_kept : b ≡ false → Through ≡ verdict_of (passed (update_record fs))
+      pub single_kept : b ≡ false → Ok tt ≡ verdict_of (passed (update_record fs))
       unfolding verdict_of passed bind
       single_kept y = rw then_once (rw (← eb, y))
 
-      pub single_once : b ≡ true → (v : Verdict) → v ≡ verdict_of (number7 fs) → v ≡ verdict_of (passed (update_record fs))
+      pub single_once : b ≡ true → (v : Result (Unit {0}) Fault) → v ≡ verdict_of (number7 fs) → v ≡ verdict_of (passed (update_record fs))
       unfolding verdict_of passed bind
       single_once y v ev = rw then_once (rw (← eb, y) (go (number7 fs) ev))
         where

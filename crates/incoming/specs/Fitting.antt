@@ -3,10 +3,10 @@ use Rattle.std.specs.Prelude.{ℕ, ◌+◌, ◌≤◌, ◌≡◌, List, [], leng
 use Rattle.base.specs.Check.{ok, pass}
 use Rattle.base.specs.Lists.{Each}
 use Rattle.skeleton.specs.File.{Field, records_from, records_of}
+use Rattle.skeleton.specs.Leader.{good}
 use Rattle.skeleton.specs.Place.{between, fields_at}
 use Rattle.skeleton.specs.Record.{record_at}
 use Rattle.skeleton.specs.declared.directory.Shape.{Shape}
-use Rattle.skeleton.specs.declared.leader.Head.TheVariants.{Good}
 use Rattle.rules.specs.General.{general_record}
 use Rattle.rules.specs.Outcome.{done}
 use Rattle.rules.specs.Record.{update_record}
@@ -34,8 +34,8 @@ pub record Fitting (u : List ℕ) (start : ℕ) : Type 0 where
   pub long : ℕ
   pub first_shape : Shape
   pub shape : Shape
-  pub first_there : record_at u 0 ≡ Good second first_shape.base first_shape.a first_shape.b
-  pub there : record_at u second ≡ Good long shape.base shape.a shape.b
+  pub first_there : record_at u 0 ≡ good second first_shape
+  pub there : record_at u second ≡ good long shape
   pub behind : second + long ≡ start
   pub general : get_or (records_of u).items 1 [] ≡ fields_at (between u second (second + long)) shape 24
   pub passed : general_record InUpdate (fields_at (between u second (second + long)) shape 24) ≡ pass

@@ -9,43 +9,33 @@ ghost use Rattle.rules.specs.ByTag.{front};
 ghost use Rattle.rules.specs.Grammar.{ruin_byte};
 ghost use Rattle.rules.specs.Record.{update_record};
 
-use base::Verdict;
+use base::Fault;
 use contents::associations::check_keys;
 use contents::identifier::is_stored;
 use dataset::record::four_to_six;
-use records::grammar::Tags;
 use rules::{Kind, Mode};
 use skeleton::directory::Shape;
-use skeleton::place::{Place, place_at};
+use skeleton::place::place_at;
 
 // Whether the record, of kind k, is inserted.
 fn is_inserted(r: &[u8], h: Shape, k: Kind) -> bool
     requires { Bounded h }
     ensures { result ≡ eqb (ruin_byte k (front (fields_at r.now h 24))) 1 }
 {
-    match place_at(r, h, 24) {
-        Place::At {
-            tag: _,
-            start,
-            end,
-            next: _,
-        } => is_stored(r, start, end, Mode::InUpdate, k),
-        Place::Done => false,
-    }
+    let Some(field) = place_at(r, h, 24) else {
+        return false;
+    };
+    is_stored(r, field.start, field.end, Mode::InUpdate, k)
 }
 
 // The record r, whose directory was found right.
-pub fn check_record(r: &[u8], h: Shape) -> Verdict
+pub fn check_record(r: &[u8], h: Shape) -> Result<(), Fault>
     requires { Bounded h × RightFrom r.now h 24 }
     ensures { result ≡ verdict_of (passed (update_record (fields_at r.now h 24))) }
 {
-    match four_to_six(r, h, Mode::InUpdate, 0) {
-        Tags::Right(k) => {
-            if is_inserted(r, h, k) {
-                return check_keys(r, h, Mode::InUpdate, k);
-            }
-            Verdict::Passed
-        }
-        Tags::Wrong(n, i, j) => Verdict::Refused(n, i, j),
+    let k = four_to_six(r, h, Mode::InUpdate, 0)?;
+    if is_inserted(r, h, k) {
+        return check_keys(r, h, Mode::InUpdate, k);
     }
+    Ok(())
 }

@@ -1,61 +1,51 @@
 // The records of an update: numbers 1 to 6 record by record, and 7 within an inserted one.
-ghost use Rattle.std.specs.Prelude.{◌≡◌, ◌≤◌, length};
+ghost use Rattle.std.specs.Prelude.{◌≡◌, ◌≤◌, ◌<◌, length};
 ghost use Rattle.rules.specs.File.{read_update};
-ghost use Rattle.incoming.specs.Came.{third_on, came_by, behind_two};
+ghost use Rattle.incoming.specs.Came.{third_on, Checked, came_by, behind_two};
 
 use crate::record::check_record;
-use base::Verdict;
-use opening::carried::{Opened, first_two};
+use base::{Fault, Refusal};
+use opening::carried::first_two;
 use rules::Mode;
-use skeleton::directory::Shape;
 use skeleton::file::record_at;
-use skeleton::leader::Head;
 
-// Where the records after the second begin; or the refusal's number, record, field and tuple.
-#[derive(Clone, Copy)]
-pub enum Came {
-    Fit(usize),
-    Stopped(u8, usize, usize, usize),
+// The record at p, behind the second: the place behind it.
+fn check_at(u: &[u8], p: usize) -> Result<usize, Fault>
+    requires { (length u.now ≤ 16777216) × (p < length u.now) }
+    ensures { Checked u.now p result }
+{
+    let head = record_at(u, p)?;
+    let e = p + head.len;
+    check_record(&u[p..e], head.shape)?;
+    Ok(e)
 }
 
-// The records behind the second, which begin at start.
-fn later_records(u: &[u8], start: usize) -> Came
+// The records behind the second, which begin at start: start, or the first refusal.
+fn later_records(u: &[u8], start: usize) -> Result<usize, Refusal>
     requires { (length u.now ≤ 16777216) × (start ≤ length u.now) }
     ensures { result ≡ came_by start (third_on u.now 3 start) }
 {
     let mut p = start;
     let mut n = 3;
-    loop {
-        if u.len() <= p {
-            return Came::Fit(start);
-        }
-        match record_at(u, p) {
-            Head::Good { len, base, a, b } => {
-                let e = p + len;
-                match check_record(&u[p..e], Shape { base, a, b }) {
-                    Verdict::Passed => {
-                        p = e;
-                        n += 1;
-                    }
-                    Verdict::Refused(k, i, j) => {
-                        return Came::Stopped(k, n, i, j);
-                    }
-                }
+    while p < u.len() {
+        match check_at(u, p) {
+            Ok(e) => {
+                p = e;
+                n += 1;
             }
-            Head::Refused(k) => {
-                return Came::Stopped(k, n, 0, 0);
+            Err(fault) => {
+                return Err(Refusal { rec: n, fault });
             }
         }
     }
+    Ok(start)
 }
 
-// The first pass over an update.
-pub fn check_update(u: &[u8]) -> Came
+// The first pass over an update: where the records after the second begin, or the first refusal.
+pub fn check_update(u: &[u8]) -> Result<usize, Refusal>
     requires { length u.now ≤ 16777216 }
     ensures { result ≡ came_by (behind_two u.now) (read_update u.now) }
 {
-    match first_two(u, Mode::InUpdate) {
-        Opened::Behind(start) => later_records(u, start),
-        Opened::Stopped(k, n, i, j) => Came::Stopped(k, n, i, j),
-    }
+    let start = first_two(u, Mode::InUpdate)?;
+    later_records(u, start)
 }

@@ -16,13 +16,7 @@ pub fn twin(w: &[u8], i: usize, depth: usize, code: usize) -> usize
     requires { 8 * i + 8 ≤ length w.now }
     ensures { (result ≡ twin_at w.now i depth code) × (result ≤ 1) }
 {
-    if number(w, 8 * i) != depth {
-        return 0;
-    }
-    if number(w, 8 * i + 2) != code {
-        return 0;
-    }
-    1
+    usize::from(number(w, 8 * i) == depth && number(w, 8 * i + 2) == code)
 }
 
 // The depth below place p.

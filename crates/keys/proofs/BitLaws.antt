@@ -1,6 +1,6 @@
 -- Laws of flags in bits. Assumes nothing.
 use mathlib.Core.Path.{◌≡◌, refl, sym, ap, ◌∙◌}
-use mathlib.Core.List.{List, [], ◌∷◌}
+use mathlib.Core.List.{List}
 use mathlib.Core.Bool.{Bool, true, false}
 use Prim.Native.Nat.{ℕ, zero, suc, ◌+◌, ◌*◌, ◌/◌, ◌%◌, ◌^◌, ◌≤◌, ◌<◌}
 use native.Mathlib.Omega.{arith}
@@ -29,19 +29,6 @@ pub flag_is : (t : List ℕ) (j r : ℕ) → r ≡ bit_of (j % 8) (get_or t (j /
 unfolding flag_of
 flag_is t j r e = rw e refl
 
--- ---- `weight`
-
-pub weights_are : (i : ℕ) → i < 8 → get_or (1 ∷ 2 ∷ 4 ∷ 8 ∷ 16 ∷ 32 ∷ 64 ∷ 128 ∷ []) i 0 ≡ 2 ^ i
-weights_are zero h = refl
-weights_are (suc zero) h = refl
-weights_are (suc (suc zero)) h = refl
-weights_are (suc (suc (suc zero))) h = refl
-weights_are (suc (suc (suc (suc zero)))) h = refl
-weights_are (suc (suc (suc (suc (suc zero))))) h = refl
-weights_are (suc (suc (suc (suc (suc (suc zero)))))) h = refl
-weights_are (suc (suc (suc (suc (suc (suc (suc zero))))))) h = refl
-weights_are (suc (suc (suc (suc (suc (suc (suc (suc i)))))))) h = absurd (omega arith)
-
 -- ---- one bit more
 
 -- a bit is 0 or 1
@@ -59,7 +46,7 @@ bit_none (suc i) = bit_none i
 double : (i : ℕ) → 2 ^ suc i ≡ 2 * 2 ^ i
 double i = omega arith
 
--- where bit i is not set, adding its weight sets it, and changes no other
+-- where bit i is not set, adding 2 ^ i sets it, and changes no other
 half : (i b : ℕ) → (b + 2 ^ suc i) / 2 ≡ b / 2 + 2 ^ i
 half i b = omega (arith, double i)
 

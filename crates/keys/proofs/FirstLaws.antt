@@ -10,6 +10,7 @@ use Rattle.base.specs.Lists.{each}
 use Rattle.skeleton.specs.Directory.{entry_at, lies, ended, fields_of}
 use Rattle.skeleton.specs.File.{Field, cut_out}
 use Rattle.skeleton.specs.Place.{between, fields_at}
+use Rattle.skeleton.specs.declared.directory.Shape.{Shape}
 use Rattle.skeleton.specs.declared.directory.Entry.{Entry}
 use Rattle.skeleton.specs.declared.directory.Entry.TheVariants.{Field as FieldAt, End, Bad}
 use Rattle.skeleton.proofs.DirectoryLaws.{lies_in, fields_step, dir_bad}
@@ -41,16 +42,16 @@ first_of r base a b Bad en z =
     let w : ◌≡◌ {A = ℕ} 3 0 = dir_bad r base a b 24 0 0 z _ en refl in absurd (omega arith)
 
 -- so the record's key, if it has one, stands at its base address
-module _ (f : List ℕ) (p len base a b : ℕ) (z : (fields_of (between f p (p + len)) base a b).ending ≡ 0) where
+module _ (f : List ℕ) (p len : ℕ) (h : Shape) (z : (fields_of (between f p (p + len)) h.base h.a h.b).ending ≡ 0) where
   abbrev fields : List Field
-  fields = fields_at (between f p (p + len)) (record { base = base; a = a; b = b }) 24
+  fields = fields_at (between f p (p + len)) h 24
 
-  pub first_key : (key_of fields ≡ 0 → ⊥) → key_at f (p + base) ≡ key_of fields
+  pub first_key : (key_of fields ≡ 0 → ⊥) → key_at f (p + h.base) ≡ key_of fields
   unfolding key_of
   first_key k =
       let r = between f p (p + len) in
-      let s : First r base fields = rw (fields_same r (record { base = base; a = a; b = b }) z) (first_of r base a b (entry_at r a b 24) refl z) in
-      let e : key_of fields ≡ key_at (take s.bytes (drop base r)) 0 = ap (λ (x : List ℕ). key_at x 0) s.body in
-      let h = key_room (take s.bytes (drop base r)) 0 (λ z. k (e ∙ z)) in
-      let g : base + 5 ≤ length (take (p + len - p) (drop p f)) = omega (arith, length-take s.bytes (drop base r), length-drop base r) in
-      key_part f (p + len - p) p base g ∙ ap (key_at r) (sym (add-zero base)) ∙ key_part r s.bytes base 0 h ∙ sym e
+      let s : First r h.base fields = rw (fields_same r h z) (first_of r h.base h.a h.b (entry_at r h.a h.b 24) refl z) in
+      let e : key_of fields ≡ key_at (take s.bytes (drop h.base r)) 0 = ap (λ (x : List ℕ). key_at x 0) s.body in
+      let t = key_room (take s.bytes (drop h.base r)) 0 (λ z. k (e ∙ z)) in
+      let g : h.base + 5 ≤ length (take (p + len - p) (drop p f)) = omega (arith, length-take s.bytes (drop h.base r), length-drop h.base r) in
+      key_part f (p + len - p) p h.base g ∙ ap (key_at r) (sym (add-zero h.base)) ∙ key_part r s.bytes h.base 0 t ∙ sym e

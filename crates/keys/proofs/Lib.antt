@@ -4,6 +4,7 @@ pub mod LookLaws
 pub mod ListLaws
 pub mod SeenLaws
 pub mod BitLaws
+pub mod BelowLaws
 pub mod MapLaws
 pub mod OnceLaws
 pub mod SlotLaws

@@ -9,7 +9,7 @@ use lib.ListN.{length, take, drop}
 use lib.Seq.{drop-cons}
 use lib.Dec.{leb, ltb, eqb}
 use Rattle.base.specs.Choice.{either, larger_of}
-use Rattle.base.proofs.ChoiceLaws.{by_test, both_hold, larger_second, larger_first, larger_left, larger_right}
+use Rattle.base.proofs.ChoiceLaws.{by_test, both_hold, larger_left, larger_right}
 use Rattle.memory.specs.Hold.{zeros}
 use Rattle.memory.proofs.HoldLaws.{length_zeros}
 use Rattle.keys.specs.Listed.{keys_from, listed, seen_from}
@@ -40,9 +40,6 @@ above_more top up k (x ∷ xs) h g e =
     let b = both_hold (leb x top) (none_above top xs) e in
     let l : x ≤ top = leb-true x top b.0 in
     simp (le-leb x up (omega arith)) (above_more top up k xs h g b.1)
-
--- what `larger` returns
-pub ruleset larger_ways = (larger_first, larger_second)
 
 -- the larger of two is not below either, and of the kind of the second, where that is not before the first's
 pub larger_least : (a b : ℕ) → (a ≤ larger_of a b) × (b ≤ larger_of a b) × (kind_in a ≤ kind_in b → kind_in (larger_of a b) ≡ kind_in b)

@@ -7,13 +7,14 @@ use native.Mathlib.Omega.{arith}
 use borrow.Author.Tests.{eq-eqb, ne_eqb, eqb-true, eqb-false, ltb-true, ltb-false}
 use lib.ListN.{length}
 use lib.Dec.{eqb, ltb}
+use Rattle.std.specs.Prelude.{Option, Some, None, is_some}
 use Rattle.base.specs.Choice.{pick}
 use Rattle.keys.specs.Listed.{keys_from, listed, has_from, EachOnce}
-use Rattle.keys.specs.Look.{look_at, Sound}
+use Rattle.keys.specs.Look.{looked, look_at, Sound}
 use Rattle.keys.specs.Order.{ascends}
-use Rattle.keys.specs.Places.{Leads, here, over, Names, length_by, site_among, site_of}
+use Rattle.keys.specs.Places.{Leads, here, over, Names, length_by, site_among, site_of, site_in}
 use Rattle.keys.specs.declared.look.Look.{Look}
-use Rattle.keys.specs.declared.look.Look.TheVariants.{At, Nothing}
+use Rattle.keys.proofs.BelowLaws.{below_here, below_none, below_is, below_past}
 use Rattle.keys.proofs.ListLaws.{listed_here, listed_later, listed_none, not_first, not_later}
 use Rattle.keys.proofs.LookLaws.{keys_past}
 use Rattle.keys.proofs.OrderLaws.{parted, above_none}
@@ -21,11 +22,16 @@ use Rattle.keys.proofs.SoundLaws.{Next as Follows, sound_next, sound_nothing}
 
 -- ---- a record at a place
 
-pub follows : (u : List ℕ) (p len key : ℕ) → Sound u p → look_at u p ≡ At len key → Follows u p len key
-follows u p len key s e = sound_next u p s (look_at u p) refl len key e
+pub follows : (u : List ℕ) (p len key : ℕ) → Sound u p → look_at u p ≡ looked len key → Follows u p len key
+follows u p len key s e = sound_next u p s (look_at u p) refl (record { len = len; key = key }) e
 
-pub same_look : (e : Look) (len key n k : ℕ) → e ≡ At len key → e ≡ At n k → (len ≡ n) × (key ≡ k)
-same_look e len key n k a b = ((cc), (cc))
+-- a record's key
+abbrev key_by : Option Look → ℕ
+key_by (Some look) = look.key
+key_by None = 0
+
+pub same_look : (e : Option Look) (len key n k : ℕ) → e ≡ looked len key → e ≡ looked n k → (len ≡ n) × (key ≡ k)
+same_look e len key n k a b = let c = sym a ∙ b in (ap length_by c, ap key_by c)
 
 -- ---- places in order
 
@@ -56,10 +62,10 @@ at_end_lem u p s l = let i = s.inside in let z : p ≡ length u = omega arith in
 
 -- or one record further, where there is one
 one_further : (u : List ℕ) (p : ℕ) → Sound u p → ((len : ℕ) → 0 < len → Sound u (p + len) → Leads u (p + len) (length u))
-    → (b : Bool) → ltb p (length u) ≡ b → (e : Look) → e ≡ look_at u p → Leads u p (length u)
+    → (b : Bool) → ltb p (length u) ≡ b → (e : Option Look) → e ≡ look_at u p → Leads u p (length u)
 one_further u p s f false l e x = at_end_lem u p s (ltb-false p (length u) l)
-one_further u p s f true l Nothing x = absurd (sound_nothing u p s Nothing x (ltb-true p (length u) l) refl)
-one_further u p s f true l (At len key) x = let g = follows u p len key s (sym x) in over (sym x) (f len g.found.long g.sound)
+one_further u p s f true l None x = absurd (sound_nothing u p s None x (ltb-true p (length u) l) refl)
+one_further u p s f true l (Some look) x = let g = follows u p look.len look.key s (sym x) in over (sym x) (f look.len g.found.long g.sound)
 
 to_end : (u : List ℕ) (fuel p : ℕ) → length u ≤ p + fuel → Sound u p → Leads u p (length u)
 to_end u zero p h s = at_end_lem u p s (omega arith)
@@ -70,13 +76,13 @@ leads_end u p s = to_end u (length u) p (omega arith) s
 
 -- ---- the place of a key, and those of the records before it
 
-module _ (f : List ℕ) (p len k : ℕ) (s : Sound f p) (e : look_at f p ≡ At len k) where
+module _ (f : List ℕ) (p len k : ℕ) (s : Sound f p) (e : look_at f p ≡ looked len k) where
   -- by the record at p
   site_step : (key : ℕ) → site_of f p key ≡ pick (eqb k key) p (site_of f (p + len) key)
   unfolding site_of site_among
   site_step key =
       ap (site_among f key p) (follows f p len k s e).found.keys
-      ∙ ap (λ (l : Look). pick (eqb k key) p (site_among f key (p + length_by l) (keys_from f (p + len)))) e
+      ∙ ap (λ (l : Option Look). pick (eqb k key) p (site_among f key (p + length_by l) (keys_from f (p + len)))) e
 
   pub site_here : (key : ℕ) → k ≡ key → site_of f p key ≡ p
   site_here key h = site_step key ∙ ap (λ (b : Bool). pick b p (site_of f (p + len) key)) (eq-eqb k key h)
@@ -104,7 +110,7 @@ unfolding has_from
 site_end f p key h = site_gone f p key (ap (listed key) (keys_past f p h) ∙ listed_none key)
 
 -- a key that a record names is among those of the records that lead to it
-pub leads_listed : {f : List ℕ} {p r : ℕ} → Sound f p → Leads f p r → (len key : ℕ) → look_at f r ≡ At len key → has_from f p key ≡ true
+pub leads_listed : {f : List ℕ} {p r : ℕ} → Sound f p → Leads f p r → (len key : ℕ) → look_at f r ≡ looked len key → has_from f p key ≡ true
 unfolding has_from
 leads_listed {f} {p} s here len key e = ap (listed key) (follows f p len key s e).found.keys ∙ listed_here key key (keys_from f (p + len)) refl
 leads_listed {f} {p} s (over {len = n} {key = k} d l) len key e =
@@ -117,7 +123,7 @@ leads_listed {f} {p} s (over {len = n} {key = k} d l) len key e =
     go false x h = listed_later key k (keys_from f (p + n)) (eqb-false k key x) ∙ h
 
 -- where keys stand once, a record that names the key is the first
-pub site_once : {f : List ℕ} {p r : ℕ} → Sound f p → Leads f p r → EachOnce (keys_from f p) → (len key : ℕ) → look_at f r ≡ At len key → site_of f p key ≡ r
+pub site_once : {f : List ℕ} {p r : ℕ} → Sound f p → Leads f p r → EachOnce (keys_from f p) → (len key : ℕ) → look_at f r ≡ looked len key → site_of f p key ≡ r
 unfolding EachOnce has_from
 site_once {f} {p} s here o len key e = site_here f p len key s e key refl
 site_once {f} {p} s (over {len = n} {key = k} d l) o len key e =
@@ -135,7 +141,7 @@ record Above (f : List ℕ) (low r len key : ℕ) : Type 0 where
   above : low < key
   others : ascends key (keys_from f (r + len)) ≡ true
 
-leads_above : {f : List ℕ} {p r : ℕ} → Sound f p → Leads f p r → (low : ℕ) → ascends low (keys_from f p) ≡ true → (len key : ℕ) → look_at f r ≡ At len key → Above f low r len key
+leads_above : {f : List ℕ} {p r : ℕ} → Sound f p → Leads f p r → (low : ℕ) → ascends low (keys_from f p) ≡ true → (len key : ℕ) → look_at f r ≡ looked len key → Above f low r len key
 leads_above {f} {p} s here low a len key e =
     let o = parted low key (keys_from f (p + len)) (subst (λ (l : List ℕ). ascends low l ≡ true) (follows f p len key s e).found.keys a) in
     record { above = o.first; others = o.others }
@@ -148,7 +154,7 @@ leads_above {f} {p} s (over {len = n} {key = k} d l) low a len key e =
     record { above = omega arith; others = h.others }
 
 -- none before a record whose key is not above it has the key
-pub site_ahead : {f : List ℕ} {p r : ℕ} → Sound f p → Leads f p r → (low : ℕ) → ascends low (keys_from f p) ≡ true → (len key : ℕ) → look_at f r ≡ At len key
+pub site_ahead : {f : List ℕ} {p r : ℕ} → Sound f p → Leads f p r → (low : ℕ) → ascends low (keys_from f p) ≡ true → (len key : ℕ) → look_at f r ≡ looked len key
     → (k : ℕ) → key ≤ k → site_of f r k ≡ site_of f p k
 site_ahead s here low a len key e k h = refl
 site_ahead {f} {p} s (over {len = n} {key = j} d l) low a len key e k h =
@@ -158,7 +164,7 @@ site_ahead {f} {p} s (over {len = n} {key = j} d l) low a len key e k h =
     site_ahead g.sound l j o.others len key e k h ∙ sym (site_over f p n j s d k (λ z. omega arith))
 
 -- from a record with a larger key on, none has it
-pub none_behind : {f : List ℕ} {p r : ℕ} → Sound f p → Leads f p r → (low : ℕ) → ascends low (keys_from f p) ≡ true → (len key : ℕ) → look_at f r ≡ At len key
+pub none_behind : {f : List ℕ} {p r : ℕ} → Sound f p → Leads f p r → (low : ℕ) → ascends low (keys_from f p) ≡ true → (len key : ℕ) → look_at f r ≡ looked len key
     → (k : ℕ) → k < key → site_of f r k ≡ length f
 unfolding has_from
 none_behind {f} {p} {r} s l low a len key e k h =
@@ -169,16 +175,16 @@ none_behind {f} {p} {r} s l low a len key e k h =
 -- ---- what is known of it
 
 -- a record with the key begins there where it is before the file's end; else none of them has it
-pub record Sited (f : List ℕ) (start key r : ℕ) : Type 0 where
-  pub there : r < length f → Names f start key r
-  pub gone : length f ≤ r → has_from f start key ≡ false
+record Sited (f : List ℕ) (start key r : ℕ) : Type 0 where
+  there : r < length f → Names f start key r
+  gone : length f ≤ r → has_from f start key ≡ false
 
 sited_end : (f : List ℕ) (p key : ℕ) → length f ≤ p → Sited f p key (site_of f p key)
 unfolding has_from
 sited_end f p key h = rw (site_end f p key h) (record { there = λ g. absurd (omega arith); gone = λ g. ap (listed key) (keys_past f p h) ∙ listed_none key })
 
 -- at one record, by those behind it
-sited_step : (f : List ℕ) (p key : ℕ) → Sound f p → (len k : ℕ) → look_at f p ≡ At len k → Sited f (p + len) key (site_of f (p + len) key) → Sited f p key (site_of f p key)
+sited_step : (f : List ℕ) (p key : ℕ) → Sound f p → (len k : ℕ) → look_at f p ≡ looked len k → Sited f (p + len) key (site_of f (p + len) key) → Sited f p key (site_of f p key)
 unfolding has_from
 sited_step f p key s len k e t = go (eqb k key) refl
   where
@@ -186,7 +192,7 @@ sited_step f p key s len k e t = go (eqb k key) refl
     go true x =
         let z = eqb-true k key x in
         rw (site_here f p len k s e key z)
-        (record { there = λ h. record { leads = here; len = len; look = e ∙ ap (At len) z }; gone = λ h. absurd (omega (arith, look_inside f p len k s e)) })
+        (record { there = λ h. record { leads = here; len = len; look = e ∙ ap (looked len) z }; gone = λ h. absurd (omega (arith, look_inside f p len k s e)) })
     go false x =
         let z = eqb-false k key x in
         rw (site_over f p len k s e key z)
@@ -196,22 +202,49 @@ sited_step f p key s len k e t = go (eqb k key) refl
         })
 
 sited_by : (f : List ℕ) (p key : ℕ) → Sound f p → ((len : ℕ) → 0 < len → Sound f (p + len) → Sited f (p + len) key (site_of f (p + len) key))
-    → (b : Bool) → ltb p (length f) ≡ b → (e : Look) → e ≡ look_at f p → Sited f p key (site_of f p key)
+    → (b : Bool) → ltb p (length f) ≡ b → (e : Option Look) → e ≡ look_at f p → Sited f p key (site_of f p key)
 sited_by f p key s g false l e x = sited_end f p key (ltb-false p (length f) l)
-sited_by f p key s g true l Nothing x = absurd (sound_nothing f p s Nothing x (ltb-true p (length f) l) refl)
-sited_by f p key s g true l (At len k) x = let n = follows f p len k s (sym x) in sited_step f p key s len k (sym x) (g len n.found.long n.sound)
+sited_by f p key s g true l None x = absurd (sound_nothing f p s None x (ltb-true p (length f) l) refl)
+sited_by f p key s g true l (Some look) x =
+    let n = follows f p look.len look.key s (sym x) in sited_step f p key s look.len look.key (sym x) (g look.len n.found.long n.sound)
 
 sited_from : (f : List ℕ) (fuel p key : ℕ) → length f ≤ p + fuel → Sound f p → Sited f p key (site_of f p key)
 sited_from f zero p key h s = sited_end f p key (omega arith)
 sited_from f (suc n) p key h s = sited_by f p key s (λ len l t. sited_from f n (p + len) key (omega arith) t) (ltb p (length f)) refl (look_at f p) refl
 
-pub site_known : (f : List ℕ) (p key : ℕ) → Sound f p → Sited f p key (site_of f p key)
-site_known f p key s = sited_from f (length f) p key (omega arith) s
+sited : (f : List ℕ) (p key : ℕ) → Sound f p → Sited f p key (site_of f p key)
+sited f p key s = sited_from f (length f) p key (omega arith) s
 
--- so its test is whether the key is among theirs
-pub site_says : (f : List ℕ) (p key : ℕ) → Sound f p → ltb (site_of f p key) (length f) ≡ has_from f p key
-site_says f p key s = go (ltb (site_of f p key) (length f)) refl
+-- the same of the place, or none
+pub record SiteKnown (f : List ℕ) (start key : ℕ) (r : Option ℕ) : Type 0 where
+  pub inside : (p : ℕ) → r ≡ Some p → p < length f
+  pub there : (p : ℕ) → r ≡ Some p → Names f start key p
+  pub gone : r ≡ None → has_from f start key ≡ false
+
+pub site_known : (f : List ℕ) (start key : ℕ) → Sound f start → (r : Option ℕ) → r ≡ site_in f start key → SiteKnown f start key r
+unfolding site_in
+site_known f start key s r e =
+    let t = sited f start key s in
+    record {
+      inside = λ p x. (let i = below_is (length f) (site_of f start key) r e p x in omega arith);
+      there = λ p x. (let i = below_is (length f) (site_of f start key) r e p x in rw i.0 (t.there i.1));
+      gone = λ x. t.gone (below_past (length f) (site_of f start key) r e x);
+    }
+
+-- so whether there is one is whether the key is among theirs
+pub site_says : (f : List ℕ) (start key : ℕ) → Sound f start → (r : Option ℕ) → r ≡ site_in f start key → is_some r ≡ has_from f start key
+site_says f start key s r e = go r refl
   where
-    go : (b : Bool) → ltb (site_of f p key) (length f) ≡ b → b ≡ has_from f p key
-    go true e = let n = (site_known f p key s).there (ltb-true (site_of f p key) (length f) e) in sym (leads_listed s n.leads n.len key n.look)
-    go false e = sym ((site_known f p key s).gone (ltb-false (site_of f p key) (length f) e))
+    go : (o : Option ℕ) → r ≡ o → is_some r ≡ has_from f start key
+    go (Some p) x = let n = (site_known f start key s r e).there p x in ap is_some x ∙ sym (leads_listed s n.leads n.len key n.look)
+    go None x = ap is_some x ∙ sym ((site_known f start key s r e).gone x)
+
+-- by the place, or the file's length
+module _ (f : List ℕ) (start key : ℕ) where
+  pub site_at : (p : ℕ) → p ≡ site_of f start key → p < length f → Some p ≡ site_in f start key
+  unfolding site_in
+  site_at p e h = rw (← e) (below_here (length f) p h)
+
+  pub site_none : length f ≡ site_of f start key → None ≡ site_in f start key
+  unfolding site_in
+  site_none e = rw (← e) (below_none (length f) (length f) (omega arith))

@@ -1,54 +1,49 @@
 -- Laws of a key that stands in a file. Assumes nothing.
 use mathlib.Core.Path.{◌≡◌, refl, sym, ap, ◌∙◌}
 use mathlib.Core.List.{List}
-use mathlib.Core.Bool.{Bool, true, false, true≢false}
+use mathlib.Core.Bool.{Bool, true, true≢false}
 use Prim.Native.Nat.{ℕ, zero, suc, ◌+◌, ◌-◌, ◌/◌, ◌^◌, ◌≤◌, ◌<◌}
 use native.Mathlib.Omega.{arith}
 use borrow.Author.Tests.{lt-ltb, le-ltb, ltb-true, le-leb, lt-leb, leb-true}
 use lib.Dec.{leb, ltb}
 use lib.ListN.{length, get_or}
+use Rattle.std.specs.Prelude.{Option, Some, None, is_some, IfSome}
 use Rattle.base.proofs.ChoiceLaws.{by_test}
 use Rattle.keys.specs.Bits.{flag_of}
 use Rattle.keys.specs.Listed.{keys_from, has_from}
-use Rattle.keys.specs.Look.{look_at, Sound}
-use Rattle.keys.specs.Slots.{slot_of}
+use Rattle.keys.specs.Look.{looked, look_at, Sound}
+use Rattle.keys.specs.Slots.{slot_in}
 use Rattle.keys.specs.Order.{Ascending}
-use Rattle.keys.specs.Places.{here, over, site_of}
+use Rattle.keys.specs.Places.{here, over, Names, site_in}
 use Rattle.keys.specs.Table.{Tail, Tails, Close, Laid, Half, half, middle, half_by, halved, start_near}
 use Rattle.keys.specs.declared.look.Look.{Look}
-use Rattle.keys.specs.declared.look.Look.TheVariants.{At, Nothing}
 use Rattle.keys.proofs.SoundLaws.{sound_word}
 use Rattle.keys.proofs.SlotLaws.{slots_say}
 use Rattle.keys.proofs.PlaceLaws.{leads_then, leads_listed, site_ahead, site_says}
 use Rattle.keys.proofs.TableLaws.{tail_start, tail_sound}
 
--- ---- `near`, by the look e at p
+-- ---- `site_near`, by the look e at p
 
-module _ (f : List ℕ) (start p : ℕ) (l : Tail f start p) (e : Look) (en : e ≡ look_at f p) (len key : ℕ) (x : e ≡ At len key) where
-  pub near_on : Tail f start (p + len)
+module _ (f : List ℕ) (start p : ℕ) (l : Tail f start p) (e : Option Look) (en : e ≡ look_at f p) (look : Look) (x : e ≡ Some look) where
+  pub near_on : Tail f start (p + look.len)
   near_on = record { sound = l.sound; leads = leads_then l.leads (over (sym en ∙ x) here) }
 
-  pub near_word : p + len < 2 ^ 64
-  near_word = sound_word f p (tail_sound f start p l) e en len key x
+  pub near_word : p + look.len < 2 ^ 64
+  near_word = sound_word f p (tail_sound f start p l) e en look x
 
-  pub near_found : (k : ℕ) → key ≡ k → true ≡ true → has_from f start k ≡ true
-  near_found k y z = leads_listed l.sound l.leads len k (sym en ∙ x ∙ ap (At len) y)
+  pub near_found : (k : ℕ) → look.key ≡ k → has_from f start k ≡ true
+  near_found k y = leads_listed l.sound l.leads look.len k (sym en ∙ x ∙ ap (looked look.len) y)
 
   -- `start_near`: where the keys ascend, none before one that is not above the key is the key
-  pub close_at : (k : ℕ) → key ≤ k → Close f start k p
+  pub close_at : (k : ℕ) → look.key ≤ k → Close f start k p
   unfolding Ascending
-  close_at k h = record { tail = l; kept = λ a. site_ahead l.sound l.leads 0 a len key (sym en ∙ x) k h }
-
-pub near_not : (b : Bool) → false ≡ true → b ≡ true
-near_not b e = absurd (true≢false (sym e))
+  close_at k h = record { tail = l; kept = λ a. site_ahead l.sound l.leads 0 a look.len look.key (sym en ∙ x) k h }
 
 pub near_in : (f : List ℕ) (start p : ℕ) → Tail f start p → p ≤ length f
 near_in f start p l = (tail_sound f start p l).inside
 
 pub near_small : (f : List ℕ) (start p : ℕ) → Tail f start p → length f ≤ 16777216
 near_small f start p l = l.sound.small
-
-pub ruleset near_turn = (near_on, near_word, near_found, near_not, near_in, near_small, arith)
 
 -- ---- `start_near`
 
@@ -104,7 +99,7 @@ module _ (f : List ℕ) (start : ℕ) (t : List ℕ) (n key lo hi p : ℕ) (s : 
   halving_in = s.inside
 
   -- by the look e at the entry in the middle
-  module _ (h : lo < hi) (q : ℕ) (eq : q ≡ get_or t (lo + (hi - lo) / 2) 0) (e : Look) (en : e ≡ look_at f q) where
+  module _ (h : lo < hi) (q : ℕ) (eq : q ≡ get_or t (lo + (hi - lo) / 2) 0) (e : Option Look) (en : e ≡ look_at f q) where
     halved_one : (j : ℕ) → halved (suc j) f t key (half lo hi p) ≡ halved j f t key (half_by key (half lo hi p) (lo + (hi - lo) / 2) q e)
     unfolding halved
     halved_one j = rw (lt-ltb lo hi h, en, eq) refl
@@ -121,14 +116,14 @@ module _ (f : List ℕ) (start : ℕ) (t : List ℕ) (n key lo hi p : ℕ) (s : 
           same = ap (λ (x : Half). x.place) (ap (halved j f t key) (sym ex) ∙ sym (halved_one j)) ∙ b;
         }
 
-    module _ (len k : ℕ) (x : e ≡ At len k) where
-      pub halving_up : k ≤ key → Halving f start t n key (lo + (hi - lo) / 2 + 1) hi q
-      halving_up y = halving_on (lo + (hi - lo) / 2 + 1) hi q (rw (x, le-leb k key y) refl) s.inside (omega arith)
+    module _ (look : Look) (x : e ≡ Some look) where
+      pub halving_up : look.key ≤ key → Halving f start t n key (lo + (hi - lo) / 2 + 1) hi q
+      halving_up y = halving_on (lo + (hi - lo) / 2 + 1) hi q (rw (x, le-leb look.key key y) refl) s.inside (omega arith)
 
-      pub halving_down : key < k → Halving f start t n key lo (lo + (hi - lo) / 2) p
-      halving_down y = halving_on lo (lo + (hi - lo) / 2) p (rw (x, lt-leb k key y) refl) (let i = s.inside in omega arith) (omega arith)
+      pub halving_down : key < look.key → Halving f start t n key lo (lo + (hi - lo) / 2) p
+      halving_down y = halving_on lo (lo + (hi - lo) / 2) p (rw (x, lt-leb look.key key y) refl) (let i = s.inside in omega arith) (omega arith)
 
-    pub halving_nothing : e ≡ Nothing → p ≡ start_near f start t n key
+    pub halving_nothing : e ≡ None → p ≡ start_near f start t n key
     halving_nothing x = go s.steps s.enough s.same
       where
         go : (j : ℕ) → hi ≤ lo + j → (halved j f t key (half lo hi p)).place ≡ start_near f start t n key → p ≡ start_near f start t n key
@@ -153,16 +148,16 @@ pub ruleset half_turn = (
 -- the place that is found so is close
 module _ (f : List ℕ) (start : ℕ) (t : List ℕ) (n : ℕ) (map : List ℕ) (r : Laid f start t n map) (key : ℕ) where
   -- by what stands at the entry q
-  close_look : (h : Half) (m q : ℕ) → Close f start key h.place → Tail f start q → (e : Look) → e ≡ look_at f q → Close f start key (half_by key h m q e).place
-  close_look h m q c l (At len k) en =
-      by_test (λ (x : Half). Close f start key x.place) (leb k key) _ _
-      (λ y. close_at f start q l (At len k) en len k refl key (leb-true k key y))
+  close_look : (h : Half) (m q : ℕ) → Close f start key h.place → Tail f start q → (e : Option Look) → e ≡ look_at f q → Close f start key (half_by key h m q e).place
+  close_look h m q c l (Some look) en =
+      by_test (λ (x : Half). Close f start key x.place) (leb look.key key) _ _
+      (λ y. close_at f start q l (Some look) en look refl key (leb-true look.key key y))
       (λ _. c)
-  close_look h m q c l Nothing en = c
+  close_look h m q c l None en = c
 
-  inside_look : (h : Half) (m q : ℕ) → m ≤ n → h.hi ≤ n → (e : Look) → (half_by key h m q e).hi ≤ n
-  inside_look h m q a b (At len k) = by_test (λ (x : Half). x.hi ≤ n) (leb k key) _ _ (λ _. b) (λ _. a)
-  inside_look h m q a b Nothing = b
+  inside_look : (h : Half) (m q : ℕ) → m ≤ n → h.hi ≤ n → (e : Option Look) → (half_by key h m q e).hi ≤ n
+  inside_look h m q a b (Some look) = by_test (λ (x : Half). x.hi ≤ n) (leb look.key key) _ _ (λ _. b) (λ _. a)
+  inside_look h m q a b None = b
 
   close_halved : (j : ℕ) (h : Half) → h.hi ≤ n → Close f start key h.place → Close f start key (halved j f t key h).place
   unfolding halved
@@ -186,15 +181,20 @@ module _ (f : List ℕ) (start : ℕ) (t : List ℕ) (n : ℕ) (map : List ℕ) 
 
 -- ---- `has`
 
-pub has_flag : (f : List ℕ) (start : ℕ) (t : List ℕ) (n : ℕ) (map : List ℕ) → Laid f start t n map → (k s : ℕ) → s ≡ slot_of k → s < 262144 → s / 8 < length map
-    → (b : Bool) → b ≡ flag_of map s → b ≡ has_from f start k
-unfolding has_from
-has_flag f start t n map r k s e h g b x = x ∙ slots_say (keys_from f start) map k s r.slots e h g
+module _ (f : List ℕ) (start : ℕ) (t : List ℕ) (n : ℕ) (map : List ℕ) (l : Laid f start t n map) (k : ℕ) (r : Option ℕ) where
+  pub has_flag : r ≡ slot_in k → (s : ℕ) → r ≡ Some s → s / 8 < length map → (b : Bool) → b ≡ flag_of map s → b ≡ has_from f start k
+  unfolding has_from
+  has_flag e s x g b y = y ∙ slots_say (keys_from f start) map k l.slots r e s x g
 
-pub has_near : (b h : Bool) → (b ≡ true → h ≡ true) → b ≡ true → true ≡ h
-has_near b h f e = sym (f e)
+  module _ (b : Bool) (eb : b ≡ is_some r) where
+    pub has_near : IfSome r (Names f start k) → b ≡ true → b ≡ has_from f start k
+    has_near g y = go r refl g
+      where
+        go : (o : Option ℕ) → r ≡ o → IfSome o (Names f start k) → b ≡ has_from f start k
+        go (Some p) x m = y ∙ sym (leads_listed l.sound m.leads m.len k m.look)
+        go None x m = absurd (true≢false (sym y ∙ eb ∙ ap is_some x))
 
-pub has_ordered : (f : List ℕ) (start : ℕ) (t : List ℕ) (n : ℕ) (map : List ℕ) → Laid f start t n map → (k r : ℕ) → r ≡ site_of f start k → ltb r (length f) ≡ has_from f start k
-has_ordered f start t n map l k r e = rw e (site_says f start k l.sound)
+    pub has_site : r ≡ site_in f start k → b ≡ has_from f start k
+    has_site e = eb ∙ site_says f start k l.sound r e
 
-pub ruleset has_ways = (has_flag, has_near, has_ordered, close_near, close_tail, laid_small, laid_sound, laid_ascends, arith)
+pub ruleset has_ways = (has_flag, has_near, has_site, close_near, close_tail, laid_small, laid_sound, laid_ascends, arith)

@@ -5,6 +5,7 @@ use mathlib.Core.Bool.{Bool, true, false}
 use Prim.Native.Nat.{ℕ, ◌+◌, ◌≤◌, ◌<◌}
 use native.Mathlib.Omega.{arith}
 use lib.ListN.{length, take}
+use Rattle.std.specs.Prelude.{Result, Ok}
 use Rattle.base.specs.Check.{ok, no, fault, Passed}
 use Rattle.base.specs.Lists.{each, Each}
 use Rattle.base.specs.Keys.{among}
@@ -13,7 +14,7 @@ use Rattle.skeleton.specs.File.{Field, records_from}
 use Rattle.skeleton.specs.Place.{between, fields_at}
 use Rattle.skeleton.specs.Record.{record_at}
 use Rattle.skeleton.specs.declared.leader.Head.{Head}
-use Rattle.skeleton.specs.declared.leader.Head.TheVariants.{Good}
+use Rattle.skeleton.specs.declared.leader.Broken.{Broken}
 use Rattle.skeleton.proofs.FileLaws.{records_over, records_more}
 use Rattle.rules.specs.Associations.{Mark, marks, number11}
 use Rattle.rules.specs.Record.{Rec, key_of as key_in_rules}
@@ -68,15 +69,15 @@ pub passed_fine : (f : List ℕ) (start : ℕ) → outcome_from f start 0 [] ≡
 passed_fine f start e = let r = outcome_reads f start e in r.1.fine
 
 -- at each record its fields have their formats
-module _ (f : List ℕ) (p : ℕ) (g : FineFrom f p) (l : p < length f) (h : Head) (eh : h ≡ record_at f p) (len base a b : ℕ) (y : h ≡ Good len base a b) where
-  fine_parts : Fine (fields_at (between f p (p + len)) (record { base = base; a = a; b = b }) 24) × FineFrom f (p + len)
+module _ (f : List ℕ) (p : ℕ) (g : FineFrom f p) (l : p < length f) (h : Result Head Broken) (eh : h ≡ record_at f p) (d : Head) (y : h ≡ Ok d) where
+  fine_parts : Fine (fields_at (between f p (p + d.len)) d.shape 24) × FineFrom f (p + d.len)
   unfolding FineFrom Each
-  fine_parts = rw (records_more f p l h eh len base a b y) at g
+  fine_parts = rw (records_more f p l h eh d y) at g
 
-  pub fine_here : Fine (fields_at (between f p (p + len)) (record { base = base; a = a; b = b }) 24)
+  pub fine_here : Fine (fields_at (between f p (p + d.len)) d.shape 24)
   fine_here = fine_parts.0
 
-  pub fine_more : FineFrom f (p + len)
+  pub fine_more : FineFrom f (p + d.len)
   fine_more = fine_parts.1
 
 -- ---- number 11
@@ -113,21 +114,21 @@ module _ (recs : List Rec) (f : List ℕ) (p m : ℕ) (x : Outcome (Unit {0})) (
   unfolding references_from every_record
   references_over h = rw (records_over f p h) at inv
 
-  module _ (l : p < length f) (h : Head) (eh : h ≡ record_at f p) (len base a b : ℕ) (y : h ≡ Good len base a b) where
+  module _ (l : p < length f) (h : Result Head Broken) (eh : h ≡ record_at f p) (d : Head) (y : h ≡ Ok d) where
     -- the fields of the record at hand
     abbrev fields : List Field
-    fields = fields_at (between f p (p + len)) (record { base = base; a = a; b = b }) 24
+    fields = fields_at (between f p (p + d.len)) d.shape 24
 
     turn : and_then (at 1 (m + 4) (number11 (each key_in_rules recs) (marks 1 fields)))
-        (λ _. every_record (λ fs. number11 (each key_in_rules recs) (marks 1 fs)) 1 (m + 4 + 1) (records_from f (p + len)).items) ≡ x
+        (λ _. every_record (λ fs. number11 (each key_in_rules recs) (marks 1 fs)) 1 (m + 4 + 1) (records_from f (p + d.len)).items) ≡ x
     unfolding references_from every_record
-    turn = rw (records_more f p l h eh len base a b y) at inv
+    turn = rw (records_more f p l h eh d y) at inv
 
     pub references_loose : (z : Fault) → number11 (each key_in_rules recs) (marks 1 fields) ≡ no z → refused 1 (m + 4) z ≡ x
     unfolding at and_then
     references_loose z e = rw e at turn
 
-    pub references_more : (u : Unit {0}) → number11 (each key_in_rules recs) (marks 1 fields) ≡ ok u → references_from recs f (p + len) (m + 1) ≡ x
+    pub references_more : (u : Unit {0}) → number11 (each key_in_rules recs) (marks 1 fields) ≡ ok u → references_from recs f (p + d.len) (m + 1) ≡ x
     unfolding references_from at and_then
     references_more u e =
         let i : m + 1 + 4 ≡ m + 4 + 1 = omega arith in

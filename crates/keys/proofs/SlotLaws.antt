@@ -1,5 +1,5 @@
 -- Laws of the map of keys that can be named. Assumes nothing.
-use mathlib.Core.Path.{◌≡◌, ◌∙◌}
+use mathlib.Core.Path.{◌≡◌, refl, ap, ◌∙◌}
 use mathlib.Core.List.{List, [], ◌∷◌, ◌++◌}
 use mathlib.Core.Bool.{true}
 use Prim.Native.Nat.{ℕ, ◌+◌, ◌-◌, ◌*◌, ◌/◌, ◌%◌, ◌≤◌, ◌<◌}
@@ -7,58 +7,90 @@ use native.Mathlib.Omega.{arith}
 use borrow.Author.Tests.{lt-ltb, le-ltb, eq-eqb, ne_eqb, ltb-true, eqb-true}
 use lib.ListN.{length}
 use lib.Dec.{ltb, eqb}
+use Rattle.std.specs.Prelude.{Option, Some, None}
 use Rattle.base.specs.Choice.{pick}
 use Rattle.base.proofs.ChoiceLaws.{by_test}
 use Rattle.memory.specs.Hold.{zeros}
 use Rattle.keys.specs.Listed.{listed}
+use Rattle.keys.specs.Below.{below}
 use Rattle.keys.specs.Bits.{flag_of, raised}
 use Rattle.keys.specs.Map.{Mapped, kind_in, rcid_in}
-use Rattle.keys.specs.Slots.{slot_within, slot_of, has_slot, Slots, noted}
+use Rattle.keys.specs.Slots.{slot_within, slot_of, has_slot, slot_in, Slots, noted}
+use Rattle.keys.proofs.BelowLaws.{below_here, below_none, below_is, below_past}
 use Rattle.keys.proofs.BitLaws.{raised_long}
 use Rattle.keys.proofs.MapLaws.{zeros_all, mapped_none, mapped_more, mapped_out}
 
--- ---- `within`, `slot` and `note`
+-- ---- `slot` and `note`
 
-module _ (first room rcid : ℕ) where
-  pub within_room : rcid < room → first + rcid ≡ slot_within first room rcid
+-- a part of the map: the key's place in it, where its RCID is not too large
+module _ (first room rcid : ℕ) (h : first + room ≤ 262144) where
+  part_room : (p : ℕ) → p ≡ first + rcid → rcid < room → Some p ≡ below 262144 (slot_within first room rcid)
   unfolding slot_within
-  within_room h = simp (lt-ltb rcid room h)
+  part_room p e l = simp (lt-ltb rcid room l, ← e) (below_here 262144 p (omega arith))
 
-  pub within_none : room ≤ rcid → 262144 ≡ slot_within first room rcid
+  part_none : room ≤ rcid → None ≡ below 262144 (slot_within first room rcid)
   unfolding slot_within
-  within_none h = simp (le-ltb rcid room h)
-
-pub ruleset within_ways = (within_room, within_none, arith)
+  part_none l = simp (le-ltb rcid room l) (below_none 262144 262144 (omega arith))
 
 module _ (k : ℕ) where
-  pub slot_info : (r : ℕ) → k / 4294967296 ≡ 1 → r ≡ slot_within 0 65536 (k % 4294967296) → r ≡ slot_of k
-  unfolding slot_of
-  slot_info r e x = simp (eq-eqb (kind_in k) 1 e) x
-
-  module _ (n : k / 4294967296 ≡ 1 → ⊥) where
-    pub slot_point : (r : ℕ) → k / 4294967296 ≡ 2 → r ≡ slot_within 65536 131072 (k % 4294967296) → r ≡ slot_of k
+  module _ (e : k / 4294967296 ≡ 1) where
+    slot_info : slot_of k ≡ slot_within 0 65536 (k % 4294967296)
     unfolding slot_of
-    slot_point r e x = simp (ne_eqb (kind_in k) 1 n, eq-eqb (kind_in k) 2 e) x
+    slot_info = simp (eq-eqb (kind_in k) 1 e) refl
 
-    module _ (o : k / 4294967296 ≡ 2 → ⊥) where
-      pub slot_multi : (r : ℕ) → k / 4294967296 ≡ 3 → r ≡ slot_within 196608 65536 (k % 4294967296) → r ≡ slot_of k
-      unfolding slot_of
-      slot_multi r e x = simp (ne_eqb (kind_in k) 1 n, ne_eqb (kind_in k) 2 o, eq-eqb (kind_in k) 3 e) x
+    pub info_room : k % 4294967296 < 65536 → Some (k % 4294967296) ≡ slot_in k
+    unfolding slot_in
+    info_room l = rw slot_info (part_room 0 65536 (k % 4294967296) (omega arith) (k % 4294967296) (omega arith) l)
 
-      pub slot_none : (k / 4294967296 ≡ 3 → ⊥) → 262144 ≡ slot_of k
-      unfolding slot_of
-      slot_none p = simp (ne_eqb (kind_in k) 1 n, ne_eqb (kind_in k) 2 o, ne_eqb (kind_in k) 3 p)
+    pub info_none : 65536 ≤ k % 4294967296 → None ≡ slot_in k
+    unfolding slot_in
+    info_none l = rw slot_info (part_none 0 65536 (k % 4294967296) (omega arith) l)
 
-pub ruleset slot_ways = (slot_info, slot_point, slot_multi, slot_none, arith)
+  module _ (e : k / 4294967296 ≡ 2) where
+    slot_point : slot_of k ≡ slot_within 65536 131072 (k % 4294967296)
+    unfolding slot_of
+    slot_point = simp (ne_eqb (kind_in k) 1 (λ z. omega arith), eq-eqb (kind_in k) 2 e) refl
 
-module _ (t : List ℕ) (k s : ℕ) (e : s ≡ slot_of k) where
-  pub note_raised : s < 262144 → (t' : List ℕ) → t' ≡ raised t s → t' ≡ noted t k
+    pub point_room : k % 4294967296 < 131072 → Some (65536 + k % 4294967296) ≡ slot_in k
+    unfolding slot_in
+    point_room l = rw slot_point (part_room 65536 131072 (k % 4294967296) (omega arith) (65536 + k % 4294967296) refl l)
+
+    pub point_none : 131072 ≤ k % 4294967296 → None ≡ slot_in k
+    unfolding slot_in
+    point_none l = rw slot_point (part_none 65536 131072 (k % 4294967296) (omega arith) l)
+
+  module _ (e : k / 4294967296 ≡ 3) where
+    slot_multi : slot_of k ≡ slot_within 196608 65536 (k % 4294967296)
+    unfolding slot_of
+    slot_multi = simp (ne_eqb (kind_in k) 1 (λ z. omega arith), ne_eqb (kind_in k) 2 (λ z. omega arith), eq-eqb (kind_in k) 3 e) refl
+
+    pub multi_room : k % 4294967296 < 65536 → Some (196608 + k % 4294967296) ≡ slot_in k
+    unfolding slot_in
+    multi_room l = rw slot_multi (part_room 196608 65536 (k % 4294967296) (omega arith) (196608 + k % 4294967296) refl l)
+
+    pub multi_none : 65536 ≤ k % 4294967296 → None ≡ slot_in k
+    unfolding slot_in
+    multi_none l = rw slot_multi (part_none 196608 65536 (k % 4294967296) (omega arith) l)
+
+  pub slot_none : (k / 4294967296 ≡ 1 → ⊥) → (k / 4294967296 ≡ 2 → ⊥) → (k / 4294967296 ≡ 3 → ⊥) → None ≡ slot_in k
+  unfolding slot_of slot_in
+  slot_none n o p = simp (ne_eqb (kind_in k) 1 n, ne_eqb (kind_in k) 2 o, ne_eqb (kind_in k) 3 p) (below_none 262144 262144 (omega arith))
+
+pub ruleset slot_ways = (info_room, info_none, point_room, point_none, multi_room, multi_none, slot_none, arith)
+
+-- a key that has a place, and one that has none
+module _ (k : ℕ) (r : Option ℕ) (e : r ≡ slot_in k) where
+  pub slot_is : (s : ℕ) → r ≡ Some s → (s ≡ slot_of k) × (slot_of k < 262144)
+  unfolding slot_in
+  slot_is s x = below_is 262144 (slot_of k) r e s x
+
+  pub note_raised : (s : ℕ) → r ≡ Some s → (t t' : List ℕ) → t' ≡ raised t s → t' ≡ noted t k
   unfolding noted has_slot
-  note_raised h t' x = simp (← e, lt-ltb s 262144 h) x
+  note_raised s x t t' y = let i = slot_is s x in simp (lt-ltb (slot_of k) 262144 i.1) (y ∙ ap (raised t) i.0)
 
-  pub note_not : 262144 ≤ s → t ≡ noted t k
-  unfolding noted has_slot
-  note_not h = simp (← e, le-ltb s 262144 h)
+  pub note_not : r ≡ None → (t : List ℕ) → t ≡ noted t k
+  unfolding noted has_slot slot_in
+  note_not x t = simp (le-ltb (slot_of k) 262144 (below_past 262144 (slot_of k) r e x)) refl
 
 pub ruleset note_ways = (note_raised, note_not)
 
@@ -124,6 +156,8 @@ unfolding noted
 noted_long t t' k n e h = rw e (by_test (λ (u : List ℕ). length u ≡ n) (has_slot k) _ _ (λ _. raised_long t (slot_of k) ∙ h) (λ _. h))
 
 -- what the map says of a key
-pub slots_say : (l : List ℕ) (t : List ℕ) (k s : ℕ) → Slots l t → s ≡ slot_of k → s < 262144 → s / 8 < length t → flag_of t s ≡ listed k l
+pub slots_say : (l : List ℕ) (t : List ℕ) (k : ℕ) → Slots l t → (r : Option ℕ) → r ≡ slot_in k → (s : ℕ) → r ≡ Some s → s / 8 < length t → flag_of t s ≡ listed k l
 unfolding Slots Mapped has_slot
-slots_say l t k s ms e h g = rw e (ms k (lt-ltb (slot_of k) 262144 (rw (← e) h)) (rw (← e) g))
+slots_say l t k ms r e s x g =
+    let i = slot_is k r e s x in
+    rw i.0 (ms k (lt-ltb (slot_of k) 262144 i.1) (rw i.0 at g))

@@ -8,6 +8,7 @@ use native.Mathlib.Omega.{arith}
 use borrow.Author.Tests.{ne_eqb, lt-leb}
 use lib.ListN.{length, take, drop, length-drop}
 use lib.Seq.{drop-cons}
+use Rattle.std.specs.Prelude.{Result, Ok, Err}
 use Rattle.base.specs.Choice.{pick, larger_of}
 use Rattle.base.specs.Check.{Check, ok, no, bind, fault}
 use Rattle.base.specs.Lists.{each}
@@ -15,11 +16,13 @@ use Rattle.base.specs.Keys.{among}
 use Rattle.base.specs.declared.Fault.{Fault}
 use Rattle.memory.specs.Hold.{zeros}
 use Rattle.skeleton.specs.File.{Field, records_from}
+use Rattle.skeleton.specs.Leader.{number_of}
 use Rattle.skeleton.specs.Place.{between, fields_at}
 use Rattle.skeleton.specs.Record.{record_at}
 use Rattle.skeleton.specs.declared.leader.Head.{Head}
-use Rattle.skeleton.specs.declared.leader.Head.TheVariants.{Good, Refused}
-use Rattle.skeleton.proofs.RecordLaws.{right, refusal_some}
+use Rattle.skeleton.specs.declared.leader.Broken.{Broken}
+use Rattle.skeleton.proofs.LeaderLaws.{number_some}
+use Rattle.skeleton.proofs.RecordLaws.{right}
 use Rattle.skeleton.proofs.FileLaws.{records_over, records_refused, records_more}
 use Rattle.rules.specs.Associations.{number7}
 use Rattle.rules.specs.Record.{Rec, key_named, rec_of, key_of as key_in_rules}
@@ -87,35 +90,35 @@ module _ (f : List ℕ) (start at' m top : ℕ) (x : Outcome (Unit {0})) (s : St
       let g = o.known.enough in
       omega (arith, length-drop m (keys_from f start))
 
-  module _ (l : at' < length f) (h : Head) (eh : h ≡ record_at f at') where
+  module _ (l : at' < length f) (h : Result Head Broken) (eh : h ≡ record_at f at') where
     -- the skeleton refuses
-    pub standing_refused : (n : ℕ) → h ≡ Refused n → refused 1 (m + 4) (fault n 0 0) ≡ x
+    pub standing_refused : (n : Broken) → h ≡ Err n → refused 1 (m + 4) (fault (number_of n) 0 0) ≡ x
     unfolding outcome_from unread ending and_then
     standing_refused n y =
-        let e = taken_over dataset_test 1 3 (m + 4) n s.seen in
-        let w = refusal_some f at' h eh n y in
-        let r : unread (ending {A = List Rec} 1 3 (m + 4) n []) ≡ x = rw (records_refused f at' l h eh n y, e) at s.outcome in
-        simp (ne_eqb n 0 (λ z. omega arith)) at r
+        let e = taken_over dataset_test 1 3 (m + 4) (number_of n) s.seen in
+        let w = number_some n in
+        let r : unread (ending {A = List Rec} 1 3 (m + 4) (number_of n) []) ≡ x = rw (records_refused f at' l h eh n y, e) at s.outcome in
+        simp (ne_eqb (number_of n) 0 (λ z. omega arith)) at r
 
-    module _ (len base a b : ℕ) (y : h ≡ Good len base a b) where
+    module _ (d : Head) (y : h ≡ Ok d) where
       -- its fields
       abbrev fields : List Field
-      fields = fields_at (between f at' (at' + len)) (record { base = base; a = a; b = b }) 24
+      fields = fields_at (between f at' (at' + d.len)) d.shape 24
 
       -- what becomes of the file by what becomes of the record
       abbrev after : Check Rec → Outcome (Unit {0})
       after c =
           unread (and_then (at 1 (m + 4) (bind c (λ r. ok (r ∷ [])))) (λ new.
-          and_then (taken dataset_test 1 3 (m + 4 + 1) (new ++ s.seen) (records_from f (at' + len))) (λ later. done (new ++ later))))
+          and_then (taken dataset_test 1 3 (m + 4 + 1) (new ++ s.seen) (records_from f (at' + d.len))) (λ later. done (new ++ later))))
 
       turn : after (bind (four_to_six (kind_in top) fields) (seventh (each key_in_rules s.seen) fields)) ≡ x
       unfolding outcome_from
       turn =
           let e : taken dataset_test 1 3 (m + 4) s.seen (records_from f at')
           ≡ and_then (at 1 (m + 4) (dataset_test (m + 4) s.seen fields)) (λ new.
-          and_then (taken dataset_test 1 3 (m + 4 + 1) (new ++ s.seen) (records_from f (at' + len))) (λ later. done (new ++ later)))
-          = ap (taken dataset_test 1 3 (m + 4) s.seen) (records_more f at' l h eh len base a b y)
-          ∙ taken_more dataset_test 1 3 (m + 4) s.seen fields (records_from f (at' + len)) in
+          and_then (taken dataset_test 1 3 (m + 4 + 1) (new ++ s.seen) (records_from f (at' + d.len))) (λ later. done (new ++ later)))
+          = ap (taken dataset_test 1 3 (m + 4) s.seen) (records_more f at' l h eh d y)
+          ∙ taken_more dataset_test 1 3 (m + 4) s.seen fields (records_from f (at' + d.len)) in
           let t = test_later (m + 4) s.seen fields (omega arith) in
           let p = record_parts (last_rank s.seen) (each key_in_rules s.seen) fields in
           let q : after (bind (four_to_six (last_rank s.seen) fields) (seventh (each key_in_rules s.seen) fields)) ≡ x = rw (e, t, p) at s.outcome in
@@ -130,20 +133,20 @@ module _ (f : List ℕ) (start at' m top : ℕ) (x : Outcome (Unit {0})) (s : St
       unfolding bind
       standing_before z e = sym (after_no z) ∙ rw e at turn
 
-      module _ (k : Kind) (ek : four_to_six (kind_in top) fields ≡ ok k) (key : ℕ) (e : key ≡ key_at f (at' + base)) where
+      module _ (k : Kind) (ek : four_to_six (kind_in top) fields ≡ ok k) (key : ℕ) (e : key ≡ key_at f (at' + d.shape.base)) where
         passed : Placed (kind_in top) k fields
         passed = placed (kind_in top) fields k ek
 
         key_is : key ≡ key_of fields
-        key_is = e ∙ first_key f at' len base a b (right f at' h eh len base a b y).walked passed.keyed.some
+        key_is = e ∙ first_key f at' d.len d.shape (right f at' h eh d y).walked passed.keyed.some
 
-        next_is : drop m (keys_from f start) ≡ key ∷ keys_from f (at' + len)
-        next_is = s.rest ∙ keys_good f at' l h eh len base a b y ∙ ap (λ (n : ℕ). n ∷ keys_from f (at' + len)) (sym key_is)
+        next_is : drop m (keys_from f start) ≡ key ∷ keys_from f (at' + d.len)
+        next_is = s.rest ∙ keys_good f at' l h eh d y ∙ ap (λ (n : ℕ). n ∷ keys_from f (at' + d.len)) (sym key_is)
 
         -- its key is the next one, of a kind that is not before the last
         pub standing_comes : Comes f start m key
         standing_comes =
-            let r = split_room (keys_from f start) m key (keys_from f (at' + len)) next_is in
+            let r = split_room (keys_from f start) m key (keys_from f (at' + d.len)) next_is in
             let p = sym (drop-cons (keys_from f start) m 0 r) ∙ next_is in
             record { there = r; next = cc; keyed = λ z. passed.keyed.some (sym key_is ∙ z) }
 
@@ -177,11 +180,11 @@ module _ (f : List ℕ) (start at' m top : ℕ) (x : Outcome (Unit {0})) (s : St
             unread_on r (done recs) = refl
             unread_on r (refused file i z) = refl
 
-            after_ok : (r : Rec) → after (ok r) ≡ unread (taken dataset_test 1 3 (m + 4 + 1) (r ∷ s.seen) (records_from f (at' + len)))
+            after_ok : (r : Rec) → after (ok r) ≡ unread (taken dataset_test 1 3 (m + 4 + 1) (r ∷ s.seen) (records_from f (at' + d.len)))
             unfolding bind at and_then
-            after_ok r = unread_on r (taken dataset_test 1 3 (m + 4 + 1) (r ∷ s.seen) (records_from f (at' + len)))
+            after_ok r = unread_on r (taken dataset_test 1 3 (m + 4 + 1) (r ∷ s.seen) (records_from f (at' + d.len)))
 
-            outcome_on : outcome_from f (at' + len) (m + 1) (rec_of k fields ∷ s.seen) ≡ x
+            outcome_on : outcome_from f (at' + d.len) (m + 1) (rec_of k fields ∷ s.seen) ≡ x
             unfolding outcome_from bind
             outcome_on =
                 let i : m + 1 + 4 ≡ m + 4 + 1 = omega arith in
@@ -192,13 +195,13 @@ module _ (f : List ℕ) (start at' m top : ℕ) (x : Outcome (Unit {0})) (s : St
             unfolding last_rank rec_of
             rank_on = let p = passed.keyed.kind in sym p ∙ ap kind_in (sym key_is) ∙ sym ((larger_least top key).2 standing_kind)
 
-            pub standing_more : Standing f start (at' + len) (m + 1) (larger_of top key) x
+            pub standing_more : Standing f start (at' + d.len) (m + 1) (larger_of top key) x
             standing_more =
                 let r = read_of (kind_in top) k fields passed in
-                let one = split_take (keys_from f start) m key (keys_from f (at' + len)) next_is in
+                let one = split_take (keys_from f start) m key (keys_from f (at' + d.len)) next_is in
                 record {
                   seen = rec_of k fields ∷ s.seen;
-                  rest = split_drop (keys_from f start) m key (keys_from f (at' + len)) next_is;
+                  rest = split_drop (keys_from f start) m key (keys_from f (at' + d.len)) next_is;
                   numbered = rw one (numbered_last (rec_of k fields) s.seen (take m (keys_from f start)) key s.numbered r.ranged (key_is ∙ r.number));
                   last = rank_on;
                   outcome = outcome_on;

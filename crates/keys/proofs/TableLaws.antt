@@ -8,6 +8,7 @@ use borrow.Author.Tests.{eqb-true, eqb-false}
 use lib.ListN.{length, get_or, take, drop, set, length-set, length-drop, replicate, length-replicate, get_or-replicate}
 use lib.Seq.{take_all, get_or-set_same, get_or-set_other, set_out}
 use lib.Dec.{eqb, ltb}
+use Rattle.std.specs.Prelude.{Option, Some, None}
 use Rattle.memory.specs.Hold.{zeros}
 use Rattle.memory.proofs.HoldLaws.{length_zeros}
 use Rattle.keys.specs.Listed.{keys_from}
@@ -18,10 +19,9 @@ use Rattle.keys.specs.Slots.{Slots, noted}
 use Rattle.keys.specs.Places.{here, over}
 use Rattle.keys.specs.Table.{Tail, Tails, Laid}
 use Rattle.keys.specs.declared.look.Look.{Look}
-use Rattle.keys.specs.declared.look.Look.TheVariants.{At, Nothing}
 use Rattle.keys.proofs.ListLaws.{split_take, split_drop}
 use Rattle.keys.proofs.LookLaws.{keys_past}
-use Rattle.keys.proofs.SoundLaws.{Next, sound_next, sound_nothing, sound_word, sound_falls, sound_bounds}
+use Rattle.keys.proofs.SoundLaws.{Next, sound_next, sound_over, sound_word, sound_falls, sound_bounds}
 use Rattle.keys.proofs.PlaceLaws.{leads_sound, leads_then}
 use Rattle.keys.proofs.SlotLaws.{slots_none, slots_more, noted_long}
 use Rattle.keys.proofs.OrderLaws.{ascended_still, sealed_long, slots_sealed, unsealed_none, unsealed_more, sealed_so}
@@ -91,29 +91,29 @@ passed_word f start i p map s = let a = passed_count f start i p map s in omega 
 pub passed_place : (f : List ℕ) (start i p : ℕ) (map : List ℕ) → Passed f start i p map → p < 2 ^ 32
 passed_place f start i p map s = let b = passed_sound f start i p map s in let c = b.inside in let d = b.small in omega arith
 
-module _ (f : List ℕ) (start i p : ℕ) (map : List ℕ) (s : Passed f start i p map) (e : Look) (en : e ≡ look_at f p) where
-  pub passed_more : (len key : ℕ) → e ≡ At len key → (map' : List ℕ) → map' ≡ noted map key → Passed f start (i + 1) (p + len) map'
-  passed_more len key x map' em =
-      let n = sound_next f p (passed_sound f start i p map s) e en len key x in
-      let k : drop i (keys_from f start) ≡ key ∷ keys_from f (p + len) = s.rest ∙ n.found.keys in
+module _ (f : List ℕ) (start i p : ℕ) (map : List ℕ) (s : Passed f start i p map) (e : Option Look) (en : e ≡ look_at f p) where
+  pub passed_more : (look : Look) → e ≡ Some look → (map' : List ℕ) → map' ≡ noted map look.key → Passed f start (i + 1) (p + look.len) map'
+  passed_more look x map' em =
+      let n = sound_next f p (passed_sound f start i p map s) e en look x in
+      let k : drop i (keys_from f start) ≡ look.key ∷ keys_from f (p + look.len) = s.rest ∙ n.found.keys in
       let c = s.counted in
       let l = n.found.long in
       record {
         tail = record { sound = s.tail.sound; leads = leads_then s.tail.leads (over (sym en ∙ x) here) };
         counted = omega arith;
-        rest = split_drop (keys_from f start) i key (keys_from f (p + len)) k;
-        slots = rw (split_take (keys_from f start) i key (keys_from f (p + len)) k) (slots_more (take i (keys_from f start)) map map' key s.slots em);
-        unsealed = rw em (unsealed_more map key s.unsealed);
+        rest = split_drop (keys_from f start) i look.key (keys_from f (p + look.len)) k;
+        slots = rw (split_take (keys_from f start) i look.key (keys_from f (p + look.len)) k) (slots_more (take i (keys_from f start)) map map' look.key s.slots em);
+        unsealed = rw em (unsealed_more map look.key s.unsealed);
       }
 
-  pub passed_fits : (len key : ℕ) → e ≡ At len key → p + len < 2 ^ 64
-  passed_fits len key x = sound_word f p (passed_sound f start i p map s) e en len key x
+  pub passed_fits : (look : Look) → e ≡ Some look → p + look.len < 2 ^ 64
+  passed_fits look x = sound_word f p (passed_sound f start i p map s) e en look x
 
-  pub passed_falls : (len key : ℕ) → e ≡ At len key → length f - (p + len) < length f - p
-  passed_falls len key x = sound_falls f p (passed_sound f start i p map s) e en len key x
+  pub passed_falls : (look : Look) → e ≡ Some look → length f - (p + look.len) < length f - p
+  passed_falls look x = sound_falls f p (passed_sound f start i p map s) e en look x
 
-  pub laid_nothing : p < length f → e ≡ Nothing → (t : List ℕ) (r : ℕ) → Laid f start t r map
-  laid_nothing l x t r = absurd (sound_nothing f p (passed_sound f start i p map s) e en l x)
+  pub passed_over : e ≡ None → length f ≤ p
+  passed_over x = sound_over f p (passed_sound f start i p map s) e en x
 
 -- the keys ascended up to last: then they all ascend where the others go on so
 pub record Climbing (f : List ℕ) (start p last : ℕ) (so : Bool) : Type 0 where
@@ -126,13 +126,13 @@ ascends_on : (last key : ℕ) (l : List ℕ) → ltb last key ≡ true → ascen
 unfolding ascends
 ascends_on last key l h = simp h
 
-pub climbing_more : (f : List ℕ) (start i p : ℕ) (map : List ℕ) → Passed f start i p map → (e : Look) → e ≡ look_at f p → (len key : ℕ) → e ≡ At len key
-    → (last : ℕ) (so so' : Bool) → Climbing f start p last so → so' ≡ ascended_to so last key → Climbing f start (p + len) key so'
-climbing_more f start i p map s e en len key x last so so' c z = record {
+pub climbing_more : (f : List ℕ) (start i p : ℕ) (map : List ℕ) → Passed f start i p map → (e : Option Look) → e ≡ look_at f p → (look : Look) → e ≡ Some look
+    → (last : ℕ) (so so' : Bool) → Climbing f start p last so → so' ≡ ascended_to so last look.key → Climbing f start (p + look.len) look.key so'
+climbing_more f start i p map s e en look x last so so' c z = record {
   rest = λ h.
-      let b = ascended_still last key so (sym z ∙ h) in
-      let k = (sound_next f p (passed_sound f start i p map s) e en len key x).found.keys in
-      sym (ap (ascends last) k ∙ ascends_on last key (keys_from f (p + len)) b.1) ∙ c.rest b.0;
+      let b = ascended_still last look.key so (sym z ∙ h) in
+      let k = (sound_next f p (passed_sound f start i p map s) e en look x).found.keys in
+      sym (ap (ascends last) k ∙ ascends_on last look.key (keys_from f (p + look.len)) b.1) ∙ c.rest b.0;
 }
 
 climbed : (f : List ℕ) (start p last : ℕ) (so : Bool) → Climbing f start p last so → length f ≤ p → so ≡ true → Ascending (keys_from f start)
@@ -167,7 +167,7 @@ pub ruleset spread_turn = (
   passed_falls,
   climbing_none,
   climbing_more,
-  laid_nothing,
+  passed_over,
   laid_done,
   tails_set,
   set_long,

@@ -2,6 +2,7 @@ pub mod Key
 pub mod Listed
 pub mod Look
 pub mod Bits
+pub mod Below
 pub mod Map
 pub mod Once
 pub mod Slots

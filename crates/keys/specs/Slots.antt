@@ -1,6 +1,7 @@
 -- A map of the keys that can be named: small RCIDs of information types, points and multi points.
-use Rattle.std.specs.Prelude.{ℕ, ◌+◌, List, Bool, eqb, ltb}
+use Rattle.std.specs.Prelude.{ℕ, ◌+◌, List, Bool, eqb, ltb, Option}
 use Rattle.base.specs.Choice.{pick}
+use Rattle.keys.specs.Below.{below}
 use Rattle.keys.specs.Bits.{raised}
 use Rattle.keys.specs.Map.{Mapped, kind_in, rcid_in}
 
@@ -18,6 +19,10 @@ slot_of k =
 -- it has one
 unfoldable pub has_slot : ℕ → Bool
 has_slot k = ltb (slot_of k) 262144
+
+-- the place of a key that has one
+unfoldable pub slot_in : ℕ → Option ℕ
+slot_in k = below 262144 (slot_of k)
 
 -- the flag of each key that has a place says whether it is among the keys
 unfoldable pub Slots : List ℕ → List ℕ → Type 0

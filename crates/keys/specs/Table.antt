@@ -1,5 +1,5 @@
 -- A table of places where records begin, and a map of keys: what is needed to find a key quickly.
-use Rattle.std.specs.Prelude.{ℕ, zero, suc, ◌+◌, ◌-◌, ◌/◌, ◌≤◌, ◌<◌, ◌≡◌, true, List, length, get_or, leb, ltb}
+use Rattle.std.specs.Prelude.{ℕ, zero, suc, ◌+◌, ◌-◌, ◌/◌, ◌≤◌, ◌<◌, ◌≡◌, true, List, length, get_or, leb, ltb, Option, Some, None}
 use Rattle.base.specs.Choice.{pick}
 use Rattle.keys.specs.Listed.{keys_from}
 use Rattle.keys.specs.Look.{look_at, Sound}
@@ -8,7 +8,6 @@ use Rattle.keys.specs.Slots.{Slots}
 use Rattle.keys.specs.Bits.{flag_of}
 use Rattle.keys.specs.Order.{Ascending}
 use Rattle.keys.specs.declared.look.Look.{Look}
-use Rattle.keys.specs.declared.look.Look.TheVariants.{At, Nothing}
 
 -- the records from start on are right, and one of them begins at p, or they end there
 pub record Tail (f : List ℕ) (start p : ℕ) : Type 0 where
@@ -48,9 +47,9 @@ abbrev pub middle : Half → ℕ
 middle h = h.lo + (h.hi - h.lo) / 2
 
 -- by what stands at q, which is the middle entry m: a record whose key is not above the key is the place so far
-abbrev pub half_by : ℕ → Half → ℕ → ℕ → Look → Half
-half_by key h m q (At len k) = pick (leb k key) (half (m + 1) h.hi q) (half h.lo m h.place)
-half_by key h m q Nothing = half h.hi h.hi h.place
+abbrev pub half_by : ℕ → Half → ℕ → ℕ → Option Look → Half
+half_by key h m q (Some l) = pick (leb l.key key) (half (m + 1) h.hi q) (half h.lo m h.place)
+half_by key h m q None = half h.hi h.hi h.place
 
 -- at most so many times
 unfoldable pub halved : ℕ → List ℕ → List ℕ → ℕ → Half → Half

@@ -10,21 +10,12 @@ fn bit(b: u8, i: usize) -> u8
     (b >> i) % 2
 }
 
-// The byte of which only bit i is set.
-fn weight(i: usize) -> u8
-    requires { i < 8 }
-    ensures { result ≡ 2 ^ i }
-{
-    let weights = [1u8, 2, 4, 8, 16, 32, 64, 128];
-    weights[i]
-}
-
 // A byte with bit i set, which was not.
 fn with_bit(b: u8, i: usize) -> u8
     requires { (i < 8) × (bit_of i b ≡ 0) }
     ensures { result ≡ b + 2 ^ i }
 {
-    b + weight(i)
+    b + (1 << i)
 }
 
 // Flag j.

@@ -7,28 +7,21 @@ ghost use Rattle.keys.specs.Look.{look_at, Known};
 use fields::le32;
 use rules::Kind;
 use skeleton::file::stated_at;
-use skeleton::leader::Head;
 
 // The rank of a kind by its RCNM; 0 for no kind.
 fn rank(rcnm: u8) -> u64
     ensures { (result ≡ rank_of rcnm) × (result ≤ 4) }
 {
-    if rcnm == 150 {
-        return 1;
+    match rcnm {
+        150 => 1,
+        110 => 2,
+        115 => 3,
+        100 => 4,
+        _ => 0,
     }
-    if rcnm == 110 {
-        return 2;
-    }
-    if rcnm == 115 {
-        return 3;
-    }
-    if rcnm == 100 {
-        return 4;
-    }
-    0
 }
 
-// The key whose five bytes stand at q: the kind's rank times 2^32, and RCID; 0 where the bytes end before them.
+// The key whose five bytes stand at q: the kind's rank times 2^32, and RCID; 0 where the bytes end before them, as the definition says.
 pub fn key_at(f: &[u8], q: usize) -> u64
     requires { q < 2 ^ 63 }
     ensures { (result ≡ key_at f.now q) × (KeyFits f.now q) }
@@ -42,45 +35,33 @@ pub fn key_at(f: &[u8], q: usize) -> u64
 
 // What a quick look at a record finds: its length and its key.
 #[derive(Clone, Copy)]
-pub enum Look {
-    At { len: usize, key: u64 },
-    Nothing,
+pub struct Look {
+    pub len: usize,
+    pub key: u64,
 }
 
 // The kind of a key.
 pub fn kind_of(key: u64) -> Kind
     ensures { result ≡ kind_ranked (key / 4294967296) }
 {
-    let r = key / 4294967296;
-    if r == 1 {
-        return Kind::Info;
+    match key / 4294967296 {
+        1 => Kind::Info,
+        2 => Kind::Point,
+        3 => Kind::Multi,
+        _ => Kind::Feature,
     }
-    if r == 2 {
-        return Kind::Point;
-    }
-    if r == 3 {
-        return Kind::Multi;
-    }
-    Kind::Feature
 }
 
-// A quick look at the record that begins at p.
-pub fn look_at(f: &[u8], p: usize) -> Look
+// A quick look at the record that begins at p; none where its leader says of no record.
+pub fn look_at(f: &[u8], p: usize) -> Option<Look>
     requires { (length f.now ≤ 16777216) × (p ≤ length f.now) }
     ensures { result ≡ look_at f.now p }
 {
-    match stated_at(f, p) {
-        Head::Good {
-            len,
-            base,
-            a: _,
-            b: _,
-        } => Look::At {
-            len,
-            key: key_at(f, p + base),
-        },
-        Head::Refused(_) => Look::Nothing,
-    }
+    let head = stated_at(f, p).ok()?;
+    Some(Look {
+        len: head.len,
+        key: key_at(f, p + head.shape.base),
+    })
 }
 
 // Whether the key is among those of the first m records from start on.
@@ -89,20 +70,14 @@ pub fn seen(f: &[u8], start: usize, m: usize, key: u64) -> bool
     ensures { result ≡ seen_from f.now start m key }
 {
     let mut p = start;
-    let mut left = m;
-    while 0 < left {
-        match look_at(f, p) {
-            Look::At { len, key: k } => {
-                if k == key {
-                    return true;
-                }
-                p += len;
-                left -= 1;
-            }
-            Look::Nothing => {
-                return false;
-            }
+    for _ in 0..m {
+        let Some(look) = look_at(f, p) else {
+            return false;
+        };
+        if look.key == key {
+            return true;
         }
+        p += look.len;
     }
     false
 }

@@ -3,7 +3,7 @@ ghost use Rattle.std.specs.Prelude.{◌≡◌, ◌≤◌, ◌<◌, set};
 ghost use Rattle.keys.specs.Look.{Sound};
 ghost use Rattle.keys.specs.Table.{Tails, Laid};
 
-use crate::look::{Look, look_at};
+use crate::look::look_at;
 use crate::order::{ascended_to, seal};
 use crate::slots::note;
 use memory::clearing::zero;
@@ -22,11 +22,7 @@ fn used(i: usize, stride: usize, room: usize) -> usize
     requires { (0 < stride) × (i ≤ 16777216) }
     ensures { result ≤ room }
 {
-    let n = i / stride;
-    if n < room {
-        return n;
-    }
-    room
+    (i / stride).min(room)
 }
 
 // Fills the table with the place of one record in each stride, and the map with all keys and with whether they ascend; says how many entries are to be tried.
@@ -39,20 +35,13 @@ pub fn spread(f: &[u8], start: usize, stride: usize, t: &mut [u32], map: &mut [u
     let mut i = 0;
     let mut last = 0;
     let mut ascended = true;
-    while p < f.len() {
-        match look_at(f, p) {
-            Look::At { len, key } => {
-                put(t, i / stride, p as u32);
-                note(map, key);
-                ascended = ascended_to(ascended, last, key);
-                last = key;
-                i += 1;
-                p += len;
-            }
-            Look::Nothing => {
-                return 0;
-            }
-        }
+    while let Some(look) = look_at(f, p) {
+        put(t, i / stride, p as u32);
+        note(map, look.key);
+        ascended = ascended_to(ascended, last, look.key);
+        last = look.key;
+        i += 1;
+        p += look.len;
     }
     seal(map, ascended);
     used(i, stride, t.len())

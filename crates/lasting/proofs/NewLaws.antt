@@ -8,7 +8,9 @@ use native.Mathlib.Omega.{arith}
 use borrow.Author.Tests.{eq-eqb, ne_eqb, not-true}
 use lib.Dec.{eqb}
 use lib.ListN.{length}
+use Rattle.std.specs.Prelude.{Option as StdOption, None, Result}
 use Rattle.base.specs.Check.{Check, ok}
+use Rattle.base.specs.declared.Fault.{Fault}
 use Rattle.base.specs.Walk.{Got}
 use Rattle.base.specs.Lists.{Each}
 use Rattle.skeleton.specs.File.{Field, records_from}
@@ -34,16 +36,14 @@ use Rattle.incoming.specs.Fitting.{Single, Rest}
 use Rattle.incoming.proofs.FittingLaws.{rest_here, rest_more}
 use Rattle.keys.specs.Listed.{key_of}
 use Rattle.keys.specs.Key.{key_at}
-use Rattle.keys.specs.Look.{look_at}
-use Rattle.keys.specs.declared.look.Look.TheVariants.{At}
+use Rattle.keys.specs.Look.{look_at, looked}
 use Rattle.keys.specs.Numbered.{number_of, Ranged}
 use Rattle.keys.proofs.FirstLaws.{first_key}
 use Rattle.keys.specs.Places.{Leads, here as there, over}
 use Rattle.keys.proofs.PlaceLaws.{leads_then}
 use Rattle.version.specs.Areas.{flag_area}
 use Rattle.version.specs.Present.{HeldAs, ChangedTo, FlagsKept}
-use Rattle.version.specs.declared.Present.TheVariants.{Absent}
-use Rattle.version.specs.declared.Changed.{Changed}
+use Rattle.version.specs.declared.Version.{Version}
 use Rattle.composing.specs.Acts.{ruin_with, deleted_from}
 use Rattle.composing.proofs.KnownLaws.{known_right, deleted_known}
 use Rattle.composing.proofs.ResultLaws.{joined_some, history_sound}
@@ -63,7 +63,7 @@ use Rattle.lasting.proofs.NamingLaws.{place_is, insert_one}
 use Rattle.lasting.proofs.StepLaws.{stepped_as}
 
 -- nothing stands in front of an insert
-pub absent_playing : (d u w : List ℕ) (key : ℕ) → Playing d u w Absent key
+pub absent_playing : (d u w : List ℕ) (key : ℕ) → Playing d u w None key
 unfolding HeldAs
 absent_playing d u w key = record { what = none; held = refl; under = λ k r e. tt }
 
@@ -76,17 +76,17 @@ module _ (d : List ℕ) (ds : ℕ) (t : List ℕ) (n : ℕ) (map u : List ℕ) (
   abbrev later : List (List Field)
   later = (records_from u (p + len)).items
 
-  whole : Right u p len h.base h.a h.b
-  whole = right u p (record_at u p) refl len h.base h.a h.b o.there
+  whole : Right u p (record { len = len; shape = h })
+  whole = right u p (record_at u p) refl (record { len = len; shape = h }) o.there
 
   single : Single fields
-  single = rest_here u p o.rest o.inside (record_at u p) refl len h.base h.a h.b o.there
+  single = rest_here u p o.rest o.inside (record_at u p) refl (record { len = len; shape = h }) o.there
 
   behind : Rest u (p + len)
-  behind = rest_more u p o.rest o.inside (record_at u p) refl len h.base h.a h.b o.there
+  behind = rest_more u p o.rest o.inside (record_at u p) refl (record { len = len; shape = h }) o.there
 
   here : (records_from u p).items ≡ fields ∷ later
-  here = ap (λ (g : Got (List Field)). g.items) (records_more u p o.inside (record_at u p) refl len h.base h.a h.b o.there)
+  here = ap (λ (g : Got (List Field)). g.items) (records_more u p o.inside (record_at u p) refl (record { len = len; shape = h }) o.there)
 
   split : (records_from u us).items ≡ o.before ++ (fields ∷ later)
   split = sym o.split ∙ ap (λ (l : List (List Field)). o.before ++ l) here
@@ -97,7 +97,7 @@ module _ (d : List ℕ) (ds : ℕ) (t : List ℕ) (n : ℕ) (map u : List ℕ) (
   ranged = (single_named fields single).ranged
 
   key_is : key_of fields ≡ key
-  key_is = sym (first_key u p len h.base h.a h.b whole.walked (known_sent single.kind fields single.right).keyed.some) ∙ o.number
+  key_is = sym (first_key u p len h whole.walked (known_sent single.kind fields single.right).keyed.some) ∙ o.number
 
   number : number_of (named_in fields) ≡ key
   number = sym (single_named fields single).number ∙ key_is
@@ -131,7 +131,7 @@ module _ (d : List ℕ) (ds : ℕ) (t : List ℕ) (n : ℕ) (map u : List ℕ) (
   unfolding look_at
   new_behind =
       let e : stated_at u p ≡ record_at u p = again u p (records_some u p o.inside o.rest.ended) (stated_at u p) refl in
-      let y : look_at u p ≡ At len (key_at u (p + h.base)) = rw (e ∙ o.there) in
+      let y : look_at u p ≡ looked len (key_at u (p + h.base)) = rw (e ∙ o.there) in
       leads_then o.leads (over y there)
 
   -- it inserts, and none of the later ones deletes
@@ -164,7 +164,7 @@ module _ (d : List ℕ) (ds : ℕ) (t : List ℕ) (n : ℕ) (map u : List ℕ) (
 
   -- ---- `joined`: w₂ and c are what it and the later ones made of nothing
 
-  module _ (w₂ : List ℕ) (c : Changed) (y : Played d u p (length u) w Absent key w₂ c)
+  module _ (w₂ : List ℕ) (c : Result (StdOption Version) Fault) (y : Played d u p (length u) w None key w₂ c)
       (inserts : eqb (ruin_with key fields) 1 ≡ true) (kept : deleted_from u (p + len) key ≡ false) where
     ends : (s : Rec) × (history chart (named_in fields) (fields ∷ later) none ≡ ok (some s))
     ends =
@@ -195,6 +195,6 @@ module _ (d : List ℕ) (ds : ℕ) (t : List ℕ) (n : ℕ) (map u : List ℕ) (
         s (subst (λ (f : List ℕ). Stepped d ds u us f sure (ends.0 ∷ []) to before out s) (flags_kept w w₂ y.kept) (l ends.0 (sound b) came))
 
 pub new_step : (d : List ℕ) (ds : ℕ) (t : List ℕ) (n : ℕ) (map u : List ℕ) (us : ℕ) (w : List ℕ) → Whole d ds t n map u us w → (sure : Bool) (to : ℕ) (before out : List ℕ) (s : Step) (p key : ℕ)
-    → (w₂ : List ℕ) (c : Changed) → Played d u p (length u) w Absent key w₂ c → Bytes u → LastStep d ds u us w₂ sure to before out c s → NewStep d ds u us w sure to before out p key w₂ s
+    → (w₂ : List ℕ) (c : Result (StdOption Version) Fault) → Played d u p (length u) w None key w₂ c → Bytes u → LastStep d ds u us w₂ sure to before out c s → NewStep d ds u us w sure to before out p key w₂ s
 new_step d ds t n map u us w x sure to before out s p key w₂ c y b z =
     record { made = λ l. new_last d ds t n map u us w x p l.len l.shape key l.there w₂ c y l.inserts l.kept sure b to before out s z; flags = y.kept }

@@ -7,7 +7,9 @@ use mathlib.Core.List.{List, [], ◌∷◌, ◌++◌}
 use native.Mathlib.Omega.{arith}
 use borrow.Author.Tests.{eq-eqb, ne_eqb, not-true}
 use lib.ListN.{length, drop, length-take, length-drop}
+use Rattle.std.specs.Prelude.{Option as StdOption, Result}
 use Rattle.base.specs.Check.{Check, ok, pass}
+use Rattle.base.specs.declared.Fault.{Fault}
 use Rattle.base.specs.Walk.{Got}
 use Rattle.base.specs.Lists.{gather, Each}
 use Rattle.skeleton.specs.File.{Field, records_from}
@@ -48,12 +50,10 @@ use Rattle.writing.proofs.BytesLaws.{bytes_fields}
 use Rattle.writing.proofs.WrittenLaws.{written_passed}
 use Rattle.version.specs.Areas.{flag_area}
 use Rattle.version.specs.Present.{HeldAs, ChangedTo, FlagsKept}
-use Rattle.version.specs.declared.Present.{Present}
-use Rattle.version.specs.declared.Changed.{Changed}
+use Rattle.version.specs.declared.Version.{Version}
 use Rattle.composing.specs.Acts.{deleted_from}
 use Rattle.composing.specs.Made.{Carries, CarriesTied}
 use Rattle.composing.specs.Tied.{TiedIn}
-use Rattle.composing.specs.declared.making.Made.{Made}
 use Rattle.composing.proofs.KnownLaws.{deleted_known}
 use Rattle.composing.proofs.ResultLaws.{kept_some, history_sound}
 use Rattle.history.specs.Here.{record_here}
@@ -85,11 +85,11 @@ module _ (d : List ℕ) (ds : ℕ) (t : List ℕ) (n : ℕ) (map u : List ℕ) (
   abbrev items : List (List Field)
   items = (records_from u us).items
 
-  whole : Right d p len h.base h.a h.b
-  whole = right d p (record_at d p) refl len h.base h.a h.b o.there
+  whole : Right d p (record { len = len; shape = h })
+  whole = right d p (record_at d p) refl (record { len = len; shape = h }) o.there
 
   stored : (k : Kind) × Stored k fields
-  stored = stock_here d p o.stock o.inside (record_at d p) refl len h.base h.a h.b o.there
+  stored = stock_here d p o.stock o.inside (record_at d p) refl (record { len = len; shape = h }) o.there
 
   known : Known stored.0 fields
   known = known_stored stored.0 fields stored.1
@@ -104,7 +104,7 @@ module _ (d : List ℕ) (ds : ℕ) (t : List ℕ) (n : ℕ) (map u : List ℕ) (
   ranged = (said stored.0 fields stored.1).ranged
 
   number : number_of (key_in_rules rec) ≡ key
-  number = sym (said stored.0 fields stored.1).number ∙ sym (first_key d p len h.base h.a h.b whole.walked known.keyed.some) ∙ o.number
+  number = sym (said stored.0 fields stored.1).number ∙ sym (first_key d p len h whole.walked known.keyed.some) ∙ o.number
 
   placed : place_of (key_in_rules rec) ≡ key / 4294967296
   placed = place_is (key_in_rules rec) ranged ∙ ap (λ (m : ℕ). m / 4294967296) number
@@ -113,7 +113,7 @@ module _ (d : List ℕ) (ds : ℕ) (t : List ℕ) (n : ℕ) (map u : List ℕ) (
 
   split : o.before ++ (rec ∷ stock_from d (p + len)) ≡ stock_from d ds
   split =
-      ap (λ (l : List Rec). o.before ++ l) (sym (stock_next d p o.stock o.inside (record_at d p) refl len h.base h.a h.b o.there))
+      ap (λ (l : List Rec). o.before ++ l) (sym (stock_next d p o.stock o.inside (record_at d p) refl (record { len = len; shape = h }) o.there))
       ∙ o.split
 
   found : find chart (key_in_rules rec) (stock_from d ds) ≡ some rec
@@ -186,7 +186,7 @@ module _ (d : List ℕ) (ds : ℕ) (t : List ℕ) (n : ℕ) (map u : List ℕ) (
   old_tied : TiedIn d ds (gather field_keys fields)
   old_tied =
       tied_first d ds p fields (records_from d (p + len)).items
-      (ap (λ (g : Got (List Field)). g.items) (records_more d p o.inside (record_at d p) refl len h.base h.a h.b o.there))
+      (ap (λ (g : Got (List Field)). g.items) (records_more d p o.inside (record_at d p) refl (record { len = len; shape = h }) o.there))
       (tied_on d ds o.leads x.laid.sound x.tied)
 
   module _ (bytes : Bytes d) where
@@ -201,7 +201,7 @@ module _ (d : List ℕ) (ds : ℕ) (t : List ℕ) (n : ℕ) (map u : List ℕ) (
     pub old_short : written_length (in_house_form true fields) ≤ 99999
     old_short = subst (λ (fs : List Field). written_length fs ≤ 99999) (ap written_fields as_kind ∙ house) (short_record (written_fields rec) writes)
 
-    pub old_carried : (sure : Bool) (f : List ℕ) (to : ℕ) (before out : List ℕ) (m : Made) → Carries d ds u us f sure fields to before out m → (s : Step) → s ≡ step_by m
+    pub old_carried : (sure : Bool) (f : List ℕ) (to : ℕ) (before out : List ℕ) (m : StdOption ℕ) → Carries d ds u us f sure fields to before out m → (s : Step) → s ≡ step_by m
         → Stepped d ds u us f sure (rec ∷ []) to before out s
     unfolding Carries
     old_carried sure f to before out m c s es =
@@ -213,7 +213,7 @@ module _ (d : List ℕ) (ds : ℕ) (t : List ℕ) (n : ℕ) (map u : List ℕ) (
   -- ---- `played`
 
   here : record_here d p ≡ fields
-  here = here_is d p o.inside (record_at d p) refl len h.base h.a h.b o.there
+  here = here_is d p o.inside (record_at d p) refl (record { len = len; shape = h }) o.there
 
   writable_here : Writable (rec_in (record_here d p))
   writable_here = subst (λ (fs : List Field). Writable (rec_in fs)) (sym here) (has Writable x.ready.writable)
@@ -230,7 +230,7 @@ module _ (d : List ℕ) (ds : ℕ) (t : List ℕ) (n : ℕ) (map u : List ℕ) (
   }
 
   -- w₂ and c are what the update records made of it
-  module _ (w₂ : List ℕ) (c : Changed) (y : Replayed d u us p key w w₂ c) (kept : deleted_from u us key ≡ false) where
+  module _ (w₂ : List ℕ) (c : Result (StdOption Version) Fault) (y : Replayed d u us p key w w₂ c) (kept : deleted_from u us key ≡ false) where
     loaded : HeldAs d u y.middle y.first (some rec)
     loaded = subst (λ (fs : List Field). HeldAs d u y.middle y.first (some (rec_in fs))) here (y.loaded u writable_here)
 
@@ -260,23 +260,23 @@ module _ (d : List ℕ) (ds : ℕ) (t : List ℕ) (n : ℕ) (map u : List ℕ) (
 
 -- ---- `replay`
 
-module _ (d u : List ℕ) (us p key : ℕ) (r : Replayable d u us p key) (v : List ℕ) (pr : Present)
+module _ (d u : List ℕ) (us p key : ℕ) (r : Replayable d u us p key) (v : List ℕ) (pr : StdOption Version)
     (g : (c : List ℕ) → Writable (rec_in (record_here d p)) → HeldAs d c v pr (some (rec_in (record_here d p)))) where
   pub replay_playing : Playing d u v pr key
   replay_playing = record { what = some (rec_in (record_here d p)); held = g u r.writable; under = r.under }
 
-  pub replayed : (w : List ℕ) → FlagsKept w v → (w₂ : List ℕ) (c : Changed) → Played d u us (length u) v pr key w₂ c → Replayed d u us p key w w₂ c
+  pub replayed : (w : List ℕ) → FlagsKept w v → (w₂ : List ℕ) (c : Result (StdOption Version) Fault) → Played d u us (length u) v pr key w₂ c → Replayed d u us p key w w₂ c
   replayed w k w₂ c y = record { middle = v; first = pr; loaded = g; played = y; kept = y.kept ∙ k }
 
 module _ (d : List ℕ) (ds : ℕ) (t : List ℕ) (n : ℕ) (map u : List ℕ) (us : ℕ) (w : List ℕ) (x : Whole d ds t n map u us w) (sure : Bool) (to : ℕ) (before out : List ℕ) (s : Step) (p : ℕ) where
   -- f is the workspace's flags
-  pub same_step : Bytes d → (f : List ℕ) → f ≡ flag_area w → (len : ℕ) (h : Shape) (m : Made) → CarriesTied u us f sure (fields_at (between d p (p + len)) h 24) to before out m
+  pub same_step : Bytes d → (f : List ℕ) → f ≡ flag_area w → (len : ℕ) (h : Shape) (m : StdOption ℕ) → CarriesTied u us f sure (fields_at (between d p (p + len)) h 24) to before out m
       → s ≡ step_by m → SameStep d ds u us w sure to before out p len h s
   unfolding SameStep CarriesTied
   same_step bytes f e len h m c es key o =
       step_flags d ds u us f w e sure to before out (rec_in (fields_at (between d p (p + len)) h 24) ∷ []) s
       (old_carried d ds t n map u us w x p len h key o bytes sure f to before out m (c d ds (old_tied d ds t n map u us w x p len h key o)) s es)
 
-  pub old_step : (key : ℕ) (w₂ : List ℕ) (c : Changed) → Replayed d u us p key w w₂ c → deleted_from u us key ≡ false → Bytes u
+  pub old_step : (key : ℕ) (w₂ : List ℕ) (c : Result (StdOption Version) Fault) → Replayed d u us p key w w₂ c → deleted_from u us key ≡ false → Bytes u
       → LastStep d ds u us w₂ sure to before out c s → OldStep d ds u us w sure to before out p key w₂ s
   old_step key w₂ c y kept b l = record { made = λ len h o. old_last d ds t n map u us w x p len h key o w₂ c y kept sure b to before out s l; flags = y.kept }

@@ -1,7 +1,8 @@
 -- What code made of a key's history, as a step of the result.
-use Rattle.std.specs.Prelude.{ℕ, ◌+◌, ◌/◌, ◌≤◌, ◌<◌, ◌≡◌, Bool, true, false, List, [], ◌∷◌, eqb, length}
+use Rattle.std.specs.Prelude.{ℕ, ◌+◌, ◌/◌, ◌≤◌, ◌<◌, ◌≡◌, Bool, true, false, List, [], ◌∷◌, eqb, length, Option, Some, None, Result}
 use Rattle.std.proofs.Math.Option.{some}
 use Rattle.base.specs.Check.{ok, pass}
+use Rattle.base.specs.declared.Fault.{Fault}
 use Rattle.skeleton.specs.File.{records_from}
 use Rattle.skeleton.specs.Place.{between, fields_at}
 use Rattle.skeleton.specs.declared.directory.Shape.{Shape}
@@ -18,11 +19,7 @@ use Rattle.version.specs.Areas.{flag_area}
 use Rattle.version.specs.Held.{Held}
 use Rattle.version.specs.Present.{HeldAs, ChangedTo, FlagsKept}
 use Rattle.version.specs.declared.Version.{Version}
-use Rattle.version.specs.declared.Present.{Present}
-use Rattle.version.specs.declared.Changed.{Changed}
 use Rattle.composing.specs.Acts.{ruin_with, deleted_from}
-use Rattle.composing.specs.declared.making.Made.{Made}
-use Rattle.composing.specs.declared.making.Made.TheVariants.{Loose as MadeLoose, Next}
 use Rattle.history.specs.Here.{record_here}
 use Rattle.history.specs.Ready.{Short}
 use Rattle.history.specs.Played.{Played}
@@ -32,9 +29,9 @@ use Rattle.lasting.specs.declared.Step.{Step}
 use Rattle.lasting.specs.declared.Step.TheVariants.{Loose, One}
 
 -- the step that a record which was made is
-unfoldable pub step_by : Made → Step
-step_by MadeLoose = Loose
-step_by (Next n) = One n
+unfoldable pub step_by : Option ℕ → Step
+step_by None = Loose
+step_by (Some n) = One n
 
 -- the old record at p, which can be written, stands under the key with this number
 pub record Replayable (d u : List ℕ) (us p key : ℕ) : Type 0 where
@@ -47,9 +44,9 @@ pub record Replayable (d u : List ℕ) (us p key : ℕ) : Type 0 where
   pub under : (k : List ℕ) → Ranged k → number_of k ≡ key → key_of (rec_in (record_here d p)) ≡ k
 
 -- it was loaded, and the update records from us on that name the key made c of it; the workspace was w and is w₂
-pub record Replayed (d u : List ℕ) (us p key : ℕ) (w w₂ : List ℕ) (c : Changed) : Type 0 where
+pub record Replayed (d u : List ℕ) (us p key : ℕ) (w w₂ : List ℕ) (c : Result (Option Version) Fault) : Type 0 where
   pub middle : List ℕ
-  pub first : Present
+  pub first : Option Version
   pub loaded : (u : List ℕ) → Writable (rec_in (record_here d p)) → HeldAs d u middle first (some (rec_in (record_here d p)))
   pub played : Played d u us (length u) middle first key w₂ c
   pub kept : FlagsKept w w₂
@@ -63,7 +60,7 @@ pub record Lasting (u : List ℕ) (us p key : ℕ) : Type 0 where
   pub kept : deleted_from u (p + len) key ≡ false
 
 -- a history ends with a sound record, and code found it
-pub record Stays (d u w : List ℕ) (c : Changed) : Type 0 where
+pub record Stays (d u w : List ℕ) (c : Result (Option Version) Fault) : Type 0 where
   pub rec : Rec
   pub sound : SoundRec rec
   pub came : ChangedTo d u w (ok (some rec)) c
@@ -75,7 +72,7 @@ module _ (d : List ℕ) (ds : ℕ) (u : List ℕ) (us : ℕ) (w : List ℕ) (sur
   HeldStep v s = (r : Rec) → Held d u w v r → SoundRec r → number12 (written_fields r) ≡ pass → Stepped d ds u us (flag_area w) sure (r ∷ []) to before out s
 
   -- what code made of a history, which ends with a record, is this step
-  unfoldable pub LastStep : Changed → Step → Type 0
+  unfoldable pub LastStep : Result (Option Version) Fault → Step → Type 0
   LastStep c s = (r : Rec) → SoundRec r → ChangedTo d u w (ok (some r)) c → Stepped d ds u us (flag_area w) sure (r ∷ []) to before out s
 
   -- the old record at p, as it stands

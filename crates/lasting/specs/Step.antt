@@ -1,8 +1,7 @@
 -- What is made of one record, an old one or an inserted one, on the way to the result.
-use Rattle.std.specs.Prelude.{ℕ, ◌+◌, ◌≤◌, ◌≡◌, Bool, List, [], ◌∷◌}
+use Rattle.std.specs.Prelude.{ℕ, ◌+◌, ◌≤◌, ◌≡◌, Bool, List, [], ◌∷◌, Some}
 use Rattle.rules.specs.Record.{Rec}
 use Rattle.composing.specs.Made.{Untied, MadeOf}
-use Rattle.composing.specs.declared.making.Made.TheVariants.{Next}
 use Rattle.lasting.specs.declared.Step.{Step}
 use Rattle.lasting.specs.declared.Step.TheVariants.{Nothing, Loose, One}
 
@@ -18,4 +17,4 @@ module _ (d : List ℕ) (ds : ℕ) (u : List ℕ) (us : ℕ) (flags : List ℕ) 
   unfoldable pub Stepped : List Rec → ℕ → List ℕ → List ℕ → Step → Type 0
   Stepped rs to before out Nothing = (rs ≡ []) × (out ≡ before)
   Stepped rs to before out Loose = (r : Rec) × (rs ≡ r ∷ []) × Untied d ds u us flags sure (number_of Loose) r
-  Stepped rs to before out (One n) = (r : Rec) × (rs ≡ r ∷ []) × MadeOf d ds u us flags sure r to before out (Next n) × (n ≤ to + 99999)
+  Stepped rs to before out (One n) = (r : Rec) × (rs ≡ r ∷ []) × MadeOf d ds u us flags sure r to before out (Some n) × (n ≤ to + 99999)

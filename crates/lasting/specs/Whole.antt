@@ -2,9 +2,9 @@
 use Rattle.std.specs.Prelude.{ℕ, ◌+◌, ◌≤◌, ◌<◌, ◌≡◌, List, ◌++◌, length}
 use Rattle.base.specs.Lists.{Each}
 use Rattle.skeleton.specs.File.{Field, records_from}
+use Rattle.skeleton.specs.Leader.{good}
 use Rattle.skeleton.specs.Record.{record_at}
 use Rattle.skeleton.specs.declared.directory.Shape.{Shape}
-use Rattle.skeleton.specs.declared.leader.Head.TheVariants.{Good}
 use Rattle.rules.specs.Record.{Rec}
 use Rattle.rules.specs.Outcome.{done}
 use Rattle.updates.specs.Streamed.{verdicts}
@@ -34,7 +34,7 @@ pub record Whole (d : List ℕ) (ds : ℕ) (t : List ℕ) (n : ℕ) (map u : Lis
 pub record Old (d : List ℕ) (ds p len : ℕ) (h : Shape) (key : ℕ) : Type 0 where
   pub stock : Stock d p
   pub inside : p < length d
-  pub there : record_at d p ≡ Good len h.base h.a h.b
+  pub there : record_at d p ≡ good len h
   pub number : key_at d (p + h.base) ≡ key
   pub before : List Rec
   pub split : before ++ stock_from d p ≡ stock_from d ds
@@ -44,7 +44,7 @@ pub record Old (d : List ℕ) (ds p len : ℕ) (h : Shape) (key : ℕ) : Type 0 
 pub record New (u : List ℕ) (us p len : ℕ) (h : Shape) (key : ℕ) : Type 0 where
   pub rest : Rest u p
   pub inside : p < length u
-  pub there : record_at u p ≡ Good len h.base h.a h.b
+  pub there : record_at u p ≡ good len h
   pub number : key_at u (p + h.base) ≡ key
   pub before : List (List Field)
   pub split : before ++ (records_from u p).items ≡ (records_from u us).items

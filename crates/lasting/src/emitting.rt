@@ -4,7 +4,6 @@ ghost use Rattle.composing.specs.Settled.{Asks};
 ghost use Rattle.composing.specs.Kept.{Kept, Lasts, EmitsHeld, MadeHeld};
 
 use composing::held::version_passes;
-use composing::making::Made;
 use emission::measuring::version_length;
 use emission::writer::write_version;
 use sorting::limits::Limits;
@@ -30,7 +29,7 @@ fn emit_version(d: &[u8], u: &[u8], work: &[u8], v: Version, out: &mut [u8], to:
     write_version(d, u, work, v, out, to)
 }
 
-// The same, with what it names.
+// The same, with what it names; none where it names a record that does not stand (11).
 pub fn make_held(
     d: &[u8],
     ds: usize,
@@ -45,13 +44,13 @@ pub fn make_held(
     out: &mut [u8],
     to: usize,
     lim: Limits,
-) -> Made
+) -> Option<usize>
     requires asks { Asks d.now ds t.now n map.now u.now us flags.now lim out.old × (400000 ≤ length work.now) × (7 * v.inas ≤ 92000) × (7 * v.spas ≤ 94000) }
-    requires d_len_bound { (length d.now ≤ 16777216) × (length u.now ≤ 16777216) × (to ≤ 4611686018427387904) × Kept d.now u.now work.now v }
+    requires kept { (length d.now ≤ 16777216) × (length u.now ≤ 16777216) × (to ≤ 4611686018427387904) × Kept d.now u.now work.now v }
     ensures { MadeHeld d.now ds u.now us flags.now lim.sure work.now v to out.old out.new result }
 {
     if !version_passes(d, ds, t, n, map, u, us, flags, out, lim, work, v) {
-        return Made::Loose;
+        return None;
     }
-    Made::Next(emit_version(d, u, work, v, out, to))
+    Some(emit_version(d, u, work, v, out, to))
 }

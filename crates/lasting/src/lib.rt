@@ -8,6 +8,7 @@ pub mod old;
 pub mod stepping;
 
 // Nothing stays of it; or it names a record that does not stand (11); or it is written, and the next one begins there.
+// An enum of its own: a `Result` of an `Option` would nest these three outcomes.
 #[derive(Clone, Copy)]
 pub enum Step {
     Nothing,

@@ -20,7 +20,6 @@ use crate::stepping::last_step;
 use composing::acts::ruin;
 use skeleton::directory::Shape;
 use sorting::limits::Limits;
-use version::Present;
 
 // Whether the update record r, which names the key, inserts.
 fn inserts(r: &[u8], h: Shape, key: u64) -> bool
@@ -49,7 +48,7 @@ fn joined(
     requires { Whole d.now ds t.now n map.now u.now us work.old × Lasting u.now us p key × (to ≤ 4611686018427387904) × Indices d.now ds u.now us lim out.old }
     ensures { NewStep d.now ds u.now us work.old lim.sure to out.old out.new p key work.new result }
 {
-    let last = play_named(d, u, us, out, lim, p, key, Present::Absent, work);
+    let last = play_named(d, u, us, out, lim, p, key, None, work);
     last_step(d, ds, t, n, map, u, us, work, last, out, to, lim)
 }
 

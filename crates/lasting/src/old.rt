@@ -18,12 +18,13 @@ ghost use Rattle.lasting.specs.Stays.{Replayable, Replayed, SameStep, OldStep};
 use crate::Step;
 use crate::named::{deleted, play_named};
 use crate::stepping::{last_step, step_of};
+use base::Fault;
 use composing::making::make_untouched;
 use history::finding::load_at;
 use history::flags::{flagged, flags_of};
 use skeleton::directory::Shape;
 use sorting::limits::Limits;
-use version::Changed;
+use version::Version;
 
 // The record at p as it stands.
 fn untouched(
@@ -46,7 +47,7 @@ fn untouched(
     step_of(make_untouched(u, us, flags, &d[p..p + len], h, out, to, lim))
 }
 
-// What the update records that name the key make of the record at p.
+// What the update records that name the key make of the record at p, or the first refusal.
 fn replay(
     d: &[u8],
     u: &[u8],
@@ -56,7 +57,7 @@ fn replay(
     work: &mut [u8],
     out: &[u8],
     lim: Limits,
-) -> Changed
+) -> Result<Option<Version>, Fault>
     requires { Replayable d.now u.now us p key × (400000 ≤ length work.old) × Noted u.now us lim out.now }
     ensures { Replayed d.now u.now us p key work.old work.new result }
 {

@@ -7,18 +7,18 @@ ghost use Rattle.lasting.specs.Stays.{step_by, Stays, HeldStep, LastStep};
 
 use crate::Step;
 use crate::emitting::make_held;
-use composing::making::Made;
+use base::Fault;
 use history::flags::flags_of;
 use sorting::limits::Limits;
-use version::{Changed, Present, Version};
+use version::Version;
 
 // The step that a record which was made is.
-pub fn step_of(m: Made) -> Step
-    ensures { result ≡ step_by m }
+pub fn step_of(made: Option<usize>) -> Step
+    ensures { result ≡ step_by made }
 {
-    match m {
-        Made::Loose => Step::Loose,
-        Made::Next(n) => Step::One(n),
+    match made {
+        Some(n) => Step::One(n),
+        None => Step::Loose,
     }
 }
 
@@ -54,7 +54,7 @@ pub fn last_step(
     u: &[u8],
     us: usize,
     work: &[u8],
-    last: Changed,
+    last: Result<Option<Version>, Fault>,
     out: &mut [u8],
     to: usize,
     lim: Limits,
@@ -63,10 +63,10 @@ pub fn last_step(
     ensures { LastStep d.now ds u.now us work.now lim.sure to out.old out.new last result }
 {
     match last {
-        Changed::Now(p) => match p {
-            Present::Here(v) => held_step(d, ds, t, n, map, u, us, work, v, out, to, lim),
-            Present::Absent => Step::Nothing,
+        Ok(p) => match p {
+            Some(v) => held_step(d, ds, t, n, map, u, us, work, v, out, to, lim),
+            None => Step::Nothing,
         },
-        Changed::Refused(_, _, _) => Step::Nothing,
+        Err(_) => Step::Nothing,
     }
 }

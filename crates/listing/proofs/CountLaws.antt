@@ -2,11 +2,14 @@
 use mathlib.Core.Path.{◌≡◌, refl, sym, ap, ◌∙◌}
 use mathlib.Core.Bool.{Bool, true, false}
 use mathlib.Core.List.{List, [], ◌∷◌}
+use mathlib.Core.Logic.{◌⊎◌, inl, inr}
 use Prim.Native.Nat.{ℕ, ◌+◌, ◌-◌, ◌*◌, ◌/◌, ◌^◌, ◌≤◌, ◌<◌}
 use native.Mathlib.Omega.{arith}
 use borrow.Author.Tests.{eq-eqb, ne_eqb}
 use lib.Dec.{eqb}
 use lib.ListN.{length, get_or}
+use Rattle.std.specs.Prelude.{Option, Some, None, Result, Ok, Err}
+use Rattle.std.specs.Result.{result_unwrap_or}
 use Rattle.base.specs.Choice.{pick}
 use Rattle.base.specs.Lists.{empty, each}
 use Rattle.base.specs.Walk.{steps, walk}
@@ -14,33 +17,27 @@ use Rattle.fields.specs.Table.{head_of, tuple_of}
 use Rattle.fields.specs.Sizes.{sizes}
 use Rattle.fields.specs.Content.{tuple_step, tuples, tally, tally_field}
 use Rattle.fields.specs.declared.Format.TheVariants.{AttrNew}
-use Rattle.fields.specs.declared.Tally.{Tally}
-use Rattle.fields.specs.declared.Tally.TheVariants.{Whole, Short}
 use Rattle.skeleton.specs.File.{Field}
 use Rattle.skeleton.specs.Place.{between, place_at, fields_at, find_from, from_tag}
 use Rattle.skeleton.specs.declared.directory.Shape.{Shape}
 use Rattle.skeleton.specs.declared.place.Place.{Place}
-use Rattle.skeleton.specs.declared.place.Place.TheVariants.{At, Done}
 use Rattle.skeleton.proofs.PlaceLaws.{fields_more, fields_done, place_runs, place_in_lem, place_falls, held}
 use Rattle.skeleton.proofs.FindLaws.{found_none, found_first, found_runs, found_in}
 use Rattle.skeleton.proofs.BetweenLaws.{length_between}
 use Rattle.rules.specs.Tags.{ATTR}
 use Rattle.rules.specs.ByTag.{with_tag, bodies}
 use Rattle.rules.specs.Coordinates.{is_coordinates}
-use Rattle.listing.specs.Said.{entries_of, entries_in, tuples_of, tuples_in}
+use Rattle.listing.specs.Said.{whole, entries_of, entries_in, tuples_of, tuples_in}
 
 -- ---- entries of an ATTR
 
-module _ (b : List ℕ) (t : Tally) (et : t ≡ tally_field (head_of AttrNew) (tuple_of AttrNew) b) where
-  pub entries_whole : (n : ℕ) → t ≡ Whole n → n ≡ entries_of b
-  unfolding entries_of
-  entries_whole n x = rw (sym et ∙ x) refl
-
-  pub entries_short : (j : ℕ) → t ≡ Short j → 0 ≡ entries_of b
-  unfolding entries_of
-  entries_short j x = rw (sym et ∙ x) refl
-
-pub ruleset entries_of_ways = (entries_whole, entries_short)
+pub entries_counted : (b : List ℕ) (t : Result ℕ ℕ) → t ≡ tally_field (head_of AttrNew) (tuple_of AttrNew) b → result_unwrap_or t 0 ≡ entries_of b
+unfolding entries_of
+entries_counted b t et = or_none t ∙ ap whole et
+  where
+    or_none : (r : Result ℕ ℕ) → result_unwrap_or r 0 ≡ whole r
+    or_none (Ok n) = refl
+    or_none (Err j) = refl
 
 -- of none there are none
 pub entries_none : entries_of [] ≡ 0
@@ -58,34 +55,38 @@ first_body t (f ∷ fs) = go (eqb f.tag t) (first_body t fs)
     go true e = refl
     go false e = e
 
-module _ (r : List ℕ) (h : Shape) (e : Place) (en : e ≡ find_from r h 0x41545452 24) where
-  pub entries_lack : e ≡ Done → 0 ≡ entries_in (fields_at r h 24)
+module _ (r : List ℕ) (h : Shape) (e : Option Place) (en : e ≡ find_from r h 0x41545452 24) where
+  pub entries_lack : e ≡ None → 0 ≡ entries_in (fields_at r h 24)
   unfolding entries_in each
   entries_lack x = rw (first_body ATTR (fields_at r h 24), found_none r h ATTR 24 e en x) (sym entries_none)
 
-  module _ (tag start end next : ℕ) (x : e ≡ At tag start end next) where
-    pub entries_there : (n : ℕ) → n ≡ entries_of (between r start end) → n ≡ entries_in (fields_at r h 24)
+  module _ (field : Place) (x : e ≡ Some field) where
+    pub entries_there : (n : ℕ) → n ≡ entries_of (between r field.start field.end) → n ≡ entries_in (fields_at r h 24)
     unfolding entries_in each
-    entries_there n y = rw (first_body ATTR (fields_at r h 24), found_first r h ATTR 24 e en tag start end next x) y
+    entries_there n y = rw (first_body ATTR (fields_at r h 24), found_first r h ATTR 24 e en field x) y
 
 pub ruleset entries_ways = (entries_lack, entries_there, found_runs, found_in)
 
 -- ---- coordinate tuples
 
 module _ (t n : ℕ) where
-  pub tuples_point : t ≡ 0x43324954 → n / 8 ≡ tuples_of t n
+  tuples_point : t ≡ 0x43324954 → n / 8 ≡ tuples_of t n
   unfolding tuples_of is_coordinates
   tuples_point e = simp (eq-eqb t 0x43324954 e)
 
-  pub tuples_list : (t ≡ 0x43324954 → ⊥) → t ≡ 0x4332494c → n / 8 ≡ tuples_of t n
+  tuples_list : (t ≡ 0x43324954 → ⊥) → t ≡ 0x4332494c → n / 8 ≡ tuples_of t n
   unfolding tuples_of is_coordinates
   tuples_list m e = simp (ne_eqb t 0x43324954 m, eq-eqb t 0x4332494c e)
+
+  pub tuples_some : (t ≡ 0x43324954) ⊎ ((t ≡ 0x43324954 → ⊥) × (t ≡ 0x4332494c)) → n / 8 ≡ tuples_of t n
+  tuples_some (inl e) = tuples_point e
+  tuples_some (inr e) = tuples_list e.0 e.1
 
   pub tuples_other : (t ≡ 0x43324954 → ⊥) → (t ≡ 0x4332494c → ⊥) → 0 ≡ tuples_of t n
   unfolding tuples_of is_coordinates
   tuples_other m e = simp (ne_eqb t 0x43324954 m, ne_eqb t 0x4332494c e)
 
-pub ruleset tuples_of_ways = (tuples_point, tuples_list, tuples_other)
+pub ruleset tuples_of_ways = (tuples_some, tuples_other)
 
 tuples_most : (t n : ℕ) → tuples_of t n ≤ n
 unfolding tuples_of
@@ -104,31 +105,31 @@ pub record CountedTo (r : List ℕ) (h : Shape) (q n : ℕ) : Type 0 where
 pub counted_first : (r : List ℕ) (h : Shape) → CountedTo r h 24 0
 counted_first r h = record { sum = omega arith; small = omega arith; inside = omega arith }
 
-module _ (r : List ℕ) (h : Shape) (q n : ℕ) (inv : CountedTo r h q n) (e : Place) (en : e ≡ place_at r h q) where
-  pub counted_over : e ≡ Done → n ≡ tuples_in (fields_at r h 24)
+module _ (r : List ℕ) (h : Shape) (q n : ℕ) (inv : CountedTo r h q n) (e : Option Place) (en : e ≡ place_at r h q) where
+  pub counted_over : e ≡ None → n ≡ tuples_in (fields_at r h 24)
   unfolding tuples_in
   counted_over x = let z : tuples_in (fields_at r h q) ≡ 0 = ap tuples_in (fields_done r h q e en x) in omega (arith, inv.sum)
 
-  module _ (tag start end next : ℕ) (x : e ≡ At tag start end next) (m : ℕ) (em : m ≡ tuples_of tag (end - start)) (g : length r ≤ 65536) where
-    runs : start ≤ end
-    runs = place_runs r h q e en tag start end next x
+  module _ (field : Place) (x : e ≡ Some field) (m : ℕ) (em : m ≡ tuples_of field.tag (field.end - field.start)) (g : length r ≤ 65536) where
+    runs : field.start ≤ field.end
+    runs = place_runs r h q e en field x
 
-    ends : end ≤ length r
-    ends = place_in_lem r h q e en tag start end next x
+    ends : field.end ≤ length r
+    ends = place_in_lem r h q e en field x
 
     most : m ≤ 65536
-    most = let k = tuples_most tag (end - start) in let i = ends in omega arith
+    most = let k = tuples_most field.tag (field.end - field.start) in let i = ends in omega arith
 
     pub counted_word : n + m < 2 ^ 64
     counted_word = let a = most in let b = inv.small in let c = inv.inside in omega arith
 
-    pub counted_next : CountedTo r h next (n + m)
+    pub counted_next : CountedTo r h field.next (n + m)
     unfolding tuples_in
     counted_next =
-        let l = length_between r start end ends in
-        let s : tuples_in (fields_at r h q) ≡ m + tuples_in (fields_at r h next) =
-        ap tuples_in (fields_more r h q e en tag start end next x) ∙ ap (λ (k : ℕ). tuples_of tag k + tuples_in (fields_at r h next)) l ∙ ap (λ (k : ℕ). k + tuples_in (fields_at r h next)) (sym em) in
-        let k = held r h q e en tag start end next x in
+        let l = length_between r field.start field.end ends in
+        let s : tuples_in (fields_at r h q) ≡ m + tuples_in (fields_at r h field.next) =
+        ap tuples_in (fields_more r h q e en field x) ∙ ap (λ (k : ℕ). tuples_of field.tag k + tuples_in (fields_at r h field.next)) l ∙ ap (λ (k : ℕ). k + tuples_in (fields_at r h field.next)) (sym em) in
+        let k = held r h q e en field x in
         let a = most in let b = inv.small in
         record { sum = omega (arith, inv.sum); small = omega (arith, k.next_is); inside = omega (arith, k.next_in) }
 

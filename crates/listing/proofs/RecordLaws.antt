@@ -4,6 +4,7 @@ use mathlib.Core.Bool.{true}
 use mathlib.Core.List.{List, [], ◌∷◌}
 use Prim.Native.Nat.{ℕ, ◌+◌, ◌≤◌}
 use native.Mathlib.Omega.{arith}
+use Rattle.std.specs.Prelude.{Option, Some, None}
 use Rattle.base.specs.Check.{pass}
 use Rattle.base.proofs.CheckLaws.{bind_inv}
 use Rattle.memory.specs.Wrote.{Wrote}
@@ -13,7 +14,6 @@ use Rattle.skeleton.specs.Emit.{tag_bytes}
 use Rattle.skeleton.specs.Place.{between, place_at, fields_at}
 use Rattle.skeleton.specs.declared.directory.Shape.{Shape}
 use Rattle.skeleton.specs.declared.place.Place.{Place}
-use Rattle.skeleton.specs.declared.place.Place.TheVariants.{At, Done}
 use Rattle.skeleton.proofs.PlaceLaws.{fields_more, fields_done}
 use Rattle.fields.specs.Table.{head_of, tuple_of}
 use Rattle.fields.specs.Content.{fill}
@@ -29,9 +29,7 @@ use Rattle.rules.specs.declared.Kind.TheVariants.{Info, Point, Multi, Feature}
 use Rattle.rules.specs.declared.Mode.TheVariants.{InDataset}
 use Rattle.rules.proofs.KindLaws.{kind_of_tag}
 use Rattle.rules.proofs.FilledLaws.{stands_fill}
-use Rattle.records.specs.Graded.{found_kind}
-use Rattle.records.specs.declared.grammar.Found.{Found}
-use Rattle.records.specs.declared.grammar.Found.TheVariants.{Is, Nothing}
+use Rattle.records.specs.Answers.{found_kind}
 use Rattle.contents.specs.Fit.{identified}
 use Rattle.writing.proofs.PartsLaws.{wrote_as}
 use Rattle.listing.specs.Said.{entries_in, tuples_in, Passed, record_in}
@@ -72,49 +70,49 @@ line_said n k f fs e five six =
     in_fewest_digits (ident_of k f.body).rcid ∷ in_fewest_digits (ident_of k f.body).rver ∷ in_fewest_digits a ∷ in_fewest_digits b ∷ [] in
     ap₂ (λ (a b : ℕ). line (in_fewest_digits n) (tag_bytes (tag_of k) ∷ numbers a b)) (sym (attributes_said k f fs e five six)) (sym (coordinates_said (f ∷ fs)))
 
-is_inj : (j k : Kind) → Is j ≡ Is k → j ≡ k
+is_inj : (j k : Kind) → Some j ≡ Some k → j ≡ k
 is_inj j k e = cc
 
-module _ (r : List ℕ) (h : Shape) (p : Passed (fields_at r h 24)) (e : Place) (en : e ≡ place_at r h 24) where
+module _ (r : List ℕ) (h : Shape) (p : Passed (fields_at r h 24)) (e : Option Place) (en : e ≡ place_at r h 24) where
   -- it has a first field
-  pub record_none : e ≡ Done → ⊥
+  pub record_none : e ≡ None → ⊥
   unfolding first_tag
   record_none x = tag_some p.kind (sym (ap first_tag (fields_done r h 24 e en x)) ∙ p.tag)
 
-  module _ (tag start end next : ℕ) (x : e ≡ At tag start end next) where
+  module _ (field : Place) (x : e ≡ Some field) where
     abbrev first : Field
-    first = record { tag = tag; body = between r start end }
+    first = record { tag = field.tag; body = between r field.start field.end }
 
-    fields : fields_at r h 24 ≡ first ∷ fields_at r h next
-    fields = fields_more r h 24 e en tag start end next x
+    fields : fields_at r h 24 ≡ first ∷ fields_at r h field.next
+    fields = fields_more r h 24 e en field x
 
-    passed : Passed (first ∷ fields_at r h next)
+    passed : Passed (first ∷ fields_at r h field.next)
     passed = rw fields at p
 
-    module _ (o : Found) (eo : o ≡ found_kind (kind_of tag)) where
-      known : o ≡ Is passed.kind
+    module _ (o : Option Kind) (eo : o ≡ found_kind (kind_of field.tag)) where
+      known : o ≡ Some passed.kind
       unfolding first_tag
       known = eo ∙ ap (λ (t : ℕ). found_kind (kind_of t)) passed.tag ∙ ap found_kind (kind_of_tag passed.kind)
 
-      pub record_unknown : o ≡ Nothing → ⊥
-      record_unknown y = let z : Nothing ≡ Is passed.kind = sym y ∙ known in let w : ◌≡◌ {A = ℕ} 0 1 = cc in omega arith
+      pub record_unknown : o ≡ None → ⊥
+      record_unknown y = let z : None ≡ Some passed.kind = sym y ∙ known in let w : ◌≡◌ {A = ℕ} 0 1 = cc in omega arith
 
-      module _ (k : Kind) (y : o ≡ Is k) where
+      module _ (k : Kind) (y : o ≡ Some k) where
         same : k ≡ passed.kind
         same = is_inj k passed.kind (sym y ∙ known)
 
-        five : number5 InDataset k (first ∷ fields_at r h next) ≡ pass
+        five : number5 InDataset k (first ∷ fields_at r h field.next) ≡ pass
         five = rw same passed.five
 
-        pub record_ident : identified k (between r start end) ≡ true
-        record_ident = five_ident k first (fields_at r h next) five
+        pub record_ident : identified k (between r field.start field.end) ≡ true
+        record_ident = five_ident k first (fields_at r h field.next) five
 
-        pub record_wrote : (n id version es ts at q : ℕ) (d d₁ : List ℕ) → id ≡ (ident_of k (between r start end)).rcid → version ≡ (ident_of k (between r start end)).rver
+        pub record_wrote : (n id version es ts at q : ℕ) (d d₁ : List ℕ) → id ≡ (ident_of k (between r field.start field.end)).rcid → version ≡ (ident_of k (between r field.start field.end)).rver
             → es ≡ entries_in (fields_at r h 24) → ts ≡ tuples_in (fields_at r h 24) → Wrote at (line_of n k id version es ts) d q d₁ × (q ≤ at + 110)
             → Wrote at (record_line n (record_in (fields_at r h 24))) d q d₁ × (q ≤ at + 110)
         unfolding first_tag
         record_wrote n id version es ts at q d d₁ a b c s w =
-            let behind = fields_at r h next in
+            let behind = fields_at r h field.next in
             let six : number6 InDataset k (first ∷ behind) ≡ pass = rw same passed.six in
             let named : first_tag (first ∷ behind) ≡ tag_of k = passed.tag ∙ ap tag_of (sym same) in
             let said : line_of n k id version es ts ≡ record_line n (record_in (fields_at r h 24)) =

@@ -6,8 +6,10 @@ use native.Mathlib.Omega.{arith}
 use borrow.Author.Tests.{lt-ltb, le-ltb}
 use lib.Dec.{ltb}
 use lib.ListN.{length, take}
+use Rattle.std.specs.Prelude.{Result, Ok, Err}
 use Rattle.base.specs.Choice.{pick}
 use Rattle.base.specs.Text.{ascii}
+use Rattle.base.specs.declared.Refusal.{Refusal}
 use Rattle.memory.specs.Hold.{zeros, hold}
 use Rattle.memory.specs.Wrote.{Wrote}
 use Rattle.memory.proofs.HoldLaws.{hold_nil}
@@ -24,8 +26,6 @@ use Rattle.rules.specs.Written.{Dataset, count}
 use Rattle.rules.specs.declared.Answer.{Answer}
 use Rattle.rules.proofs.OutcomeLaws.{done_inj}
 use Rattle.opening.specs.Carried.{first_three, opened_by}
-use Rattle.opening.specs.declared.carried.Opened.{Opened}
-use Rattle.opening.specs.declared.carried.Opened.TheVariants.{Behind, Stopped}
 use Rattle.opening.proofs.CarriedLaws.{behind_is}
 use Rattle.opening.proofs.OpeningLaws.{from_fourth}
 use Rattle.reader.proofs.ReaderLaws.{three_in}
@@ -77,15 +77,15 @@ module _ (f : List ℕ) (small : length f ≤ 65536) (n : ℕ) (en : n ≡ (read
   pub table_count : 3 ≤ n
   table_count = omega (arith, got.2)
 
-  module _ (o : Opened) (eo : o ≡ opened_by (first_three f)) where
-    pub table_shut : (k m i j : ℕ) → o ≡ Stopped k m i j → ⊥
+  module _ (o : Result ℕ Refusal) (eo : o ≡ opened_by (first_three f)) where
+    pub table_shut : (y : Refusal) → o ≡ Err y → ⊥
     unfolding opened_by
-    table_shut k m i j x =
-        let z : Stopped k m i j ≡ Behind begins.0 = sym x ∙ eo ∙ ap opened_by begins.1 in
-        let y : ◌≡◌ {A = ℕ} 0 1 = cc in
+    table_shut y x =
+        let z : Err y ≡ Ok begins.0 = sym x ∙ eo ∙ ap opened_by begins.1 in
+        let w : ◌≡◌ {A = ℕ} 0 1 = cc in
         omega arith
 
-    module _ (start : ℕ) (x : o ≡ Behind start) where
+    module _ (start : ℕ) (x : o ≡ Ok start) where
       three : first_three f ≡ done start
       three = behind_is (first_three f) start (sym x ∙ eo)
 

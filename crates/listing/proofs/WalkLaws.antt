@@ -1,10 +1,14 @@
 -- Laws of the lines of the records, one after the other. Assumes nothing.
 use mathlib.Core.Path.{◌≡◌, refl, sym, ap, ◌∙◌}
 use mathlib.Core.List.{List, [], ◌++◌}
+use mathlib.Core.Bool.{Bool, true, false}
 use Prim.Native.Nat.{ℕ, ◌+◌, ◌-◌, ◌*◌, ◌^◌, ◌≤◌, ◌<◌}
 use native.Mathlib.Nat.{add-zero}
 use native.Mathlib.Omega.{arith}
+use borrow.Author.Tests.{ltb-true, ltb-false}
+use lib.Dec.{ltb}
 use lib.ListN.{length, length-append}
+use Rattle.std.specs.Prelude.{Result, Ok, Err}
 use Rattle.base.specs.Lists.{each, Each}
 use Rattle.base.specs.Walk.{Got}
 use Rattle.memory.specs.Wrote.{Wrote}
@@ -15,12 +19,13 @@ use Rattle.skeleton.specs.Place.{between, fields_at}
 use Rattle.skeleton.specs.Record.{record_at, stated_at}
 use Rattle.skeleton.specs.Shape.{Bounded}
 use Rattle.skeleton.specs.declared.leader.Head.{Head}
-use Rattle.skeleton.specs.declared.leader.Head.TheVariants.{Good, Refused}
+use Rattle.skeleton.specs.declared.leader.Broken.{Broken}
 use Rattle.skeleton.proofs.RecordLaws.{Right, right}
 use Rattle.skeleton.proofs.FileLaws.{records_over, records_more}
 use Rattle.skeleton.proofs.AgainLaws.{again, again_not, records_some}
 use Rattle.rules.specs.Listing.{record_line, record_lines}
 use Rattle.references.proofs.RecordLaws.{part_small}
+use Rattle.references.proofs.DatasetLaws.{stated_some}
 use Rattle.listing.specs.Said.{Passed, PassedFrom, record_in}
 use Rattle.listing.specs.Lines.{lines_from}
 use Rattle.listing.specs.Left.{Left}
@@ -43,11 +48,11 @@ pub lines_over : (f : List ℕ) (p n : ℕ) → length f ≤ p → lines_from f 
 unfolding lines_from record_lines each
 lines_over f p n h = ap (λ (g : Got (List Field)). record_lines n (each record_in g.items)) (records_over f p h)
 
-pub lines_more : (f : List ℕ) (p n : ℕ) → p < length f → (h : Head) → h ≡ record_at f p → (len base a b : ℕ) → h ≡ Good len base a b
+pub lines_more : (f : List ℕ) (p n : ℕ) → p < length f → (h : Result Head Broken) → h ≡ record_at f p → (d : Head) → h ≡ Ok d
     → lines_from f p n
-    ≡ record_line n (record_in (fields_at (between f p (p + len)) (record { base = base; a = a; b = b }) 24)) ++ lines_from f (p + len) (n + 1)
+    ≡ record_line n (record_in (fields_at (between f p (p + d.len)) d.shape 24)) ++ lines_from f (p + d.len) (n + 1)
 unfolding lines_from record_lines each
-lines_more f p n l h eh len base a b x = ap (λ (g : Got (List Field)). record_lines n (each record_in g.items)) (records_more f p l h eh len base a b x)
+lines_more f p n l h eh d x = ap (λ (g : Got (List Field)). record_lines n (each record_in g.items)) (records_more f p l h eh d x)
 
 -- ---- the loop over the records: the next begins at p and has number n; its line is to stand at q
 
@@ -73,44 +78,52 @@ module _ (f : List ℕ) (start at : ℕ) (d : List ℕ) (p n q : ℕ) (e : List 
   pub reached_long : length e ≡ length d
   reached_long = s.long
 
-  pub reached_over : length f ≤ p → Wrote at (lines_from f start 4) d q e × (q ≤ 327709)
+  reached_over : length f ≤ p → Wrote at (lines_from f start 4) d q e × (q ≤ 327709)
   reached_over h =
       let i = s.inside in let k = s.small in let r = s.room in
       (left_none at (lines_from f start 4) d q e (rw (lines_over f p n h) at s.left), omega arith)
 
   -- the record at hand, by what its leader says
-  module _ (l : p < length f) (h : Head) (eh : h ≡ stated_at f p) where
-    found : h ≡ record_at f p
-    found = again f p (records_some f p l s.clean) h eh
+  module _ (h : Result Head Broken) (eh : h ≡ stated_at f p) where
+    -- there is none only at the end of the file
+    pub reached_ended : (m : Broken) → h ≡ Err m → Wrote at (lines_from f start 4) d q e × (q ≤ 327709)
+    reached_ended m x = go (ltb p (length f)) refl
+      where
+        go : (t : Bool) → ltb p (length f) ≡ t → Wrote at (lines_from f start 4) d q e × (q ≤ 327709)
+        go true y = absurd (again_not f p (records_some f p (ltb-true p (length f) y) s.clean) h eh m x)
+        go false y = reached_over (ltb-false p (length f) y)
 
-    pub reached_unread : (m : ℕ) → h ≡ Refused m → ⊥
-    reached_unread m x = again_not f p (records_some f p l s.clean) h eh m x
+    module _ (r : Head) (x : h ≡ Ok r) where
+      here : p < length f
+      here = stated_some f p h eh r x
 
-    module _ (len base a b : ℕ) (x : h ≡ Good len base a b) where
-      whole : Right f p len base a b
-      whole = right f p h found len base a b x
+      found : h ≡ record_at f p
+      found = again f p (records_some f p here s.clean) h eh
+
+      whole : Right f p r
+      whole = right f p h found r x
 
       abbrev fields : List Field
-      fields = fields_at (between f p (p + len)) (record { base = base; a = a; b = b }) 24
+      fields = fields_at (between f p (p + r.len)) r.shape 24
 
-      parts : Passed fields × PassedFrom f (p + len)
+      parts : Passed fields × PassedFrom f (p + r.len)
       unfolding PassedFrom Each
-      parts = rw (records_more f p l h found len base a b x) at s.passed
+      parts = rw (records_more f p here h found r x) at s.passed
 
-      pub record_word : p + len < 2 ^ 64
+      pub record_word : p + r.len < 2 ^ 64
       record_word = let w = whole.inside in let k = s.small in omega arith
 
-      pub record_runs : p ≤ p + len
+      pub record_runs : p ≤ p + r.len
       record_runs = omega arith
 
-      pub record_in_lem : p + len ≤ length f
+      pub record_in_lem : p + r.len ≤ length f
       record_in_lem = whole.inside
 
-      pub record_bounded : Bounded (record { base = base; a = a; b = b })
+      pub record_bounded : Bounded r.shape
       record_bounded = whole.bounded
 
-      pub record_small : length (between f p (p + len)) ≤ 65536
-      record_small = part_small f p (p + len) 65536 s.small
+      pub record_small : length (between f p (p + r.len)) ≤ 65536
+      record_small = part_small f p (p + r.len) 65536 s.small
 
       pub record_passed : Passed fields
       record_passed = parts.0
@@ -121,25 +134,25 @@ module _ (f : List ℕ) (start at : ℕ) (d : List ℕ) (p n q : ℕ) (e : List 
       pub record_counts : n + 1 < 2 ^ 64
       record_counts = let i = s.inside in let k = s.small in let c = s.counted in omega arith
 
-      pub record_falls : length f - (p + len) < length f - p
-      record_falls = let g = whole.long in omega arith
+      pub record_falls : length f - (p + r.len) < length f - p
+      record_falls = let g = whole.long in let i = here in omega arith
 
-      lines_on : lines_from f p n ≡ record_line n (record_in fields) ++ lines_from f (p + len) (n + 1)
-      lines_on = lines_more f p n l h found len base a b x
+      lines_on : lines_from f p n ≡ record_line n (record_in fields) ++ lines_from f (p + r.len) (n + 1)
+      lines_on = lines_more f p n here h found r x
 
-      pub record_more : (r : ℕ) (e' : List ℕ) → Wrote q (record_line n (record_in fields)) e r e' × (r ≤ q + 110) → Reached f start at d (p + len) (n + 1) r e'
-      record_more r e' w =
+      pub record_more : (q' : ℕ) (e' : List ℕ) → Wrote q (record_line n (record_in fields)) e q' e' × (q' ≤ q + 110) → Reached f start at d (p + r.len) (n + 1) q' e'
+      record_more q' e' w =
           let g = whole.long in let c = s.counted in let o = s.room in
           record {
             small = s.small;
             inside = whole.inside;
             counted = omega arith;
-            clean = rw (records_more f p l h found len base a b x) at s.clean;
+            clean = rw (records_more f p here h found r x) at s.clean;
             passed = parts.1;
             room = omega (arith, w.1);
             long = wrote_length w.0 ∙ s.long;
-            left = left_more at (lines_from f start 4) d q (record_line n (record_in fields)) (lines_from f (p + len) (n + 1)) e r e' (rw lines_on at s.left) w.0;
+            left = left_more at (lines_from f start 4) d q (record_line n (record_in fields)) (lines_from f (p + r.len) (n + 1)) e q' e' (rw lines_on at s.left) w.0;
           }
 
 pub ruleset rows_turn =
-    (reached_start, reached_in, reached_long, reached_over, record_word, record_runs, record_in_lem, record_bounded, record_small, record_passed, record_room, record_counts, record_falls)
+    (reached_start, reached_in, reached_long, record_word, record_runs, record_in_lem, record_bounded, record_small, record_passed, record_room, record_counts, record_falls)

@@ -1,5 +1,5 @@
 -- What the fields of a record say that the listing shows.
-use Rattle.std.specs.Prelude.{ℕ, ◌+◌, ◌/◌, ◌≡◌, List, [], ◌∷◌, length, get_or}
+use Rattle.std.specs.Prelude.{ℕ, ◌+◌, ◌/◌, ◌≡◌, List, [], ◌∷◌, length, get_or, Result, Ok, Err}
 use Rattle.std.proofs.Math.Option.{Option, some, none}
 use Rattle.base.specs.Choice.{pick}
 use Rattle.base.specs.Check.{pass}
@@ -8,8 +8,6 @@ use Rattle.skeleton.specs.File.{Field, records_from}
 use Rattle.fields.specs.Table.{head_of, tuple_of}
 use Rattle.fields.specs.Content.{tally_field}
 use Rattle.fields.specs.declared.Format.TheVariants.{AttrNew}
-use Rattle.fields.specs.declared.Tally.{Tally}
-use Rattle.fields.specs.declared.Tally.TheVariants.{Whole, Short}
 use Rattle.rules.specs.Tags.{ATTR}
 use Rattle.rules.specs.Coordinates.{is_coordinates}
 use Rattle.rules.specs.ByTag.{bodies, first_tag}
@@ -24,9 +22,9 @@ use Rattle.rules.specs.declared.Mode.TheVariants.{InDataset}
 -- ---- counts
 
 -- how many tuples were counted; none where one does not stand
-abbrev pub whole : Tally → ℕ
-whole (Whole n) = n
-whole (Short j) = 0
+abbrev pub whole : Result ℕ ℕ → ℕ
+whole (Ok n) = n
+whole (Err j) = 0
 
 -- how many entries an ATTR has
 unfoldable pub entries_of : List ℕ → ℕ

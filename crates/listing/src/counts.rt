@@ -4,44 +4,34 @@ ghost use Rattle.skeleton.specs.Place.{fields_at};
 ghost use Rattle.skeleton.specs.Shape.{Bounded};
 ghost use Rattle.listing.specs.Said.{entries_of, entries_in, tuples_of, tuples_in};
 
-use fields::{Format, Tally, tally_of};
+use fields::{Format, tally_of};
+use rules::tags;
 use skeleton::directory::Shape;
-use skeleton::place::{Place, find, place_at};
+use skeleton::place::{find, place_at};
 
 // The entries of an ATTR.
 fn entries_of(b: &[u8]) -> usize
     ensures { result ≡ entries_of b.now }
 {
-    match tally_of(Format::AttrNew, b) {
-        Tally::Whole(n) => n,
-        Tally::Short(_) => 0,
-    }
+    tally_of(Format::AttrNew, b).unwrap_or(0)
 }
 
-// The entries of a record's ATTR (0x41545452).
+// The entries of a record's ATTR.
 pub fn entries(r: &[u8], h: Shape) -> usize
     requires { Bounded h }
     ensures { result ≡ entries_in (fields_at r.now h 24) }
 {
-    match find(r, h, 0x41545452, 24) {
-        Place::At {
-            tag: _,
-            start,
-            end,
-            next: _,
-        } => entries_of(&r[start..end]),
-        Place::Done => 0,
-    }
+    let Some(field) = find(r, h, tags::ATTR, 24) else {
+        return 0;
+    };
+    entries_of(&r[field.start..field.end])
 }
 
-// The coordinate tuples, of 8 bytes each, of a field of so many bytes: none if it is no C2IT (0x43324954) and no C2IL (0x4332494c).
+// The coordinate tuples, of 8 bytes each, of a field of so many bytes: none if it is no C2IT and no C2IL.
 fn tuples_of(tag: u32, bytes: usize) -> usize
     ensures { result ≡ tuples_of tag bytes }
 {
-    if tag == 0x43324954 {
-        return bytes / 8;
-    }
-    if tag == 0x4332494c {
+    if tag == tags::C2IT || tag == tags::C2IL {
         return bytes / 8;
     }
     0
@@ -54,20 +44,9 @@ pub fn tuples(r: &[u8], h: Shape) -> usize
 {
     let mut q = 24;
     let mut n = 0;
-    loop {
-        match place_at(r, h, q) {
-            Place::At {
-                tag,
-                start,
-                end,
-                next,
-            } => {
-                n += tuples_of(tag, end - start);
-                q = next;
-            }
-            Place::Done => {
-                return n;
-            }
-        }
+    while let Some(field) = place_at(r, h, q) {
+        n += tuples_of(field.tag, field.end - field.start);
+        q = field.next;
     }
+    n
 }

@@ -21,10 +21,8 @@ pub fn put_text(out: &mut [u8], at: usize, text: &[u8]) -> usize
     requires { at + length text.now < 2 ^ 64 }
     ensures { Wrote at text.now out.old result out.new }
 {
-    let mut k = 0;
-    while k < text.len() {
+    for k in 0..text.len() {
         store(out, at + k, text[k]);
-        k += 1;
     }
     at + text.len()
 }
@@ -36,7 +34,7 @@ fn digits_of(x: usize) -> usize
     let mut rest = x;
     let mut w = 1;
     while 10 <= rest {
-        rest = rest / 10;
+        rest /= 10;
         w += 1;
     }
     w

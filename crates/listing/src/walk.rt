@@ -18,35 +18,27 @@ use crate::lines::{put_line, put_refusal, put_total};
 use crate::text::put_text;
 use contents::identifier::{rcid, rver};
 use memory::clearing::{zero, zero_from};
-use opening::carried::{Opened, first_three};
+use opening::carried::first_three;
 use reader::read;
-use records::grammar::{Found, kind_of};
+use records::grammar::kind_of;
 use skeleton::directory::Shape;
 use skeleton::file::stated_at;
-use skeleton::leader::Head;
-use skeleton::place::{Place, place_at};
+use skeleton::place::place_at;
 
 // The line of record n, whose bytes are r.
 fn put_record(r: &[u8], h: Shape, n: usize, out: &mut [u8], at: usize) -> usize
     requires { Bounded h × (length r.now ≤ 65536) × Passed (fields_at r.now h 24) × (at ≤ 400000) }
     ensures { Wrote at (record_line n (record_in (fields_at r.now h 24))) out.old result out.new × (result ≤ at + 110) }
 {
-    match place_at(r, h, 24) {
-        Place::At {
-            tag,
-            start,
-            end,
-            next: _,
-        } => match kind_of(tag) {
-            Found::Is(k) => {
-                let id = rcid(r, start, end, k) as usize;
-                let version = rver(r, start, end, k) as usize;
-                put_line(out, at, n, k, id, version, entries(r, h), tuples(r, h))
-            }
-            Found::Nothing => at,
-        },
-        Place::Done => at,
-    }
+    let Some(field) = place_at(r, h, 24) else {
+        return at;
+    };
+    let Some(k) = kind_of(field.tag) else {
+        return at;
+    };
+    let id = rcid(r, field.start, field.end, k) as usize;
+    let version = rver(r, field.start, field.end, k) as usize;
+    put_line(out, at, n, k, id, version, entries(r, h), tuples(r, h))
 }
 
 // The lines of the records from start on, the first of which is the fourth of the file.
@@ -57,18 +49,11 @@ fn put_records(f: &[u8], start: usize, out: &mut [u8], at: usize) -> usize
     let mut p = start;
     let mut n = 4;
     let mut q = at;
-    while p < f.len() {
-        match stated_at(f, p) {
-            Head::Good { len, base, a, b } => {
-                let e = p + len;
-                q = put_record(&f[p..e], Shape { base, a, b }, n, out, q);
-                p = e;
-                n += 1;
-            }
-            Head::Refused(_) => {
-                return q;
-            }
-        }
+    while let Ok(head) = stated_at(f, p) {
+        let e = p + head.len;
+        q = put_record(&f[p..e], head.shape, n, out, q);
+        p = e;
+        n += 1;
     }
     q
 }
@@ -78,14 +63,12 @@ fn put_table(f: &[u8], count: usize, out: &mut [u8]) -> usize
     requires { (length f.now ≤ 65536) × (count ≡ (the_answer f.now).count) × (0 < count) }
     ensures { Wrote 0 (printed (read_dataset f.now)) out.old result out.new × (result ≤ longest) }
 {
-    match first_three(f) {
-        Opened::Behind(start) => {
-            let p1 = put_text(out, 0, b"rec tag rcid rver attr coord\n");
-            let p2 = put_records(f, start, out, p1);
-            put_total(out, p2, count - 3)
-        }
-        Opened::Stopped(_, _, _, _) => 0,
-    }
+    let Ok(start) = first_three(f) else {
+        return 0;
+    };
+    let p1 = put_text(out, 0, b"rec tag rcid rver attr coord\n");
+    let p2 = put_records(f, start, out, p1);
+    put_total(out, p2, count - 3)
 }
 
 // The listing of an input that is not too long.

@@ -4,13 +4,13 @@ use mathlib.Core.Path.{◌≡◌, refl, sym, ap, ◌∙◌, subst}
 use mathlib.Core.List.{List, ◌∷◌}
 use native.Mathlib.Omega.{arith}
 use lib.ListN.{length, drop}
+use Rattle.std.specs.Prelude.{Option, Some, None}
 use Rattle.base.specs.Lists.{Each}
 use Rattle.skeleton.specs.Emit.{size, sizes}
 use Rattle.skeleton.specs.File.{Field}
 use Rattle.skeleton.specs.Place.{between, place_at, fields_at}
 use Rattle.skeleton.specs.declared.directory.Shape.{Shape}
 use Rattle.skeleton.specs.declared.place.Place.{Place}
-use Rattle.skeleton.specs.declared.place.Place.TheVariants.{At, Done}
 use Rattle.skeleton.proofs.PlaceLaws.{place_falls, place_runs, place_in_lem, fields_done}
 use Rattle.skeleton.proofs.BetweenLaws.{length_between, fields_within}
 use Rattle.rules.specs.Record.{Rec}
@@ -46,9 +46,9 @@ module _ (b : List ℕ) (at len : ℕ) (h : Shape) (x p : ℕ) (w₀ : List ℕ)
   pub load_word : at + len < 2 ^ 64
   load_word = omega (arith, s.loads.inside, s.loads.small)
 
-  module _ (e : Place) (en : e ≡ place_at (between b at (at + len)) h q) where
+  module _ (e : Option Place) (en : e ≡ place_at (between b at (at + len)) h q) where
     -- there are no more
-    pub load_done : e ≡ Done → TookAll b x (fields_at (between b at (at + len)) h p) w₀ v₀ w v
+    pub load_done : e ≡ None → TookAll b x (fields_at (between b at (at + len)) h p) w₀ v₀ w v
     unfolding take_fields
     load_done y =
         record {
@@ -59,24 +59,24 @@ module _ (b : List ℕ) (at len : ℕ) (h : Shape) (x p : ℕ) (w₀ : List ℕ)
         }
 
     -- there is one
-    module _ (tag start end next : ℕ) (y : e ≡ At tag start end next) where
+    module _ (d : Place) (y : e ≡ Some d) where
       long_is : length rs ≡ len
       long_is = length_between b at (at + len) s.loads.inside ∙ omega arith
 
-      runs : start ≤ end
-      runs = place_runs rs h q e en tag start end next y
+      runs : d.start ≤ d.end
+      runs = place_runs rs h q e en d y
 
-      within : end ≤ len
-      within = omega (arith, place_in_lem rs h q e en tag start end next y, long_is)
+      within : d.end ≤ len
+      within = omega (arith, place_in_lem rs h q e en d y, long_is)
 
       abbrev here : Field
-      here = field_as tag (between b (at + start) (at + end))
+      here = field_as d.tag (between b (at + d.start) (at + d.end))
 
       abbrev rest : List Field
-      rest = fields_at rs h next
+      rest = fields_at rs h d.next
 
       fields_are : fields_at rs h q ≡ here ∷ rest
-      fields_are = fields_within b at len h q e en tag start end next y within
+      fields_are = fields_within b at len h q e en d y within
 
       fits_here : Fits v.kind here × Each (Fits v.kind) rest
       unfolding Each
@@ -86,16 +86,16 @@ module _ (b : List ℕ) (at len : ℕ) (h : Shape) (x p : ℕ) (w₀ : List ℕ)
       unfolding sizes
       room_here = subst (λ (fs : List Field). Room v (sizes fs)) fields_are s.loads.room
 
-      pub load_falls : length (between b at (at + len)) - next < length (between b at (at + len)) - q
-      load_falls = place_falls rs h q e en tag start end next y
+      pub load_falls : length (between b at (at + len)) - d.next < length (between b at (at + len)) - q
+      load_falls = place_falls rs h q e en d y
 
-      pub load_from : at + start < 2 ^ 64
+      pub load_from : at + d.start < 2 ^ 64
       load_from = omega (arith, runs, within, load_word)
 
-      pub load_to : at + end < 2 ^ 64
+      pub load_to : at + d.end < 2 ^ 64
       load_to = omega (arith, within, load_word)
 
-      pub load_ready : Loads b tag (at + start) (at + end) v w
+      pub load_ready : Loads b d.tag (at + d.start) (at + d.end) v w
       load_ready =
           let r = room_here in
           record {
@@ -108,7 +108,7 @@ module _ (b : List ℕ) (at len : ℕ) (h : Shape) (x p : ℕ) (w₀ : List ℕ)
             room = record { inas = omega (arith, r.inas); coord = omega (arith, r.coord); spas = omega (arith, r.spas); bytes = omega (arith, r.bytes) };
           }
 
-      pub load_turn : (o : List ℕ) (r : Version) → length o ≡ length w → Took b x (field_as tag (between b (at + start) (at + end))) w v o r → LoadAt b at len h x p w₀ v₀ o next r
+      pub load_turn : (o : List ℕ) (r : Version) → length o ≡ length w → Took b x (field_as d.tag (between b (at + d.start) (at + d.end))) w v o r → LoadAt b at len h x p w₀ v₀ o d.next r
       unfolding take_fields
       load_turn o r lo t =
           record {

@@ -8,18 +8,18 @@ use native.Mathlib.Omega.{arith}
 use borrow.Author.Tests.{eq-eqb}
 use lib.ListN.{length, drop}
 use lib.Dec.{eqb}
+use Rattle.std.specs.Prelude.{Option, Some, None}
 use Rattle.base.specs.Lists.{each, gather, Each}
 use Rattle.base.proofs.CheckLaws.{refused}
 use Rattle.base.proofs.EachLaws.{each_map}
 use Rattle.skeleton.specs.Emit.{size, sizes}
 use Rattle.skeleton.specs.File.{Field}
 use Rattle.skeleton.specs.Place.{between, place_at, fields_at}
+use Rattle.skeleton.specs.Leader.{good}
 use Rattle.skeleton.specs.Record.{record_at}
 use Rattle.skeleton.specs.Shape.{Bounded}
 use Rattle.skeleton.specs.declared.directory.Shape.{Shape}
-use Rattle.skeleton.specs.declared.leader.Head.TheVariants.{Good}
 use Rattle.skeleton.specs.declared.place.Place.{Place}
-use Rattle.skeleton.specs.declared.place.Place.TheVariants.{At, Done}
 use Rattle.skeleton.proofs.PlaceLaws.{place_runs, place_in_lem, fields_more, fields_done}
 use Rattle.skeleton.proofs.ReadLaws.{bytes_between}
 use Rattle.skeleton.proofs.RecordLaws.{right}
@@ -121,32 +121,32 @@ blank_held d u w k i =
 -- ---- the whole record
 
 module _ (b : List ℕ) (at len : ℕ) (h : Shape) (k : Kind) (w : List ℕ)
-    (pre : (record_at b at ≡ Good len h.base h.a h.b) × (length b ≤ 16777216) × (400000 ≤ length w) × Loadable k (fields_at (between b at (at + len)) h 24)) where
+    (pre : (record_at b at ≡ good len h) × (length b ≤ 16777216) × (400000 ≤ length w) × Loadable k (fields_at (between b at (at + len)) h 24)) where
   abbrev whole_record : List ℕ
   whole_record = between b at (at + len)
 
   pub record_inside : at + len ≤ length b
-  record_inside = (right b at (record_at b at) refl len h.base h.a h.b pre.0).inside
+  record_inside = (right b at (record_at b at) refl _ pre.0).inside
 
   pub record_word : at + len < 2 ^ 64
   record_word = omega (arith, record_inside, pre.1)
 
   pub record_bounded : Bounded h
-  record_bounded = (right b at (record_at b at) refl len h.base h.a h.b pre.0).bounded
+  record_bounded = (right b at (record_at b at) refl _ pre.0).bounded
 
-  module _ (g : Bytes b) (e : Place) (en : e ≡ place_at (between b at (at + len)) h 24) where
-    pub record_some : {X : Type 0} → e ≡ Done → X
+  module _ (g : Bytes b) (e : Option Place) (en : e ≡ place_at (between b at (at + len)) h 24) where
+    pub record_some : {X : Type 0} → e ≡ None → X
     record_some y = none_loadable k (subst (Loadable k) (fields_done whole_record h 24 e en y) pre.3)
 
-    module _ (tag start end next : ℕ) (y : e ≡ At tag start end next) where
+    module _ (d : Place) (y : e ≡ Some d) where
       abbrev ident : Field
-      ident = field_as tag (between whole_record start end)
+      ident = field_as d.tag (between whole_record d.start d.end)
 
       abbrev later : List Field
-      later = fields_at whole_record h next
+      later = fields_at whole_record h d.next
 
       all_are : fields_at whole_record h 24 ≡ ident ∷ later
-      all_are = fields_more whole_record h 24 e en tag start end next y
+      all_are = fields_more whole_record h 24 e en d y
 
       facts : Behind k ident later
       facts =
@@ -154,20 +154,20 @@ module _ (b : List ℕ) (at len : ℕ) (h : Shape) (k : Kind) (w : List ℕ)
           (subst (Each (λ g. Bytes g.body)) all_are (fields_bytes whole_record h (bytes_between b at (at + len) g) 24))
           (subst (Loadable k) all_are pre.3)
 
-      pub ident_ready : (start ≤ end) × (end ≤ length (between b at (at + len))) × (identified k (between (between b at (at + len)) start end) ≡ true)
-      ident_ready = (place_runs whole_record h 24 e en tag start end next y, place_in_lem whole_record h 24 e en tag start end next y, facts.ident)
+      pub ident_ready : (d.start ≤ d.end) × (d.end ≤ length (between b at (at + len))) × (identified k (between (between b at (at + len)) d.start d.end) ≡ true)
+      ident_ready = (place_runs whole_record h 24 e en d y, place_in_lem whole_record h 24 e en d y, facts.ident)
 
       later_short : sizes later ≤ 99999
       unfolding sizes
       later_short =
-          let short = record_short b at (record_at b at) refl len h.base h.a h.b pre.0 in
-          let filled = record_filled b at (record_at b at) refl len h.base h.a h.b pre.0 in
+          let short = record_short b at (record_at b at) refl _ pre.0 in
+          let filled = record_filled b at (record_at b at) refl _ pre.0 in
           let long = length_between b at (at + len) record_inside in
           let all : sizes (fields_at whole_record h 24) ≡ size ident + sizes later = ap sizes all_are in
           omega arith
 
-      module _ (v : Version) (ev : v ≡ opened k (ident_of k (between (between b at (at + len)) start end))) where
-        pub later_ready : LoadsAll b at len (fields_at (between b at (at + len)) h next) v w
+      module _ (v : Version) (ev : v ≡ opened k (ident_of k (between (between b at (at + len)) d.start d.end))) where
+        pub later_ready : LoadsAll b at len (fields_at (between b at (at + len)) h d.next) v w
         unfolding opened
         later_ready =
             let short = later_short in
@@ -180,13 +180,13 @@ module _ (b : List ℕ) (at len : ℕ) (h : Shape) (k : Kind) (w : List ℕ)
               room = record { inas = omega arith; coord = omega arith; spas = omega arith; bytes = omega arith };
             })
 
-        pub record_held : (x : ℕ) (o : List ℕ) (r : Version) → TookAll b x (fields_at (between b at (at + len)) h next) w v o r
+        pub record_held : (x : ℕ) (o : List ℕ) (r : Version) → TookAll b x (fields_at (between b at (at + len)) h d.next) w v o r
             → ((d u : List ℕ) → source x d u ≡ b → Held d u o r (rec_of k (fields_at (between b at (at + len)) h 24))) × (drop 386000 o ≡ drop 386000 w)
         record_held x o r t = (held, t.others)
           where
             held : (d u : List ℕ) → source x d u ≡ b → Held d u o r (rec_of k (fields_at (between b at (at + len)) h 24))
-            held d u z =
-                let i : Ident = ident_of k (between whole_record start end) in
-                let start-held : Held d u w v (blank k i) = subst (λ (a : Version). Held d u w a (blank k i)) (sym ev) (blank_held d u w k i) in
+            held s u z =
+                let i : Ident = ident_of k (between whole_record d.start d.end) in
+                let start-held : Held s u w v (blank k i) = subst (λ (a : Version). Held s u w a (blank k i)) (sym ev) (blank_held s u w k i) in
                 let rows = each_map later (λ f q. q.row) facts.fits in
-                subst (Held d u o r) (taken_record k ident facts.named later facts.whole rows ∙ ap (rec_of k) (sym all_are)) (t.held d u (blank k i) z start-held)
+                subst (Held s u o r) (taken_record k ident facts.named later facts.whole rows ∙ ap (rec_of k) (sym all_are)) (t.held s u (blank k i) z start-held)

@@ -6,6 +6,7 @@ ghost use Rattle.rules.specs.Written.{field_as};
 ghost use Rattle.rules.specs.Coordinates.{is_coordinates};
 ghost use Rattle.loading.specs.Loads.{Loads, LoadsCoords, Took};
 
+use rules::tags;
 use version::Version;
 
 // The tree of an ATTR. A stored one has the bytes that its tree is written in.
@@ -13,11 +14,12 @@ fn load_attr(b: &[u8], from: usize, to: usize, x: u8, v: Version, work: &mut [u8
     requires { Loads b.now ATTR from to v work.old }
     ensures { Took b.now x (field_as ATTR (between b.now from to)) work.old v work.new result }
 {
-    let n = items::loading::load(b, from, to, x, &mut work[0..200000]);
-    let mut r = v;
-    r.attr = n;
-    r.attrbytes = to - from;
-    r
+    let attr = items::loading::load(b, from, to, x, &mut work[0..200000]);
+    Version {
+        attr,
+        attrbytes: to - from,
+        ..v
+    }
 }
 
 // An INAS.
@@ -25,11 +27,12 @@ fn load_inas(b: &[u8], from: usize, to: usize, x: u8, v: Version, work: &mut [u8
     requires { Loads b.now INAS from to v work.old }
     ensures { Took b.now x (field_as INAS (between b.now from to)) work.old v work.new result }
 {
-    let n = cells::inas::load_inas(from, to, x, &mut work[200000..292000], v.inas);
-    let mut r = v;
-    r.inas = n;
-    r.inasbytes = v.inasbytes + (to - from) + 1;
-    r
+    let inas = cells::inas::load_inas(from, to, x, &mut work[200000..292000], v.inas);
+    Version {
+        inas,
+        inasbytes: v.inasbytes + (to - from) + 1,
+        ..v
+    }
 }
 
 // The tuples of a C2IT or of a C2IL.
@@ -37,10 +40,8 @@ fn load_coords(b: &[u8], from: usize, to: usize, v: Version, work: &mut [u8]) ->
     requires { LoadsCoords b.now from to v work.old }
     ensures { (x t : ℕ) → is_coordinates t ≡ true → Took b.now x (field_as t (between b.now from to)) work.old v work.new result }
 {
-    let n = coords::tuples::put_tuples(b, from, to, &mut work[0..200000], v.coord, v.coord);
-    let mut r = v;
-    r.coord = n;
-    r
+    let coord = coords::tuples::put_tuples(b, from, to, &mut work[0..200000], v.coord, v.coord);
+    Version { coord, ..v }
 }
 
 // The tuples of a SPAS.
@@ -48,13 +49,11 @@ fn load_spas(b: &[u8], from: usize, to: usize, x: u8, v: Version, work: &mut [u8
     requires { Loads b.now SPAS from to v work.old }
     ensures { Took b.now x (field_as SPAS (between b.now from to)) work.old v work.new result }
 {
-    let n = cells::spas::load_spas(from, to, x, &mut work[292000..386000], v.spas);
-    let mut r = v;
-    r.spas = n;
-    r
+    let spas = cells::spas::load_spas(from, to, x, &mut work[292000..386000], v.spas);
+    Version { spas, ..v }
 }
 
-// A field by its tag: FOID (0x464f4944), ATTR (0x41545452), INAS (0x494e4153), SPAS (0x53504153), C2IT (0x43324954), C2IL (0x4332494c).
+// A field by its tag: FOID, ATTR, INAS, SPAS, C2IT, C2IL.
 pub fn load_field(
     b: &[u8],
     tag: u32,
@@ -67,26 +66,27 @@ pub fn load_field(
     requires { Loads b.now tag from to v work.old }
     ensures { Took b.now x (field_as tag (between b.now from to)) work.old v work.new result }
 {
-    if tag == 0x464f4944 {
-        let mut r = v;
-        r.foids = 1;
-        r.foid = from;
-        r.slice = x;
-        return r;
+    if tag == tags::FOID {
+        return Version {
+            foids: 1,
+            foid: from,
+            slice: x,
+            ..v
+        };
     }
-    if tag == 0x41545452 {
+    if tag == tags::ATTR {
         return load_attr(b, from, to, x, v, work);
     }
-    if tag == 0x494e4153 {
+    if tag == tags::INAS {
         return load_inas(b, from, to, x, v, work);
     }
-    if tag == 0x53504153 {
+    if tag == tags::SPAS {
         return load_spas(b, from, to, x, v, work);
     }
-    if tag == 0x43324954 {
+    if tag == tags::C2IT {
         return load_coords(b, from, to, v, work);
     }
-    if tag == 0x4332494c {
+    if tag == tags::C2IL {
         return load_coords(b, from, to, v, work);
     }
     v

@@ -1,9 +1,9 @@
 // A record field by field.
 ghost use Rattle.std.specs.Prelude.{◌≡◌, true, List, ℕ, ◌+◌, ◌≤◌, length, drop};
 ghost use Rattle.skeleton.specs.Place.{between, fields_at};
+ghost use Rattle.skeleton.specs.Leader.{good};
 ghost use Rattle.skeleton.specs.Record.{record_at};
 ghost use Rattle.skeleton.specs.Shape.{Bounded};
-ghost use Rattle.skeleton.specs.declared.leader.Head.TheVariants.{Good};
 ghost use Rattle.rules.specs.Record.{ident_of, rec_of};
 ghost use Rattle.contents.specs.Fit.{identified};
 ghost use Rattle.stock.specs.Stored.{Loadable};
@@ -15,7 +15,7 @@ use crate::part::load_field;
 use contents::identifier;
 use rules::Kind;
 use skeleton::directory::Shape;
-use skeleton::place::{Place, place_at};
+use skeleton::place::place_at;
 use version::Version;
 
 // What the identifier r[start..end] says, and nothing else.
@@ -56,22 +56,11 @@ fn load_fields(
 {
     let mut q = p;
     let mut r = v;
-    loop {
-        match place_at(&b[at..at + len], h, q) {
-            Place::At {
-                tag,
-                start,
-                end,
-                next,
-            } => {
-                r = load_field(b, tag, at + start, at + end, x, r, work);
-                q = next;
-            }
-            Place::Done => {
-                return r;
-            }
-        }
+    while let Some(field) = place_at(&b[at..at + len], h, q) {
+        r = load_field(b, field.tag, at + field.start, at + field.end, x, r, work);
+        q = field.next;
     }
+    r
 }
 
 // The record b[at..at + len] of kind k; x names the slice b.
@@ -84,34 +73,14 @@ pub fn load_record(
     k: Kind,
     work: &mut [u8],
 ) -> Version
-    requires { (record_at b.now at ≡ Good len h.base h.a h.b) × (length b.now ≤ 16777216) × (400000 ≤ length work.old) × Loadable k (fields_at (between b.now at (at + len)) h 24) }
+    requires { (record_at b.now at ≡ good len h) × (length b.now ≤ 16777216) × (400000 ≤ length work.old) × Loadable k (fields_at (between b.now at (at + len)) h 24) }
     ensures { ((d u : List ℕ) → source x d u ≡ b.now → Held d u work.new result (rec_of k (fields_at (between b.now at (at + len)) h 24)))
         × (drop 386000 work.new ≡ drop 386000 work.old) }
 {
-    match place_at(&b[at..at + len], h, 24) {
-        Place::At {
-            tag: _,
-            start,
-            end,
-            next,
-        } => {
-            let v = open_version(&b[at..at + len], start, end, k);
-            load_fields(b, at, len, h, x, next, v, work)
-        }
-        Place::Done => Version {
-            kind: k,
-            rcid: 0,
-            code: 0,
-            rver: 0,
-            foids: 0,
-            foid: 0,
-            slice: 0,
-            attr: 0,
-            inas: 0,
-            coord: 0,
-            spas: 0,
-            attrbytes: 0,
-            inasbytes: 0,
-        },
-    }
+    let r = &b[at..at + len];
+    let Some(ident) = place_at(r, h, 24) else {
+        unreachable!();
+    };
+    let v = open_version(r, ident.start, ident.end, k);
+    load_fields(b, at, len, h, x, ident.next, v, work)
 }

@@ -1,14 +1,14 @@
 -- Laws of cleared memory. Assumes nothing.
-use mathlib.Core.Path.{◌≡◌, ◌∙◌}
-use mathlib.Core.List.{List, []}
-use Prim.Native.Nat.{ℕ, zero, suc, ◌-◌, ◌≤◌, ◌<◌}
+use mathlib.Core.Path.{◌≡◌, ap, ◌∙◌}
+use mathlib.Core.List.{List, [], ◌++◌}
+use Prim.Native.Nat.{ℕ, zero, suc, ◌+◌, ◌-◌, ◌≤◌, ◌<◌}
 use native.Mathlib.Nat.{sub-zero, zero-sub, zero-add, suc-sub-suc}
 use native.Mathlib.Omega.{arith}
-use lib.ListN.{length, take, drop, get_or, length-append, length-replicate, get_or-replicate}
+use lib.ListN.{length, take, drop, get_or, replicate, length-append, length-take, length-drop, length-replicate, get_or-replicate}
 use lib.Seq.{take_at, drop_at, length-take-le}
 use Rattle.memory.specs.Put.{put}
 use Rattle.memory.specs.Hold.{zeros, hold}
-use Rattle.memory.proofs.PutLaws.{put_is, put_rest}
+use Rattle.memory.proofs.PutLaws.{put_is, put_rest, put_lent}
 
 -- n zeroes are n elements
 pub length_zeros : (n : ℕ) → length (zeros n) ≡ n
@@ -56,3 +56,12 @@ put_on_zeros n ys h = put_is 0 ys (zeros n) (omega (arith, length_zeros n)) ∙ 
 pub put_zeros : (at : ℕ) (s : List ℕ) → at ≤ length s → put at (zeros (length s - at)) s ≡ hold (length s) (take at s)
 unfolding hold
 put_zeros at s h = rw (length-take-le at s) (put_rest at (zeros (length s - at)) s (simp length_zeros (omega arith)))
+
+-- k elements from index `at` on that were lent and have come back as zeroes, where k is n
+pub zeros_lent : (at n k : ℕ) (ys s : List ℕ) → k ≡ n → at + n ≤ length s → ys ≡ replicate (length (take k (drop at s))) 0
+    → take at s ++ (ys ++ drop k (drop at s)) ≡ put at (zeros n) s
+unfolding zeros
+zeros_lent at n k ys s e h is =
+    let size : length (take k (drop at s)) ≡ n = simp (length-take, length-drop) (omega arith) in
+    let all : ys ≡ replicate n 0 = is ∙ ap (λ (m : ℕ). replicate m 0) size in
+    rw (e, all) (put_lent at n (replicate n 0) s (length-replicate n 0) h)

@@ -8,11 +8,7 @@ pub fn zero_part(s: &mut [u8], at: usize, n: usize)
     requires { at + n ≤ length s.old }
     ensures { s.new ≡ put at (zeros n) s.old }
 {
-    let mut k = 0;
-    while k < n {
-        s[at + k] = 0;
-        k += 1;
-    }
+    s[at..at + n].fill(0);
 }
 
 // All of s is zero from index `at` on.
@@ -20,13 +16,12 @@ pub fn zero_from(s: &mut [u8], at: usize)
     requires { at ≤ length s.old }
     ensures { s.new ≡ hold (length s.old) (take at s.old) }
 {
-    let n = s.len() - at;
-    zero_part(s, at, n);
+    s[at..].fill(0);
 }
 
 // All of s is zero.
 pub fn zero(s: &mut [u8])
     ensures { s.new ≡ zeros (length s.old) }
 {
-    zero_from(s, 0);
+    s.fill(0);
 }

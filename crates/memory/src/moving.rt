@@ -2,15 +2,14 @@
 ghost use Rattle.std.specs.Prelude.{◌≡◌, ◌+◌, ◌-◌, ◌≤◌, length};
 ghost use Rattle.memory.specs.Put.{part, put};
 
-// n bytes of src from index `from` on are stored in dst from index `at` on.
+// n bytes of src from index `from` on are stored in dst from index `at` on. A loop, since most copies are of some ten bytes, and `copy_from_slice` takes
+// half as long again for those.
 pub fn copy(src: &[u8], from: usize, n: usize, dst: &mut [u8], at: usize)
     requires { (from + n ≤ length src.now) × (at + n ≤ length dst.old) }
     ensures { dst.new ≡ put at (part from n src.now) dst.old }
 {
-    let mut k = 0;
-    while k < n {
+    for k in 0..n {
         dst[at + k] = src[from + k];
-        k += 1;
     }
 }
 
@@ -30,10 +29,8 @@ pub fn move_down(w: &mut [u8], from: usize, n: usize, at: usize)
     requires { (at ≤ from) × (from + n ≤ length w.old) }
     ensures { w.new ≡ put at (part from n w.old) w.old }
 {
-    let mut k = 0;
-    while k < n {
+    for k in 0..n {
         w[at + k] = w[from + k];
-        k += 1;
     }
 }
 
@@ -44,6 +41,7 @@ fn blocks_up(w: &mut [u8], from: usize, n: usize, at: usize) -> usize
     ensures { (result ≤ n) × (w.new ≡ put (at + result) (part (from + result) (n - result) w.old) w.old) }
 {
     let mut k = n;
+    // A `while`: it goes by blocks.
     while 64 <= k {
         k -= 64;
         move_block(w, from + k, at + k);
@@ -56,9 +54,7 @@ fn bytes_up(w: &mut [u8], from: usize, n: usize, at: usize)
     requires { (from ≤ at) × (at + n ≤ length w.old) }
     ensures { w.new ≡ put at (part from n w.old) w.old }
 {
-    let mut k = n;
-    while 0 < k {
-        k -= 1;
+    for k in (0..n).rev() {
         w[at + k] = w[from + k];
     }
 }

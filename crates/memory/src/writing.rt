@@ -30,11 +30,9 @@ pub fn put_little_endian(out: &mut [u8], at: usize, w: usize, x: usize) -> usize
     ensures { (result ≡ at + w) × Wrote at (little_endian w x) out.old result out.new }
 {
     let mut rest = x;
-    let mut k = 0;
-    while k < w {
+    for k in 0..w {
         out[at + k] = (rest % 256) as u8;
-        rest = rest / 256;
-        k += 1;
+        rest /= 256;
     }
     at + w
 }
@@ -45,11 +43,9 @@ pub fn put_decimal(out: &mut [u8], at: usize, w: usize, x: usize) -> usize
     ensures { (result ≡ at + w) × Wrote at (decimal w x) out.old result out.new }
 {
     let mut rest = x;
-    let mut k = w;
-    while 0 < k {
-        k -= 1;
+    for k in (0..w).rev() {
         out[at + k] = (48 + rest % 10) as u8;
-        rest = rest / 10;
+        rest /= 10;
     }
     at + w
 }

@@ -7,6 +7,7 @@ use native.Mathlib.Omega.{arith}
 use borrow.Author.Tests.{ltb-true, lt-ltb, le-ltb, eq-eqb, ne_eqb}
 use lib.ListN.{length, take, drop}
 use lib.Dec.{ltb}
+use Rattle.std.specs.Prelude.{Option, Some, None}
 use Rattle.base.specs.Choice.{pick}
 use Rattle.base.specs.Check.{fault}
 use Rattle.base.specs.Walk.{Got}
@@ -24,7 +25,6 @@ use Rattle.month.specs.Run.{Ran}
 use Rattle.month.specs.Next.{next_at}
 use Rattle.month.specs.declared.turns.Month.{Month}
 use Rattle.month.specs.declared.files.Next.{Next}
-use Rattle.month.specs.declared.files.Next.TheVariants.{Whole, Cut}
 use Rattle.month.proofs.FileLaws.{files_over, files_cut, files_whole, whole_placed}
 use Rattle.month.proofs.OwnLaws.{given_tested}
 
@@ -72,21 +72,21 @@ module _ (work : ℕ) (l : List ℕ) (at : ℕ) (s : Stand) where
   unfolding turns
   from_over h = found _ (files_over l at h)
 
-  module _ (h : at < length l) (x : Next) (is : x ≡ next_at l at) where
-    pub from_cut : x ≡ Cut → from work l at s ≡ stop (refusal 2 0 (fault 1 0 0)) s
+  module _ (h : at < length l) (x : Option Next) (is : x ≡ next_at l at) where
+    pub from_cut : x ≡ None → from work l at s ≡ stop (refusal 2 0 (fault 1 0 0)) s
     unfolding turns
     from_cut c = found _ (files_cut l at h x is c)
 
-    module _ (a e : ℕ) (w : x ≡ Whole a e) where
+    module _ (i : Next) (w : x ≡ Some i) where
       pub from_long : length s.pool < s.says.length → from work l at s ≡ stop (refusal 1 0 (fault 1 0 0)) s
-      from_long g = found _ (files_whole l at h x is a e w) ∙ turn_long work s _ _ _ g
+      from_long g = found _ (files_whole l at h x is i w) ∙ turn_long work s _ _ _ g
 
       module _ (g : s.says.length ≤ length s.pool) where
-        pub from_refused : ((made work s (take (e - a) (drop a l))).answer.number ≡ 0 → ⊥) → from work l at s ≡ stop (made work s (take (e - a) (drop a l))).answer s
-        from_refused n = found _ (files_whole l at h x is a e w) ∙ turn_refused work s _ _ _ g n
+        pub from_refused : ((made work s (take (i.end - i.start) (drop i.start l))).answer.number ≡ 0 → ⊥) → from work l at s ≡ stop (made work s (take (i.end - i.start) (drop i.start l))).answer s
+        from_refused n = found _ (files_whole l at h x is i w) ∙ turn_refused work s _ _ _ g n
 
-        pub from_done : (made work s (take (e - a) (drop a l))).answer.number ≡ 0 → from work l at s ≡ from work l e (apply (made work s (take (e - a) (drop a l))) s)
-        from_done n = found _ (files_whole l at h x is a e w) ∙ turn_done work s _ _ _ g n
+        pub from_done : (made work s (take (i.end - i.start) (drop i.start l))).answer.number ≡ 0 → from work l at s ≡ from work l i.end (apply (made work s (take (i.end - i.start) (drop i.start l))) s)
+        from_done n = found _ (files_whole l at h x is i w) ∙ turn_done work s _ _ _ g n
 
 -- ---- what a display's step says of a stand
 
@@ -164,45 +164,45 @@ module _ (work : ℕ) (l : List ℕ) (e : Stand) (at : ℕ) (m : Month) (first s
   pub ran_over : length l ≤ at → Ran e m first second
   ran_over h = rw (← g.comes, from_over work l at (standing m first second) h) (record { said = refl; holds = refl })
 
-  module _ (h : at < length l) (x : Next) (is : x ≡ next_at l at) (r : Month) (a : Answer) (put : r ≡ record { answer = a; applied = m.applied; second = m.second; length = m.length }) where
-    pub ran_cut : x ≡ Cut → a ≡ refusal 2 0 (fault 1 0 0) → Ran e r first second
+  module _ (h : at < length l) (x : Option Next) (is : x ≡ next_at l at) (r : Month) (a : Answer) (put : r ≡ record { answer = a; applied = m.applied; second = m.second; length = m.length }) where
+    pub ran_cut : x ≡ None → a ≡ refusal 2 0 (fault 1 0 0) → Ran e r first second
     ran_cut c y = stops e m r a _ first second first second (sym (from_cut work l at (standing m first second) h x is c) ∙ g.comes) y put refl
 
-    module _ (b o : ℕ) (w : x ≡ Whole b o) (n : ℕ) (long : n ≡ pick m.second (length second) (length first)) where
+    module _ (i : Next) (w : x ≡ Some i) (n : ℕ) (long : n ≡ pick m.second (length second) (length first)) where
       pub ran_long : n < m.length → a ≡ refusal 1 0 (fault 1 0 0) → Ran e r first second
       ran_long t y =
           let z = long ∙ pick_length m.second second first in
-          stops e m r a _ first second first second (sym (from_long work l at (standing m first second) h x is b o w (omega arith)) ∙ g.comes) y put refl
+          stops e m r a _ first second first second (sym (from_long work l at (standing m first second) h x is i w (omega arith)) ∙ g.comes) y put refl
 
-      module _ (t : m.length ≤ n) (d : Shown) (first' second' w' : List ℕ) (v : ℕ) (same : v ≡ work) (h' : Followed (chart_of m) first second (take (o - b) (drop b l)) v d first' second' w') where
+      module _ (t : m.length ≤ n) (d : Shown) (first' second' w' : List ℕ) (v : ℕ) (same : v ≡ work) (h' : Followed (chart_of m) first second (take (i.end - i.start) (drop i.start l)) v d first' second' w') where
         pub ran_refused : a ≡ d.answer → (a.number ≡ 0 → ⊥) → Ran e r first' second'
         ran_refused y nz =
-            let f : Followed (chart_of m) first second (take (o - b) (drop b l)) work d first' second' w' = rw same at h' in
+            let f : Followed (chart_of m) first second (take (i.end - i.start) (drop i.start l)) work d first' second' w' = rw same at h' in
             let z = long ∙ pick_length m.second second first in
-            let q : a ≡ (made work (standing m first second) (take (o - b) (drop b l))).answer = y ∙ shown_made m first second _ work d first' second' w' f in
+            let q : a ≡ (made work (standing m first second) (take (i.end - i.start) (drop i.start l))).answer = y ∙ shown_made m first second _ work d first' second' w' f in
             stops e m r a _ first second first' second'
-            (sym (from_refused work l at (standing m first second) h x is b o w (omega arith) (rw q at nz)) ∙ g.comes) q put (shown_kept m first second _ work d first' second' w' f)
+            (sym (from_refused work l at (standing m first second) h x is i w (omega arith) (rw q at nz)) ∙ g.comes) q put (shown_kept m first second _ work d first' second' w' f)
 
   -- a file more is applied
-  module _ (h : at < length l) (x : Next) (is : x ≡ next_at l at) (b o : ℕ) (w : x ≡ Whole b o) (n : ℕ) (long : n ≡ pick m.second (length second) (length first)) (t : m.length ≤ n)
-      (d : Shown) (first' second' w' : List ℕ) (v : ℕ) (same : v ≡ work) (h' : Followed (chart_of m) first second (take (o - b) (drop b l)) v d first' second' w') (z : d.answer.number ≡ 0)
+  module _ (h : at < length l) (x : Option Next) (is : x ≡ next_at l at) (i : Next) (w : x ≡ Some i) (n : ℕ) (long : n ≡ pick m.second (length second) (length first)) (t : m.length ≤ n)
+      (d : Shown) (first' second' w' : List ℕ) (v : ℕ) (same : v ≡ work) (h' : Followed (chart_of m) first second (take (i.end - i.start) (drop i.start l)) v d first' second' w') (z : d.answer.number ≡ 0)
       (m' : Month) (u : m' ≡ record { answer = d.answer; applied = m.applied + 1; second = d.chart.second; length = d.chart.length })
       (byte : Bytes l) where
-    own_chart : Followed (chart_of m) first second (take (o - b) (drop b l)) work d first' second' w' → Tested (chart_in (chart_of m') first' second') × Bytes (chart_in (chart_of m') first' second')
+    own_chart : Followed (chart_of m) first second (take (i.end - i.start) (drop i.start l)) work d first' second' w' → Tested (chart_in (chart_of m') first' second') × Bytes (chart_in (chart_of m') first' second')
     own_chart f =
         let same : chart_in (chart_of m') first' second' ≡ chart_in d.chart first' second' = rw u in
-        let given = given_tested _ _ _ work g.bytes (bytes_take (o - b) (drop b l) (bytes_drop l b byte)) (sym (ap (λ (a : Answer). a.number) f.said) ∙ z) in
+        let given = given_tested _ _ _ work g.bytes (bytes_take (i.end - i.start) (drop i.start l) (bytes_drop l i.start byte)) (sym (ap (λ (a : Answer). a.number) f.said) ∙ z) in
         rw (same, f.holds) given
 
-    pub going_on : Going work l e o m' first' second'
+    pub going_on : Going work l e i.end m' first' second'
     going_on =
-        let f : Followed (chart_of m) first second (take (o - b) (drop b l)) work d first' second' w' = rw same at h' in
+        let f : Followed (chart_of m) first second (take (i.end - i.start) (drop i.start l)) work d first' second' w' = rw same at h' in
         let y = long ∙ pick_length m.second second first in
-        let p = whole_placed l at h x b o w is in
+        let p = whole_placed l at h x i w is in
         let k : m'.applied ≡ m.applied + 1 = rw u in
-        let nz : (made work (standing m first second) (take (o - b) (drop b l))).answer.number ≡ 0 = rw (shown_made m first second _ work d first' second' w' f) at z in
+        let nz : (made work (standing m first second) (take (i.end - i.start) (drop i.start l))).answer.number ≡ 0 = rw (shown_made m first second _ work d first' second' w' f) at z in
         record {
-          comes = rw (shown_applied m first second _ work d first' second' w' f z m' u) (sym (from_done work l at (standing m first second) h x is b o w (omega arith) nz) ∙ g.comes);
+          comes = rw (shown_applied m first second _ work d first' second' w' f z m' u) (sym (from_done work l at (standing m first second) h x is i w (omega arith) nz) ∙ g.comes);
           inside = p.2;
           few = let q = g.few in omega (arith, p.0, p.1);
           bytes = (own_chart f).1;

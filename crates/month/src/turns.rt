@@ -6,7 +6,7 @@ ghost use Rattle.rules.specs.Answers.{refusal, success};
 ghost use Rattle.month.specs.Month.{month_of};
 ghost use Rattle.month.specs.Run.{Ran};
 
-use crate::files::{Next, next_file};
+use crate::files::next_file;
 use display::{Chart, Shown, hand_tested};
 use rules::Answer;
 
@@ -24,22 +24,15 @@ pub struct Month {
 fn plain(number: u8, file: u8) -> Answer
     ensures { result ≡ refusal file 0 (fault number 0 0) }
 {
-    Answer {
-        number,
-        file,
-        rec: 0,
-        length: 0,
-        count: 0,
-    }
+    Answer::refused(number, file, 0)
 }
 
 // Before the first file: the chart stands in the first pool.
 fn begun(length: usize) -> Month
     ensures { result ≡ record { answer = success 0 0; applied = 0; second = false; length = length } }
 {
-    let answer = plain(0, 0);
     Month {
-        answer,
+        answer: plain(0, 0),
         applied: 0,
         second: false,
         length,
@@ -50,12 +43,7 @@ fn begun(length: usize) -> Month
 fn stopped(m: Month, answer: Answer) -> Month
     ensures { result ≡ record { answer = answer; applied = m.applied; second = m.second; length = m.length } }
 {
-    Month {
-        answer,
-        applied: m.applied,
-        second: m.second,
-        length: m.length,
-    }
+    Month { answer, ..m }
 }
 
 // A file was applied.
@@ -63,13 +51,11 @@ fn applied(m: Month, r: Shown) -> Month
     requires { m.applied < 9223372036854775808 }
     ensures { result ≡ record { answer = r.answer; applied = m.applied + 1; second = r.chart.second; length = r.chart.length } }
 {
-    let answer = r.answer;
-    let chart = r.chart;
     Month {
-        answer,
+        answer: r.answer,
         applied: m.applied + 1,
-        second: chart.second,
-        length: chart.length,
+        second: r.chart.second,
+        length: r.chart.length,
     }
 }
 
@@ -77,10 +63,7 @@ fn applied(m: Month, r: Shown) -> Month
 fn pool_length(in_second: bool, first: usize, second: usize) -> usize
     ensures { result ≡ pick in_second second first }
 {
-    if in_second {
-        return second;
-    }
-    first
+    if in_second { second } else { first }
 }
 
 // All files of a list up to the first that is refused. The pool without the chart may hold anything then.
@@ -99,29 +82,24 @@ pub fn run(
     }
     let mut at = 0;
     while at < list.len() {
-        match next_file(list, at) {
-            Next::Cut => {
-                return stopped(m, plain(1, 2));
-            }
-            Next::Whole { start, end } => {
-                if pool_length(m.second, first.len(), second.len()) < m.length {
-                    return stopped(m, plain(1, 1));
-                }
-                let chart = Chart {
-                    second: m.second,
-                    length: m.length,
-                };
-                // What this call wrote itself has passed its tests.
-                let own = 0 < m.applied;
-                let r = hand_tested(own, chart, first, second, &list[start..end], work);
-                let answer = r.answer;
-                if answer.number != 0 {
-                    return stopped(m, answer);
-                }
-                m = applied(m, r);
-                at = end;
-            }
+        let Some(file) = next_file(list, at) else {
+            return stopped(m, plain(1, 2));
+        };
+        if pool_length(m.second, first.len(), second.len()) < m.length {
+            return stopped(m, plain(1, 1));
         }
+        let chart = Chart {
+            second: m.second,
+            length: m.length,
+        };
+        // What this call wrote itself has passed its tests.
+        let own = 0 < m.applied;
+        let r = hand_tested(own, chart, first, second, &list[file.start..file.end], work);
+        if r.answer.number != 0 {
+            return stopped(m, r.answer);
+        }
+        m = applied(m, r);
+        at = file.end;
     }
     m
 }

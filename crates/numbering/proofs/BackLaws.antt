@@ -57,12 +57,13 @@ pub parent_none : (w : List ℕ) (i d j : ℕ) → parent_before w d j ≡ paren
 parent_none w i d zero inv h = sym (parent_start w d) ∙ inv
 parent_none w i d (suc j) inv h = absurd (omega arith)
 
-pub parent_here : (w : List ℕ) (i d j x : ℕ) → parent_before w d j ≡ parent_before w d i → 0 < j → x ≡ depth_of w (j - 1) → x < d → j ≡ parent_before w d i
+pub parent_here : (w : List ℕ) (i d j x : ℕ) → parent_before w d j ≡ parent_before w d i → 0 < j → x ≡ depth_of w (j - 1) → x < d → j - 1 + 1 ≡ parent_before w d i
 parent_here w i d zero x inv h e l = absurd (omega arith)
 parent_here w i d (suc j) x inv h e l =
     let k : suc j - 1 ≡ j = omega arith in
     let e' : x ≡ depth_of w j = rw k at e in
-    sym (parent_over_less w d j (omega arith)) ∙ inv
+    let s : suc j - 1 + 1 ≡ suc j = omega arith in
+    s ∙ sym (parent_over_less w d j (omega arith)) ∙ inv
 
 pub parent_on : (w : List ℕ) (i d j x : ℕ) → parent_before w d j ≡ parent_before w d i → 0 < j → x ≡ depth_of w (j - 1) → d ≤ x
     → parent_before w d (j - 1) ≡ parent_before w d i

@@ -197,6 +197,11 @@ pub begun_at : (s u w : List ℕ) (n : ℕ) (out₀ : List ℕ) (at : ℕ) (out 
     → Begun s u w n at out₀ (record { count = i; behind = p }) out
 begun_at s u w n out₀ at out p i inv = record { few = inv.inside; is = inv.is }
 
+-- all of them were
+pub begun_all : (s u w : List ℕ) (n : ℕ) (out₀ : List ℕ) (at : ℕ) (out : List ℕ) (p i : ℕ) → EmitAt s u w 0 n out₀ at out p i → n ≤ i
+    → Begun s u w n at out₀ (record { count = n; behind = p }) out
+begun_all s u w n out₀ at out p i inv h = record { few = omega arith; is = emit_all s u w 0 n out₀ at out p i inv h }
+
 -- ---- `emit`
 
 -- all items were written

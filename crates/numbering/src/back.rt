@@ -9,13 +9,10 @@ pub fn parent_before(w: &[u8], i: usize, depth: usize) -> usize
     requires { 8 * i ≤ length w.now }
     ensures { (result ≡ parent_before w.now depth i) × (result ≤ i) }
 {
-    let mut j = i;
-    while 0 < j {
-        let k = j - 1;
+    for k in (0..i).rev() {
         if number(w, 8 * k) < depth {
-            return j;
+            return k + 1;
         }
-        j = k;
     }
     0
 }
@@ -25,15 +22,12 @@ pub fn twins_before(w: &[u8], i: usize, depth: usize, code: usize) -> usize
     requires { 8 * i ≤ length w.now }
     ensures { (result ≡ twins_before w.now depth code i) × (result ≤ i) }
 {
-    let mut j = i;
     let mut t = 0;
-    while 0 < j {
-        let k = j - 1;
+    for k in (0..i).rev() {
         if number(w, 8 * k) < depth {
             return t;
         }
         t += twin(w, k, depth, code);
-        j = k;
     }
     t
 }

@@ -6,8 +6,9 @@ ghost use Rattle.numbering.specs.Numbers.{parent_before};
 ghost use Rattle.numbering.specs.Block.{Parents, keyed, Tallied, Joined, Numbered};
 
 use crate::back::twins_before;
-use crate::parents::{next_parent, wide};
-use book::book::{page, sort};
+use crate::parents::next_parent;
+use book::book::page;
+use book::order::sort;
 use items::item::number;
 
 // The parent, the depth and the code of item i in one number.
@@ -23,13 +24,13 @@ fn key_at(w: &[u8], i: usize, parent: usize) -> u64
 // How many twins stand before item i, which is then counted, if the book has it; where it has not, only if that is asked for.
 fn join(w: &[u8], i: usize, parent: usize, b: &[u64], t: &mut [u16], asked: bool) -> usize
     requires i_in_bounds { (8 * i + 8 ≤ length w.now) × (length w.now < 524288) × (0 < length b.now) × (length b.now ≤ length t.old) }
-    requires parent_value { (parent ≡ parent_before w.now (depth_of w.now i) i) × (parent ≤ i) × Tallied w.now b.now t.old i }
+    requires counted { (parent ≡ parent_before w.now (depth_of w.now i) i) × (parent ≤ i) × Tallied w.now b.now t.old i }
     ensures { Joined w.now b.now t.new i (asked ≡ true) result }
 {
     let key = key_at(w, i, parent);
     let j = page(b, key);
     if b[j] == key {
-        let twins = wide(t[j]);
+        let twins = usize::from(t[j]);
         t[j] = (twins + 1) as u16;
         return twins;
     }
@@ -45,15 +46,13 @@ fn join(w: &[u8], i: usize, parent: usize, b: &[u64], t: &mut [u16], asked: bool
 fn gather(w: &[u8], x: usize, y: usize, parents: &mut [u16], b: &mut [u64])
     requires { (8 * y ≤ length w.now) × (length w.now < 524288) × Parents w.now x parents.old }
 {
-    let mut i = x;
-    while i < y {
+    for i in x..y {
         let parent = next_parent(w, i, parents);
         let k = i - x;
         if b.len() <= k {
             return;
         }
         b[k] = key_at(w, i, parent);
-        i += 1;
     }
 }
 
@@ -62,11 +61,9 @@ fn count_before(w: &[u8], x: usize, parents: &mut [u16], b: &[u64], t: &mut [u16
     requires { (8 * x ≤ length w.now) × (length w.now < 524288) × (0 < length b.now) × (length b.now ≤ length t.old) × Tallied w.now b.now t.old 0 }
     ensures { Tallied w.now b.now t.new x × Parents w.now x parents.new }
 {
-    let mut i = 0;
-    while i < x {
+    for i in 0..x {
         let parent = next_parent(w, i, parents);
         join(w, i, parent, b, t, false);
-        i += 1;
     }
 }
 
@@ -84,14 +81,12 @@ fn number_items(
     requires tallied { Tallied w.now b.now t.old x × Parents w.now x parents.old }
     ensures { Numbered w.now x y numbers.new × Parents w.now y parents.new }
 {
-    let mut i = x;
-    while i < y {
+    for i in x..y {
         let parent = next_parent(w, i, parents);
         let twins = join(w, i, parent, b, t, true);
         let k = 2 * (i - x);
         numbers[k] = (twins + 1) as u16;
         numbers[k + 1] = parent as u16;
-        i += 1;
     }
 }
 

@@ -8,7 +8,7 @@ ghost use Rattle.numbering.specs.Tuples.{tuple_bytes, size_of, tuple_with, bytes
 
 use crate::block::number_block;
 use crate::known::next_numbers;
-use crate::parents::{know_parents, wide};
+use crate::parents::know_parents;
 use crate::values::{put_value, value_length};
 use items::item::number;
 use memory::writing::{put_byte, put_little_endian};
@@ -26,10 +26,8 @@ pub fn size(s: &[u8], u: &[u8], w: &[u8], n: usize) -> usize
     ensures { Sized s.now u.now w.now n result }
 {
     let mut t = 0;
-    let mut i = 0;
-    while i < n {
+    for i in 0..n {
         t += value_length(s, u, w, i) + 8;
-        i += 1;
     }
     t
 }
@@ -66,13 +64,12 @@ fn emit_items(
     at: usize,
 ) -> Part
     requires n_in_bounds { (8 * n ≤ length w.now) × (length w.now < 524288) × Known w.now 0 known.old }
-    requires n_in_bounds_2 { at + length (bytes_to s.now u.now w.now 0 n) ≤ length out.old }
+    requires room { at + length (bytes_to s.now u.now w.now 0 n) ≤ length out.old }
     ensures { Begun s.now u.now w.now n at out.old result out.new }
 {
     let mut p = at;
-    let mut i = 0;
     let mut steps = 0;
-    while i < n {
+    for i in 0..n {
         if 8192 + 32 * i < steps {
             return Part {
                 count: i,
@@ -82,10 +79,9 @@ fn emit_items(
         let x = next_numbers(w, i, known);
         p = put_tuple(s, u, w, i, x.index, x.parent, out, p);
         steps += x.steps;
-        i += 1;
     }
     Part {
-        count: i,
+        count: n,
         behind: p,
     }
 }
@@ -102,17 +98,15 @@ fn emit_numbered(
     at: usize,
 ) -> usize
     requires x_le_y { (x ≤ y) × (8 * y ≤ length w.now) × (length w.now < 524288) × (2 * y ≤ 2 * x + length numbers.now) × Numbered w.now x y numbers.now }
-    requires y_in_bounds { at + length (bytes_to s.now u.now w.now x y) ≤ length out.old }
+    requires room { at + length (bytes_to s.now u.now w.now x y) ≤ length out.old }
     ensures { Wrote at (bytes_to s.now u.now w.now x y) out.old result out.new }
 {
     let mut p = at;
-    let mut i = x;
-    while i < y {
+    for i in x..y {
         let k = 2 * (i - x);
-        let index = wide(numbers[k]);
-        let parent = wide(numbers[k + 1]);
+        let index = usize::from(numbers[k]);
+        let parent = usize::from(numbers[k + 1]);
         p = put_tuple(s, u, w, i, index, parent, out, p);
-        i += 1;
     }
     p
 }
@@ -122,16 +116,13 @@ fn block_end(x: usize, n: usize) -> usize
     requires { x < n }
     ensures { (x < result) × (result ≤ n) × (result ≤ x + 512) }
 {
-    if n - x < 512 {
-        return n;
-    }
-    x + 512
+    if n - x < 512 { n } else { x + 512 }
 }
 
 // The items from x up to n as tuples, from `at` on, block by block. The table of parents has room for each depth of the longest record.
 fn emit_blocks(s: &[u8], u: &[u8], w: &[u8], x: usize, n: usize, out: &mut [u8], at: usize) -> usize
     requires x_le_n { (x ≤ n) × (8 * n ≤ length w.now) × (length w.now < 524288) }
-    requires n_in_bounds { at + length (bytes_to s.now u.now w.now x n) ≤ length out.old }
+    requires room { at + length (bytes_to s.now u.now w.now x n) ≤ length out.old }
     ensures { Wrote at (bytes_to s.now u.now w.now x n) out.old result out.new }
 {
     let mut parents = [0u16; 12500];
@@ -139,6 +130,7 @@ fn emit_blocks(s: &[u8], u: &[u8], w: &[u8], x: usize, n: usize, out: &mut [u8],
     know_parents(w, x, &mut parents);
     let mut p = at;
     let mut i = x;
+    // A `while`: it goes on by blocks.
     while i < n {
         let y = block_end(i, n);
         number_block(w, i, y, &mut parents, &mut numbers);
@@ -151,7 +143,7 @@ fn emit_blocks(s: &[u8], u: &[u8], w: &[u8], x: usize, n: usize, out: &mut [u8],
 // The n items of w as tuples, from `at` on; s the dataset, u the update.
 pub fn emit(s: &[u8], u: &[u8], w: &[u8], n: usize, out: &mut [u8], at: usize) -> usize
     requires n_in_bounds { (8 * n ≤ length w.now) × (length w.now < 524288) × (length s.now ≤ 16777216) × (length u.now ≤ 16777216) }
-    requires n_in_bounds_2 { at + size_of (its s.now u.now w.now 0 n) ≤ length out.old }
+    requires room { at + size_of (its s.now u.now w.now 0 n) ≤ length out.old }
     ensures { Emitted s.now u.now w.now n at out.old result out.new }
 {
     let mut known = [0usize; 24];

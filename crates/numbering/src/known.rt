@@ -21,9 +21,10 @@ fn parent_of(w: &[u8], i: usize, depth: usize, known: &[usize]) -> usize
     ensures { (result ≡ parent_before w.now depth i) × (result ≤ i) }
 {
     if depth < 8 {
-        return known[3 * depth];
+        known[3 * depth]
+    } else {
+        parent_before(w, i, depth)
     }
-    parent_before(w, i, depth)
 }
 
 // How many items of this code and depth stand before item i under its parent.
@@ -31,10 +32,8 @@ fn twins_of(w: &[u8], i: usize, depth: usize, code: usize, known: &[usize]) -> u
     requires { (8 * i ≤ length w.now) × Known w.now i known.now }
     ensures { (result ≡ twins_before w.now depth code i) × (result ≤ i) }
 {
-    if depth < 8 {
-        if known[3 * depth + 1] == code {
-            return known[3 * depth + 2];
-        }
+    if depth < 8 && known[3 * depth + 1] == code {
+        return known[3 * depth + 2];
     }
     twins_before(w, i, depth, code)
 }
@@ -44,10 +43,8 @@ fn steps_of(i: usize, depth: usize, code: usize, parent: usize, known: &[usize])
     requires { (length known.now ≡ 24) × (parent ≤ i) }
     ensures { result ≤ i }
 {
-    if depth < 8 {
-        if known[3 * depth + 1] == code {
-            return 0;
-        }
+    if depth < 8 && known[3 * depth + 1] == code {
+        return 0;
     }
     i - parent
 }
@@ -57,11 +54,9 @@ fn begin_runs(known: &mut [usize], i: usize, deeper: usize)
     requires { (length known.old ≡ 24) × (i < 65536) }
     ensures { (w : List ℕ) → depth_of w i < deeper → KnownTo deeper w (i + 1) known.old → Known w (i + 1) known.new }
 {
-    let mut d = deeper;
-    while d < 8 {
+    for d in deeper..8 {
         known[3 * d] = i + 1;
         known[3 * d + 2] = 0;
-        d += 1;
     }
 }
 

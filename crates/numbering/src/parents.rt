@@ -8,25 +8,16 @@ use crate::back::parent_before;
 use items::depth_under;
 use items::item::number;
 
-// The same number as a usize.
-pub fn wide(x: u16) -> usize
-    ensures { (result ≡ x) × (result < 65536) }
-{
-    x as usize
-}
-
 // Place i is the parent at the depths from `shallow` to `depth`, as far as the table goes.
 fn deepen(parents: &mut [u16], i: usize, shallow: usize, depth: usize)
     requires { i < 65536 }
     ensures { (w : List ℕ) → shallow ≡ under w i → Parents w i parents.old → ParentsTo (depth + 1) w i parents.new }
 {
-    let mut d = shallow;
-    while d <= depth {
-        if parents.len() <= d {
+    for d in shallow..parents.len() {
+        if depth < d {
             return;
         }
         parents[d] = i as u16;
-        d += 1;
     }
 }
 
@@ -39,9 +30,10 @@ pub fn next_parent(w: &[u8], i: usize, parents: &mut [u16]) -> usize
     let shallow = depth_under(w, i);
     deepen(parents, i, shallow, depth);
     if depth < parents.len() {
-        return wide(parents[depth]);
+        usize::from(parents[depth])
+    } else {
+        parent_before(w, i, depth)
     }
-    parent_before(w, i, depth)
 }
 
 // Brings the table up to item x.
@@ -49,9 +41,7 @@ pub fn know_parents(w: &[u8], x: usize, parents: &mut [u16])
     requires { (8 * x ≤ length w.now) × (length w.now < 524288) }
     ensures { Parents w.now x parents.new }
 {
-    let mut i = 0;
-    while i < x {
+    for i in 0..x {
         next_parent(w, i, parents);
-        i += 1;
     }
 }

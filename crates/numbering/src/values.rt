@@ -13,7 +13,7 @@ fn offset_at(w: &[u8], i: usize) -> usize
     ensures { result ≡ offset_of w.now i }
 {
     let low = number(w, 8 * i + 4);
-    let high = w[8 * i + 6] as usize;
+    let high = usize::from(w[8 * i + 6]);
     low + 65536 * high
 }
 
@@ -21,10 +21,7 @@ fn offset_at(w: &[u8], i: usize) -> usize
 fn text_length(b: &[u8], o: usize) -> usize
     ensures { (result ≡ length (text_from b.now o)) × (result ≤ length b.now) }
 {
-    if b.len() <= o {
-        return 0;
-    }
-    text_end(b, o) - o
+    if b.len() <= o { 0 } else { text_end(b, o) - o }
 }
 
 // How long the value of item i is.
@@ -34,9 +31,10 @@ pub fn value_length(s: &[u8], u: &[u8], w: &[u8], i: usize) -> usize
 {
     let o = offset_at(w, i);
     if w[8 * i + 7] == 0 {
-        return text_length(s, o);
+        text_length(s, o)
+    } else {
+        text_length(u, o)
     }
-    text_length(u, o)
 }
 
 // The text of b from o on, and 1F.
@@ -59,7 +57,8 @@ pub fn put_value(s: &[u8], u: &[u8], w: &[u8], i: usize, out: &mut [u8], at: usi
 {
     let o = offset_at(w, i);
     if w[8 * i + 7] == 0 {
-        return put_text(s, o, out, at);
+        put_text(s, o, out, at)
+    } else {
+        put_text(u, o, out, at)
     }
-    put_text(u, o, out, at)
 }

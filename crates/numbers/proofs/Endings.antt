@@ -1,22 +1,21 @@
 -- A walk ends well or with a number that its steps have; the skeleton's over a file with 1, 2 or 3. Assumes nothing.
 use Prim.Native.Nat.{ℕ, ◌+◌, ◌-◌, ◌<◌}
 use mathlib.Core.Path.{◌≡◌, refl, ap, ◌∙◌}
-use mathlib.Core.Bool.{Bool, true, false, not}
+use mathlib.Core.Bool.{Bool, true, false}
 use mathlib.Core.List.{List, [], ◌∷◌}
 use lib.ListN.{length, take, drop}
 use lib.Dec.{eqb, ltb}
+use Rattle.std.specs.Prelude.{Result, Ok, Err}
 use Rattle.base.specs.Choice.{pick, either}
 use Rattle.base.specs.Walk.{Step, more, over, Got, follow, walk, Lower}
 use Rattle.base.proofs.ChoiceLaws.{by_test}
 use Rattle.base.proofs.WalkLaws.{walk_step, by_measure}
-use Rattle.skeleton.specs.Digits.{number_at}
-use Rattle.skeleton.specs.Leader.{shaped, template, within, stated_of, leader_of}
+use Rattle.skeleton.specs.Leader.{number_of, leader_of}
 use Rattle.skeleton.specs.Directory.{Body, lies, ended, entry_at, step_by, dir_step, fields_from, fields_of}
 use Rattle.skeleton.specs.File.{Field, step_dir, step_head, file_step, records_from, records_of}
 use Rattle.skeleton.specs.declared.leader.Head.{Head}
-use Rattle.skeleton.specs.declared.leader.Head.TheVariants.{Good, Refused}
-use Rattle.skeleton.specs.declared.digits.Number.{Number}
-use Rattle.skeleton.specs.declared.digits.Number.TheVariants.{Value, NotDigits}
+use Rattle.skeleton.specs.declared.leader.Broken.{Broken}
+use Rattle.skeleton.specs.declared.leader.Broken.TheVariants.{Cut, Leader, Directory}
 use Rattle.skeleton.specs.declared.directory.Entry.{Entry}
 use Rattle.skeleton.specs.declared.directory.Entry.TheVariants.{Field as FieldAt, End, Bad}
 use Rattle.skeleton.proofs.DirectoryLaws.{directory_falls}
@@ -81,43 +80,28 @@ fields_end r base a b =
 
 -- ---- a file
 
--- a leader that is refused
-data Leads : Head → Type 0 where
-  good : {len base a b : ℕ} → Leads (Good len base a b)
-  bad : {n : ℕ} → ends in_skeleton n ≡ true → Leads (Refused n)
-
--- a choice of leaders
-lead_pick : (b : Bool) (x y : Head) → Leads x → Leads y → Leads (pick b x y)
-lead_pick true x y p q = p
-lead_pick false x y p q = q
-
--- the numbers of a leader
-within_leads : (s : List ℕ) (x y : Number) → Leads (within s x y)
+-- a record that is refused
+broken_ends : (x : Broken) → ends in_skeleton (number_of x) ≡ true
 unfolding ends is_in
-within_leads s (Value len) (Value base) = lead_pick (ltb (length s) len) _ _ (bad refl) good
-within_leads s (Value len) NotDigits = bad refl
-within_leads s NotDigits y = bad refl
-
--- a leader
-leader_leads : (s : List ℕ) (first : Bool) → Leads (leader_of s first)
-unfolding leader_of stated_of ends is_in
-leader_leads s first =
-    lead_pick (ltb (length s) 24) _ _ (bad refl)
-    (lead_pick (not (shaped (template first) s)) _ _ (bad refl) (within_leads s (number_at s 0 5) (number_at s 12 5)))
+broken_ends Cut = refl
+broken_ends Leader = refl
+broken_ends Directory = refl
 
 -- a record whose directory was walked
 step_dir_ends : (next : ℕ) (r : List ℕ) (g : Got Body) → ends in_skeleton g.ending ≡ true → Ends in_skeleton (step_dir next r g)
 step_dir_ends next r g e = step_pick (eqb g.ending 0) _ _ on (off e)
 
 -- a record whose leader was read
-step_head_ends : (at : ℕ) (rest : List ℕ) (h : Head) → Leads h → Ends in_skeleton (step_head at rest h)
-step_head_ends at rest (Good len base a b) good = step_dir_ends (at + len) (take len rest) (fields_of (take len rest) base a b) (fields_end (take len rest) base a b)
-step_head_ends at rest (Refused n) (bad e) = off e
+step_head_ends : (at : ℕ) (rest : List ℕ) (h : Result Head Broken) → Ends in_skeleton (step_head at rest h)
+step_head_ends at rest (Ok d) =
+    let r = take d.len rest in
+    step_dir_ends (at + d.len) r (fields_of r d.shape.base d.shape.a d.shape.b) (fields_end r d.shape.base d.shape.a d.shape.b)
+step_head_ends at rest (Err x) = off (broken_ends x)
 
 -- a step over a file
 file_ends : (f : List ℕ) (at : ℕ) → Ends in_skeleton (file_step f at)
 unfolding ends
-file_ends f at = step_pick (ltb at (length f)) _ _ (step_head_ends at (drop at f) _ (leader_leads (drop at f) (eqb at 0))) (off refl)
+file_ends f at = step_pick (ltb at (length f)) _ _ (step_head_ends at (drop at f) (leader_of (drop at f) (eqb at 0))) (off refl)
 
 -- the records of a file
 pub records_end : (f : List ℕ) → ends in_skeleton (records_of f).ending ≡ true

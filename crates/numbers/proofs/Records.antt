@@ -6,6 +6,7 @@ use mathlib.Core.Option.{Option, some, none}
 use mathlib.Core.List.{List, [], ◌∷◌}
 use lib.ListN.{length, take}
 use lib.Dec.{eqb, ltb}
+use Rattle.std.specs.Prelude.{Result, Ok, Err}
 use Rattle.base.specs.Choice.{both, either}
 use Rattle.base.specs.Check.{Check}
 use Rattle.base.specs.Lists.{empty, each}
@@ -15,8 +16,6 @@ use Rattle.fields.specs.Table.{head_of, tuple_of}
 use Rattle.fields.specs.Content.{tally_field, many}
 use Rattle.fields.specs.declared.Format.{Format}
 use Rattle.fields.specs.declared.Format.TheVariants.{AttrNew, Attr}
-use Rattle.fields.specs.declared.Tally.{Tally}
-use Rattle.fields.specs.declared.Tally.TheVariants.{Whole, Short}
 use Rattle.rules.specs.Tags.{ATTR, INAS, COCC, DSID}
 use Rattle.rules.specs.ByTag.{has, front}
 use Rattle.rules.specs.Kind.{Row, kind_of, rank, rows_of, general_rows}
@@ -71,10 +70,10 @@ limited4 m least (f ∷ fs) =
 -- ---- 5
 
 -- a field that is filled
-limited_filled : (i : ℕ) (tupled : Bool) (t : Tally) → LimitedCheck (5 ∷ []) (filled i tupled t)
+limited_filled : (i : ℕ) (tupled : Bool) (t : Result ℕ ℕ) → LimitedCheck (5 ∷ []) (filled i tupled t)
 unfolding is_in
-limited_filled i tupled (Whole n) = limited_ok
-limited_filled i tupled (Short j) = limited_no refl
+limited_filled i tupled (Ok n) = limited_ok
+limited_filled i tupled (Err j) = limited_no refl
 
 -- a field has its format
 limited_stands : (i : ℕ) (k : Format) (b : List ℕ) → LimitedCheck (5 ∷ []) (stands i k b)

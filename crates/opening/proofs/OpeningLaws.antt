@@ -9,17 +9,21 @@ use borrow.Author.Tests.{ne_eqb, lt-ltb, le-leb, leb-true, leb-false}
 use lib.Dec.{leb, ltb}
 use lib.ListN.{length}
 use Rattle.base.specs.Choice.{pick, both}
+use Rattle.std.specs.Prelude.{Result, Ok, Err}
+use Rattle.base.specs.declared.Fault.{Fault}
 use Rattle.base.specs.Check.{Check, ok, no, bind, fault, Passed, pass}
 use Rattle.base.specs.Walk.{before}
 use Rattle.base.proofs.ChoiceLaws.{both_false}
 use Rattle.skeleton.specs.File.{Field, records_from, records_of}
+use Rattle.skeleton.specs.Leader.{number_of, good, leader_of}
 use Rattle.skeleton.specs.Place.{between, fields_at}
 use Rattle.skeleton.specs.Record.{record_at}
 use Rattle.skeleton.specs.declared.directory.Shape.{Shape}
 use Rattle.skeleton.specs.declared.leader.Head.{Head}
-use Rattle.skeleton.specs.declared.leader.Head.TheVariants.{Good, Refused}
+use Rattle.skeleton.specs.declared.leader.Broken.{Broken}
 use Rattle.skeleton.proofs.FileLaws.{records_over, records_refused, records_more, records_none, records_all}
-use Rattle.skeleton.proofs.RecordLaws.{refusal_some, right}
+use Rattle.skeleton.proofs.LeaderLaws.{number_some}
+use Rattle.skeleton.proofs.RecordLaws.{right}
 use Rattle.rules.specs.Record.{Rec}
 use Rattle.rules.specs.General.{general_record}
 use Rattle.rules.specs.Outcome.{Outcome, done, refused, and_then, at}
@@ -27,8 +31,7 @@ use Rattle.rules.specs.File.{adds_none, dataset_test, ending, taken}
 use Rattle.rules.specs.declared.Mode.TheVariants.{InDataset}
 use Rattle.rules.proofs.FileLaws.{taken_over, taken_more}
 use Rattle.rules.proofs.OutcomeLaws.{and_then_assoc, and_then_inv, at_inv, done_inj}
-use Rattle.skeleton.specs.Leader.{leader_of}
-use Rattle.opening.specs.Carried.{head_at, tested_by, carried, begins_csid, unread, first_two, first_three}
+use Rattle.opening.specs.Carried.{with_fault, head_at, tested_by, carried, begins_csid, unread, first_two, first_three}
 use Rattle.opening.proofs.CarriedLaws.{there}
 
 -- what is done and then done is done
@@ -52,16 +55,16 @@ module _ (test : ℕ → List Rec → List Field → Check (List Rec)) (file lea
   ended k z = let o : k ≡ 0 → ⊥ = λ y. omega arith in simp (ne_eqb k 0 o)
 
   -- the record that the skeleton finds at p by its own test, and then the rest
-  pub by_head : (p : ℕ) → p < length f → (q : Head) → q ≡ record_at f p
-      → taken test file least n seen (records_from f p) ≡ and_then (tested_by file n own f p q) (λ e. taken test file least (n + 1) seen (records_from f e))
+  pub by_head : (p : ℕ) → p < length f → (q : Result Head Broken) → q ≡ record_at f p
+      → taken test file least n seen (records_from f p) ≡ and_then (tested_by file n own f p (with_fault q)) (λ e. taken test file least (n + 1) seen (records_from f e))
   unfolding and_then
-  by_head p h (Good len base a b) eq =
-      ap (λ g. taken test file least n seen g) (records_more f p h _ eq len base a b refl)
+  by_head p h (Ok d) eq =
+      ap (λ g. taken test file least n seen g) (records_more f p h _ eq d refl)
       ∙ taken_more test file least n seen _ _
-      ∙ rw (same (fields_at (between f p (p + len)) (record { base = base; a = a; b = b }) 24)) (adds (own (fields_at (between f p (p + len)) (record { base = base; a = a; b = b }) 24)) (p + len))
-  by_head p h (Refused k) eq =
-      ap (λ g. taken test file least n seen g) (records_refused f p h _ eq k refl) ∙ taken_over test file least n k seen
-      ∙ ended k (refusal_some f p _ eq k refl)
+      ∙ rw (same (fields_at (between f p (p + d.len)) d.shape 24)) (adds (own (fields_at (between f p (p + d.len)) d.shape 24)) (p + d.len))
+  by_head p h (Err b) eq =
+      ap (λ g. taken test file least n seen g) (records_refused f p h _ eq b refl) ∙ taken_over test file least n (number_of b) seen
+      ∙ ended (number_of b) (number_some b)
 
   missing : n ≤ least → (p : ℕ) → length f ≤ p → taken test file least n seen (records_from f p) ≡ refused file n (fault 4 0 0)
   unfolding ending
@@ -75,7 +78,7 @@ module _ (test : ℕ → List Rec → List Field → Check (List Rec)) (file lea
     where
       go : (t : Bool) → leb (length f) p ≡ t
           → taken test file least n seen (records_from f p)
-          ≡ and_then (tested_by file n own f p (pick (both (ltb 1 n) t) (Refused 4) (record_at f p))) (λ e. taken test file least (n + 1) seen (records_from f e))
+          ≡ and_then (tested_by file n own f p (pick (both (ltb 1 n) t) (Err (fault 4 0 0)) (with_fault (record_at f p)))) (λ e. taken test file least (n + 1) seen (records_from f e))
       go true z =
           let h : length f ≤ p = leb-true (length f) p z in
           let m : 1 < n = ⊎_elim (λ (y : 1 < n). y) (λ (y : p < length f). omega arith) c in
@@ -86,7 +89,7 @@ module _ (test : ℕ → List Rec → List Field → Check (List Rec)) (file lea
 pub record Over (test : List Field → Passed) (f : List ℕ) (p e : ℕ) : Type 0 where
   pub long : ℕ
   pub shape : Shape
-  pub there : record_at f p ≡ Good long shape.base shape.a shape.b
+  pub there : record_at f p ≡ good long shape
   pub behind : p + long ≡ e
   pub passed : test (fields_at (between f p (p + long)) shape 24) ≡ pass
   pub inside : p < length f
@@ -96,23 +99,23 @@ pub carried_over : (file n : ℕ) (test : List Field → Passed) (f : List ℕ) 
 unfolding carried
 carried_over file n test f p e z = by_found (head_at f n p) refl z
   where
-    by_found : (q : Head) → q ≡ head_at f n p → tested_by file n test f p q ≡ done e → Over test f p e
-    by_found (Refused k) eq y = absurd (let w : ◌≡◌ {A = ℕ} 0 1 = cc in omega arith)
-    by_found (Good len base a b) eq y =
-        let r = there f n p (Good len base a b) eq len base a b refl in
-        let k = right f p (Good len base a b) r len base a b refl in
+    by_found : (q : Result Head Fault) → q ≡ head_at f n p → tested_by file n test f p q ≡ done e → Over test f p e
+    by_found (Err z) eq y = absurd (let w : ◌≡◌ {A = ℕ} 0 1 = cc in omega arith)
+    by_found (Ok d) eq y =
+        let r = there f n p (Ok d) eq d refl in
+        let k = right f p (record_at f p) refl d r in
         let h : p < length f = omega arith in
-        let i = and_then_inv (at file n (test (fields_at (between f p (p + len)) (record { base = base; a = a; b = b }) 24))) (λ _. done (p + len)) e y in
-        let w : p + len ≡ e = done_inj (p + len) e i.2 in
+        let i = and_then_inv (at file n (test (fields_at (between f p (p + d.len)) d.shape 24))) (λ _. done (p + d.len)) e y in
+        let w : p + d.len ≡ e = done_inj (p + d.len) e i.2 in
         record {
-          long = len;
-          shape = record { base = base; a = a; b = b };
-          there = sym r;
+          long = d.len;
+          shape = d.shape;
+          there = r;
           behind = w;
           passed = at_inv file n _ i.0 i.1;
           inside = h;
-          one_more = records_more f p h (Good len base a b) r len base a b refl
-              ∙ ap (λ (m : ℕ). before (fields_at (between f p (p + len)) (record { base = base; a = a; b = b }) 24) (records_from f m)) w;
+          one_more = records_more f p h (record_at f p) refl d r
+              ∙ ap (λ (m : ℕ). before (fields_at (between f p (p + d.len)) d.shape 24) (records_from f m)) w;
         }
 
 -- ---- a dataset: its first three records, and then the rest
@@ -148,7 +151,7 @@ opened_some f h =
     ∙ sym (and_then_assoc (and_then (carried 1 1 unread f 0) (λ p. carried 1 2 (general_record InDataset) f p)) (λ q. carried 1 3 begins_csid f q) (from_fourth f))
 
 -- a file of no bytes is refused at its first record
-pub empty_head : (f : List ℕ) → length f ≡ 0 → head_at f 1 0 ≡ Refused 1
+pub empty_head : (f : List ℕ) → length f ≡ 0 → head_at f 1 0 ≡ Err (fault 1 0 0)
 unfolding head_at record_at leader_of
 empty_head [] e = refl
 empty_head (x ∷ xs) e = absurd (omega arith)

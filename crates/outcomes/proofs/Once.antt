@@ -7,13 +7,15 @@ use native.Mathlib.Omega.{arith}
 use borrow.Author.Tests.{ltb-true, ltb-false}
 use lib.Dec.{ltb}
 use lib.ListN.{length}
+use Rattle.std.specs.Prelude.{Option, Some, None, Result, Ok, Err}
 use Rattle.base.specs.Check.{ok, no, Passed}
 use Rattle.rules.specs.declared.Kind.{Kind}
 use Rattle.memory.specs.Hold.{zeros}
 use Rattle.memory.specs.Wrote.{Wrote}
 use Rattle.memory.proofs.HoldLaws.{length_zeros}
 use Rattle.skeleton.specs.File.{Field}
-use Rattle.skeleton.specs.declared.leader.Head.TheVariants.{Good}
+use Rattle.skeleton.specs.Leader.{good}
+use Rattle.skeleton.specs.declared.leader.Head.{Head}
 use Rattle.sequence.proofs.Tests.{by_bool}
 use Rattle.keys.specs.Look.{Sound}
 use Rattle.sorting.specs.Numbers.{Stored, Swapped, Parted}
@@ -28,11 +30,7 @@ use Rattle.emission.specs.Fields.{ListEntry}
 use Rattle.changing.specs.Given.{Says}
 use Rattle.changing.specs.declared.identity.Said.{Said}
 use Rattle.changing.specs.Foids.{foid_test}
-use Rattle.changing.specs.declared.foid.Foids.{Foids}
-use Rattle.changing.specs.declared.foid.Foids.TheVariants.{Same, Other}
 use Rattle.writer.specs.Measured.{said_by}
-use Rattle.writer.specs.declared.Measured.{Measured as Lengths}
-use Rattle.writer.specs.declared.Measured.TheVariants.{Total, TooLong}
 use Rattle.history.specs.Flags.{Marked}
 use Rattle.updater.specs.Pieces.{Cut}
 use Rattle.updater.specs.declared.front.Piece.{Piece}
@@ -100,38 +98,32 @@ pub said_once : (k : Kind) (fs : List Field) (s t : Said) → Says k fs s → Sa
 said_once k fs s t x y = λ i. record { code = (x.code ∙ sym y.code) i; rver = (x.rver ∙ sym y.rver) i; ruin = (x.ruin ∙ sym y.ruin) i }
 
 pub cut_once : (f : List ℕ) (p : ℕ) (r q : Piece) → Cut f p r → Cut f p q → r ≡ q
-cut_once f p r q x y = λ i. record { start = (x.start ∙ sym y.start) i; end = ends i; shape = record { base = bases i; a = firsts i; b = seconds i } }
+cut_once f p r q x y = λ i. record { start = (x.start ∙ sym y.start) i; end = ends i; shape = (heads i).shape }
   where
-    one : Good x.long r.shape.base r.shape.a r.shape.b ≡ Good y.long q.shape.base q.shape.a q.shape.b
+    one : good x.long r.shape ≡ good y.long q.shape
     one = sym x.there ∙ y.there
 
+    heads : ◌≡◌ {A = Head} (record { len = x.long; shape = r.shape }) (record { len = y.long; shape = q.shape })
+    heads = let e = one in cc
+
     ends : r.end ≡ q.end
-    ends = let z : x.long ≡ y.long = cc in x.behind ∙ ap (λ (n : ℕ). p + n) z ∙ sym y.behind
-
-    bases : r.shape.base ≡ q.shape.base
-    bases = cc
-
-    firsts : r.shape.a ≡ q.shape.a
-    firsts = cc
-
-    seconds : r.shape.b ≡ q.shape.b
-    seconds = cc
+    ends = x.behind ∙ ap (λ (h : Head). p + h.len) heads ∙ sym y.behind
 
 -- ---- what an answer says: no two say the same
 
-pub measured_said : (a b : Lengths) → said_by a ≡ said_by b → a ≡ b
+pub measured_said : (a b : Result ℕ ℕ) → said_by a ≡ said_by b → a ≡ b
 unfolding said_by
-measured_said (Total x) (Total y) e = let z : x ≡ y = cc in ap Total z
-measured_said (Total x) (TooLong m) e = absurd (let z : ◌≡◌ {A = ℕ} 0 1 = cc in omega arith)
-measured_said (TooLong n) (Total y) e = absurd (let z : ◌≡◌ {A = ℕ} 0 1 = cc in omega arith)
-measured_said (TooLong n) (TooLong m) e = let z : n ≡ m = cc in ap TooLong z
+measured_said (Ok x) (Ok y) e = let z : x ≡ y = cc in ap Ok z
+measured_said (Ok x) (Err m) e = absurd (let z : ◌≡◌ {A = ℕ} 0 1 = cc in omega arith)
+measured_said (Err n) (Ok y) e = absurd (let z : ◌≡◌ {A = ℕ} 0 1 = cc in omega arith)
+measured_said (Err n) (Err m) e = let z : n ≡ m = cc in ap Err z
 
-pub foids_said : (a b : Foids) → foid_test a ≡ foid_test b → a ≡ b
+pub foids_said : (a b : Option ℕ) → foid_test a ≡ foid_test b → a ≡ b
 unfolding foid_test
-foids_said Same Same e = refl
-foids_said Same (Other j) e = absurd (let z : ◌≡◌ {A = ℕ} 0 1 = cc in omega arith)
-foids_said (Other i) Same e = absurd (let z : ◌≡◌ {A = ℕ} 0 1 = cc in omega arith)
-foids_said (Other i) (Other j) e = let z : i ≡ j = ap (λ (c : Passed). field_in c) e in ap Other z
+foids_said None None e = refl
+foids_said None (Some j) e = absurd (let z : ◌≡◌ {A = ℕ} 0 1 = cc in omega arith)
+foids_said (Some i) None e = absurd (let z : ◌≡◌ {A = ℕ} 0 1 = cc in omega arith)
+foids_said (Some i) (Some j) e = let z : i ≡ j = ap (λ (c : Passed). field_in c) e in ap Some z
   where
     field_in : Passed → ℕ
     field_in (ok u) = 0

@@ -5,9 +5,9 @@ use Prim.Native.Nat.{ℕ, ◌+◌, ◌^◌, ◌≤◌, ◌<◌}
 use native.Mathlib.Omega.{arith}
 use borrow.Author.Tests.{lt-ltb, le-ltb}
 use lib.ListN.{length, drop}
-use Rattle.base.specs.Check.{fault}
+use Rattle.std.specs.Prelude.{Result, Ok, Err}
 use Rattle.base.specs.Walk.{Got, before}
-use Rattle.base.specs.declared.Fault.{Fault}
+use Rattle.base.specs.declared.Refusal.{Refusal}
 use Rattle.skeleton.specs.File.{Field, records_from, records_of}
 use Rattle.base.proofs.ListLaws.{each_length}
 use Rattle.skeleton.proofs.FileLaws.{records_all}
@@ -21,20 +21,15 @@ use Rattle.rules.specs.Answers.{refusal, success, not_too_long, read_outcome, re
 use Rattle.rules.specs.declared.Mode.TheVariants.{InDataset}
 use Rattle.rules.proofs.OutcomeLaws.{and_then_inv}
 use Rattle.opening.specs.Carried.{carried, begins_csid, unread, first_two, first_three, opened_by}
-use Rattle.opening.specs.declared.carried.Opened.{Opened}
-use Rattle.opening.specs.declared.carried.Opened.TheVariants.{Behind, Stopped as Shut}
 use Rattle.opening.proofs.CarriedLaws.{behind_in, behind_is}
 use Rattle.opening.proofs.OpeningLaws.{carried_over, from_fourth, opened}
 use Rattle.keys.specs.Listed.{keys_from}
 use Rattle.keys.specs.Standing.{outcome_from, references_from}
 use Rattle.keys.proofs.ReferenceLaws.{taken_reads, unread_done, references_start}
 use Rattle.dataset.specs.Walk.{whole_from, walked_by}
-use Rattle.dataset.specs.declared.walk.Walked.{Walked}
-use Rattle.dataset.specs.declared.walk.Walked.TheVariants.{Over, Stopped}
 use Rattle.dataset.proofs.FileLaws.{first_shut, later_stopped, later_over}
 use Rattle.references.specs.Linked.{said_by, Answers}
-use Rattle.references.specs.declared.dataset.Linked.{Linked}
-use Rattle.references.specs.declared.dataset.Linked.TheVariants.{All, Loose}
+use Rattle.reader.specs.Answered.{counted, refused as shut}
 
 -- ---- the fields behind the third record
 
@@ -95,25 +90,24 @@ module _ (f : List ℕ) where
     unfolding read read_outcome not_too_long and_then
     read_is = simp (le-ltb 16777216 (length f) small)
 
-    read_refused : (n : ℕ) (x : Fault) → read_dataset f ≡ refused 1 n x → record { number = x.number; file = 1; rec = n; length = 0; count = 0 } ≡ read f
+    read_refused : (y : Refusal) → read_dataset f ≡ refused 1 y.rec y.fault → shut y ≡ read f
     unfolding read_answer refusal
-    read_refused n x e = sym (read_is ∙ ap read_answer e)
+    read_refused y e = sym (read_is ∙ ap read_answer e)
 
-    module _ (q : Opened) (eq : q ≡ opened_by (first_three f)) where
-      pub read_shut : (k n i j : ℕ) → q ≡ Shut k n i j → record { number = k; file = 1; rec = n; length = 0; count = 0 } ≡ read f
+    module _ (q : Result ℕ Refusal) (eq : q ≡ opened_by (first_three f)) where
+      pub read_shut : (y : Refusal) → q ≡ Err y → shut y ≡ read f
       unfolding and_then
-      read_shut k n i j x = read_refused n (fault k i j) (whole f ∙ rw (first_shut f k n i j (sym x ∙ eq)))
+      read_shut y x = read_refused y (whole f ∙ rw (first_shut f y (sym x ∙ eq)))
 
-      pub read_behind : (start : ℕ) → q ≡ Behind start → first_three f ≡ done start
+      pub read_behind : (start : ℕ) → q ≡ Ok start → first_three f ≡ done start
       read_behind start x = behind_is (first_three f) start (sym x ∙ eq)
 
-    module _ (start : ℕ) (three : first_three f ≡ done start) (w : Walked) (ew : w ≡ walked_by (length (keys_from f start)) (whole_from f start)) where
-      pub after_stopped : (k n i j : ℕ) → w ≡ Stopped k n i j → record { number = k; file = 1; rec = n; length = 0; count = 0 } ≡ read f
+    module _ (start : ℕ) (three : first_three f ≡ done start) (w : Result ℕ Refusal) (ew : w ≡ walked_by (length (keys_from f start)) (whole_from f start)) where
+      pub after_stopped : (y : Refusal) → w ≡ Err y → shut y ≡ read f
       unfolding and_then
-      after_stopped k n i j x =
-          read_refused n (fault k i j) (whole f ∙ rw three (rw (later_stopped f start (length (keys_from f start)) k n i j (sym x ∙ ew))))
+      after_stopped y x = read_refused y (whole f ∙ rw three (rw (later_stopped f start (length (keys_from f start)) y (sym x ∙ ew))))
 
-      module _ (m : ℕ) (x : w ≡ Over m) where
+      module _ (m : ℕ) (x : w ≡ Ok m) where
         over : (m ≡ length (keys_from f start)) × (whole_from f start ≡ done tt)
         over = later_over f start m (length (keys_from f start)) (sym x ∙ ew)
 
@@ -123,7 +117,7 @@ module _ (f : List ℕ) where
         pub after_word : m + 3 < 2 ^ 64
         after_word = let a = over.0 in let b = keys_few f start in omega arith
 
-        module _ (l : Linked) (el : Answers f start l) where
+        module _ (l : Result (Unit {0}) Refusal) (el : Answers f start l) where
           recs : (a : List Rec) × (from_fourth f start ≡ done a)
           unfolding outcome_from
           recs = unread_done (from_fourth f start) over.1
@@ -139,7 +133,7 @@ module _ (f : List ℕ) where
           unfolding and_then
           dataset_is = whole f ∙ rw three (rw recs.1)
 
-          pub after_all_lem : l ≡ All → record { number = 0; file = 0; rec = 0; length = 0; count = m + 3 } ≡ read f
+          pub after_all_lem : l ≡ Ok tt → counted (m + 3) ≡ read f
           unfolding read_answer success count and_then said_by
           after_all_lem y =
               let c = said ∙ ap said_by y in
@@ -149,11 +143,11 @@ module _ (f : List ℕ) where
               let z : read_dataset f ≡ done (stored_as (records_of f).items recs.0).dataset = dataset_is ∙ rw c in
               rw e (sym (read_is ∙ ap read_answer z))
 
-          pub after_loose : (n i j : ℕ) → l ≡ Loose n i j → record { number = 11; file = 1; rec = n; length = 0; count = 0 } ≡ read f
+          pub after_loose : (z : Refusal) → l ≡ Err z → shut z ≡ read f
           unfolding and_then said_by
-          after_loose n i j y =
+          after_loose z y =
               let c = said ∙ ap said_by y in
-              read_refused n (fault 11 i j) (dataset_is ∙ rw c)
+              read_refused z (dataset_is ∙ rw c)
 
 pub ruleset read_ways = (read_long, read_shut, read_behind)
 

@@ -1,22 +1,25 @@
 -- Laws of number 4. Assumes nothing.
 use mathlib.Core.Path.{◌≡◌, refl, sym, ◌∙◌, ap}
-use mathlib.Core.Bool.{Bool, true, false, not}
+use mathlib.Core.Bool.{Bool, true, false}
 use mathlib.Core.List.{List, [], ◌∷◌}
 use mathlib.Core.Option.{Option, some, none}
+use Rattle.std.specs.Prelude.{Option as StdOption, Some, None, Result, Ok, Err}
 use Prim.Native.Nat.{ℕ, ◌+◌, ◌-◌, ◌≤◌, ◌<◌}
 use native.Mathlib.Omega.{arith}
-use borrow.Author.Tests.{eq-eqb, ne_eqb, lt-ltb, le-ltb, not-true, not-false}
+use borrow.Author.Tests.{ne_eqb, lt-ltb, le-ltb}
 use lib.Dec.{eqb}
 use lib.ListN.{length, get_or}
 use Rattle.base.specs.Choice.{pick}
 use Rattle.base.specs.Check.{ok, no, bind, fault, Passed, pass}
+use Rattle.base.specs.Verdict.{result_of, first_fault}
+use Rattle.base.specs.declared.Fault.{Fault}
+use Rattle.base.proofs.CheckLaws.{first_none, first_is, first_some}
 use Rattle.base.proofs.ChoiceLaws.{by_test, both_true}
 use Rattle.skeleton.specs.File.{Field}
 use Rattle.skeleton.specs.Place.{between, place_at, fields_at}
 use Rattle.skeleton.specs.RightFrom.{RightFrom}
 use Rattle.skeleton.specs.declared.directory.Shape.{Shape}
 use Rattle.skeleton.specs.declared.place.Place.{Place}
-use Rattle.skeleton.specs.declared.place.Place.TheVariants.{At, Done}
 use Rattle.skeleton.proofs.PlaceLaws.{fields_more, fields_done, place_falls, place_runs, place_in_lem}
 use Rattle.skeleton.proofs.RightLaws.{right_after}
 use Rattle.rules.specs.Tags.{FOID, ATTR, INAS, SPAS, COCC, C2IT, C2IL}
@@ -29,40 +32,33 @@ use Rattle.rules.specs.declared.Mode.{Mode}
 use Rattle.rules.specs.declared.Mode.TheVariants.{InDataset, InUpdate}
 use Rattle.records.specs.Rows.{tags_of}
 use Rattle.records.specs.Order.{shut_out, faulty_field, order_from, instructions_of}
-use Rattle.records.specs.Graded.{graded, found_kind, ruin_place}
+use Rattle.records.specs.Answers.{found_kind, ruin_place}
 use Rattle.records.specs.declared.order.Instructions.{Instructions}
-use Rattle.records.specs.declared.grammar.Tags.{Tags}
-use Rattle.records.specs.declared.grammar.Tags.TheVariants.{Right, Wrong}
-use Rattle.records.specs.declared.grammar.Found.{Found}
-use Rattle.records.specs.declared.grammar.Found.TheVariants.{Is, Nothing}
 use Rattle.records.proofs.RowsLaws.{rows_of_lem}
 use Rattle.records.proofs.TaggedLaws.{part_byte, part_past}
 
 -- ---- kinds
 
 module _ (t : ℕ) where
-  pub kind_info : t ≡ 0x49524944 → Is Info ≡ found_kind (kind_of t)
+  pub kind_info : t ≡ 0x49524944 → Some Info ≡ found_kind (kind_of t)
   unfolding kind_of
-  kind_info e = simp (eq-eqb t 0x49524944 e)
+  kind_info e = rw e
 
-  module _ (a : t ≡ 0x49524944 → ⊥) where
-    pub kind_point : t ≡ 0x50524944 → Is Point ≡ found_kind (kind_of t)
-    unfolding kind_of
-    kind_point e = simp (ne_eqb t 0x49524944 a, eq-eqb t 0x50524944 e)
+  pub kind_point : t ≡ 0x50524944 → Some Point ≡ found_kind (kind_of t)
+  unfolding kind_of
+  kind_point e = rw e
 
-    module _ (b : t ≡ 0x50524944 → ⊥) where
-      pub kind_multi : t ≡ 0x4d524944 → Is Multi ≡ found_kind (kind_of t)
-      unfolding kind_of
-      kind_multi e = simp (ne_eqb t 0x49524944 a, ne_eqb t 0x50524944 b, eq-eqb t 0x4d524944 e)
+  pub kind_multi : t ≡ 0x4d524944 → Some Multi ≡ found_kind (kind_of t)
+  unfolding kind_of
+  kind_multi e = rw e
 
-      module _ (c : t ≡ 0x4d524944 → ⊥) where
-        pub kind_feature : t ≡ 0x46524944 → Is Feature ≡ found_kind (kind_of t)
-        unfolding kind_of
-        kind_feature e = simp (ne_eqb t 0x49524944 a, ne_eqb t 0x50524944 b, ne_eqb t 0x4d524944 c, eq-eqb t 0x46524944 e)
+  pub kind_feature : t ≡ 0x46524944 → Some Feature ≡ found_kind (kind_of t)
+  unfolding kind_of
+  kind_feature e = rw e
 
-        pub kind_none : (t ≡ 0x46524944 → ⊥) → Nothing ≡ found_kind (kind_of t)
-        unfolding kind_of
-        kind_none e = simp (ne_eqb t 0x49524944 a, ne_eqb t 0x50524944 b, ne_eqb t 0x4d524944 c, ne_eqb t 0x46524944 e)
+  pub kind_none : (t ≡ 0x49524944 → ⊥) → (t ≡ 0x50524944 → ⊥) → (t ≡ 0x4d524944 → ⊥) → (t ≡ 0x46524944 → ⊥) → None ≡ found_kind (kind_of t)
+  unfolding kind_of
+  kind_none a b c d = simp (ne_eqb t 0x49524944 a, ne_eqb t 0x50524944 b, ne_eqb t 0x4d524944 c, ne_eqb t 0x46524944 d)
 
 pub ruleset kind_ways = (kind_info, kind_point, kind_multi, kind_feature, kind_none)
 
@@ -159,24 +155,24 @@ pub ruleset complete_ways = (complete_info, complete_multi, complete_point, comp
 
 -- ---- the order of a kind's fields
 
-module _ (r : List ℕ) (h : Shape) (p : ℕ) (s : Instructions) (k : Kind) (n : ℕ) where
+module _ (r : List ℕ) (h : Shape) (p : ℕ) (s : Instructions) (k : Kind) (a : Result (Unit {0}) ℕ) where
   -- the tags that code hands over are those of the kind
-  pub order_kind : n ≡ order_from r h (tags_of k) s p 0 2 → n ≡ faulty_field (in_order (shut_out s) (rows_of k) 2 (fields_at r h p))
+  pub order_kind : a ≡ first_fault (order_from r h (tags_of k) s p 0 2) → a ≡ first_fault (faulty_field (in_order (shut_out s) (rows_of k) 2 (fields_at r h p)))
   unfolding order_from
   order_kind e = rw (rows_of_lem k) e
 
-  pub order_info : k ≡ Info → n ≡ order_from r h (ATTR ∷ INAS ∷ []) s p 0 2 → n ≡ faulty_field (in_order (shut_out s) (rows_of k) 2 (fields_at r h p))
+  pub order_info : k ≡ Info → a ≡ first_fault (order_from r h (ATTR ∷ INAS ∷ []) s p 0 2) → a ≡ first_fault (faulty_field (in_order (shut_out s) (rows_of k) 2 (fields_at r h p)))
   order_info x e = order_kind (rw x e)
 
-  pub order_point : k ≡ Point → n ≡ order_from r h (INAS ∷ C2IT ∷ []) s p 0 2 → n ≡ faulty_field (in_order (shut_out s) (rows_of k) 2 (fields_at r h p))
+  pub order_point : k ≡ Point → a ≡ first_fault (order_from r h (INAS ∷ C2IT ∷ []) s p 0 2) → a ≡ first_fault (faulty_field (in_order (shut_out s) (rows_of k) 2 (fields_at r h p)))
   order_point x e = order_kind (rw x e)
 
-  pub order_multi : k ≡ Multi → n ≡ order_from r h (INAS ∷ COCC ∷ C2IL ∷ []) s p 0 2
-      → n ≡ faulty_field (in_order (shut_out s) (rows_of k) 2 (fields_at r h p))
+  pub order_multi : k ≡ Multi → a ≡ first_fault (order_from r h (INAS ∷ COCC ∷ C2IL ∷ []) s p 0 2)
+      → a ≡ first_fault (faulty_field (in_order (shut_out s) (rows_of k) 2 (fields_at r h p)))
   order_multi x e = order_kind (rw x e)
 
-  pub order_feature : k ≡ Feature → n ≡ order_from r h (FOID ∷ ATTR ∷ INAS ∷ SPAS ∷ []) s p 0 2
-      → n ≡ faulty_field (in_order (shut_out s) (rows_of k) 2 (fields_at r h p))
+  pub order_feature : k ≡ Feature → a ≡ first_fault (order_from r h (FOID ∷ ATTR ∷ INAS ∷ SPAS ∷ []) s p 0 2)
+      → a ≡ first_fault (faulty_field (in_order (shut_out s) (rows_of k) 2 (fields_at r h p)))
   order_feature x e = order_kind (rw x e)
 
 pub ruleset order_kinds = (order_info, order_point, order_multi, order_feature)
@@ -231,88 +227,88 @@ shut_as_forbidden InUpdate ruin fs = refl
 -- ---- the fields after the identifier
 
 -- what the code has found: RUIN, the instructions, and the first field out of order
-module _ (m : Mode) (k : Kind) (b : List ℕ) (fs : List Field) (ruin : ℕ) (s : Instructions) (i : ℕ)
-    (er : ruin ≡ ruin_byte k b) (es : s ≡ instructions_of m ruin fs) (eo : i ≡ faulty_field (in_order (shut_out s) (rows_of k) 2 fs)) where
+module _ (m : Mode) (k : Kind) (b : List ℕ) (fs : List Field) (ruin : ℕ) (s : Instructions) (o : Result (Unit {0}) ℕ)
+    (er : ruin ≡ ruin_byte k b) (es : s ≡ instructions_of m ruin fs) (eo : o ≡ first_fault (faulty_field (in_order (shut_out s) (rows_of k) 2 fs))) where
   abbrev tested : Passed
   tested = in_order (forbidden m (ruin_byte k b) (coui_byte fs) (has COCC fs)) (rows_of k) 2 fs
 
-  same_order : i ≡ faulty_field tested
+  same_order : o ≡ first_fault (faulty_field tested)
   same_order = rw (← er, ← shut_as_forbidden m ruin fs, ← es) eo
 
   says : Said tested
   says = order_says (forbidden m (ruin_byte k b) (coui_byte fs) (has COCC fs)) (rows_of k) 2 fs (omega arith)
 
-  pub fields_out : (i ≡ 0 → ⊥) → Wrong 4 i 0 ≡ graded (bind (fields_stand m k b fs) (λ _. ok k))
-  unfolding fields_stand graded bind
-  fields_out z = rw (no_of tested i says same_order z)
+  pub fields_out : (i : ℕ) → o ≡ Err i → Err (fault 4 i 0) ≡ result_of (bind (fields_stand m k b fs) (λ _. ok k))
+  unfolding fields_stand result_of bind
+  fields_out i x = let e = sym x ∙ same_order in rw (no_of tested i says (first_is _ i e) (first_some _ i e))
 
-  module _ (z : i ≡ 0) (t : Bool) (et : t ≡ as_stored m ruin) where
+  module _ (u : Unit {0}) (z : o ≡ Ok u) (t : Bool) (et : t ≡ as_stored m ruin) where
     stood : tested ≡ pass
-    stood = pass_of tested says (sym same_order ∙ z)
+    stood = pass_of tested says (first_none _ u (sym z ∙ same_order))
 
     same_mode : t ≡ as_stored m (ruin_byte k b)
     same_mode = rw (← er) et
 
-    pub fields_free : not t ≡ true → Right k ≡ graded (bind (fields_stand m k b fs) (λ _. ok k))
-    unfolding fields_stand graded bind
-    fields_free n = rw stood (simp (← same_mode, not-true t n))
+    pub fields_free : t ≡ false → Ok k ≡ result_of (bind (fields_stand m k b fs) (λ _. ok k))
+    unfolding fields_stand result_of bind
+    fields_free n = rw stood (simp (← same_mode, n))
 
-    module _ (n : not t ≡ false) (w : Bool) (ew : w ≡ complete (rows_of k) fs) where
-      pub fields_whole : w ≡ true → Right k ≡ graded (bind (fields_stand m k b fs) (λ _. ok k))
-      unfolding fields_stand graded bind
-      fields_whole x = rw stood (simp (← same_mode, not-false t n, ← ew, x))
+    module _ (n : t ≡ true) (w : Bool) (ew : w ≡ complete (rows_of k) fs) where
+      pub fields_whole : w ≡ true → Ok k ≡ result_of (bind (fields_stand m k b fs) (λ _. ok k))
+      unfolding fields_stand result_of bind
+      fields_whole x = rw stood (simp (← same_mode, n, ← ew, x))
 
-      pub fields_lack : w ≡ false → Wrong 4 0 0 ≡ graded (bind (fields_stand m k b fs) (λ _. ok k))
-      unfolding fields_stand graded bind
-      fields_lack x = rw stood (simp (← same_mode, not-false t n, ← ew, x))
+      pub fields_lack : w ≡ false → Err (fault 4 0 0) ≡ result_of (bind (fields_stand m k b fs) (λ _. ok k))
+      unfolding fields_stand result_of bind
+      fields_lack x = rw stood (simp (← same_mode, n, ← ew, x))
 
 pub ruleset fields_ways = (fields_out, fields_free, fields_whole, fields_lack)
 
 -- ---- the record
 
-found_none : (o : Option Kind) → Nothing ≡ found_kind o → o ≡ none
+found_none : (o : Option Kind) → None ≡ found_kind o → o ≡ none
 found_none none e = refl
 found_none (some k) e = absurd (let z : ◌≡◌ {A = ℕ} 0 1 = cc in omega arith)
 
-found_some : (o : Option Kind) (k : Kind) → Is k ≡ found_kind o → o ≡ some k
+found_some : (o : Option Kind) (k : Kind) → Some k ≡ found_kind o → o ≡ some k
 found_some none k e = absurd (let z : ◌≡◌ {A = ℕ} 0 1 = cc in omega arith)
 found_some (some j) k e = let z : j ≡ k = cc in ap (λ (x : Kind). some x) z
 
-module _ (r : List ℕ) (h : Shape) (m : Mode) (least : ℕ) (e : Place) (en : e ≡ place_at r h 24) where
-  pub tags_none : e ≡ Done → Wrong 4 1 0 ≡ graded (number4 m least (fields_at r h 24))
-  unfolding number4 graded
+module _ (r : List ℕ) (h : Shape) (m : Mode) (least : ℕ) (e : StdOption Place) (en : e ≡ place_at r h 24) where
+  pub tags_none : e ≡ None → Err (fault 4 1 0) ≡ result_of (number4 m least (fields_at r h 24))
+  unfolding number4 result_of
   tags_none x = rw (fields_done r h 24 e en x)
 
-  module _ (tag start end next : ℕ) (x : e ≡ At tag start end next) where
-    pub tags_after : 2 ≤ next
-    tags_after = let f = place_falls r h 24 e en tag start end next x in omega arith
+  module _ (d : Place) (x : e ≡ Some d) where
+    pub tags_after : 2 ≤ d.next
+    tags_after = let f = place_falls r h 24 e en d x in omega arith
 
-    pub tags_right : RightFrom r h 24 → RightFrom r h next
-    tags_right k = right_after r h 24 k e en tag start end next x
+    pub tags_right : RightFrom r h 24 → RightFrom r h d.next
+    tags_right k = right_after r h 24 k e en d x
 
-    pub tags_runs : start ≤ end
-    tags_runs = place_runs r h 24 e en tag start end next x
+    pub tags_runs : d.start ≤ d.end
+    tags_runs = place_runs r h 24 e en d x
 
-    pub tags_in : end ≤ length r
-    tags_in = place_in_lem r h 24 e en tag start end next x
+    pub tags_in : d.end ≤ length r
+    tags_in = place_in_lem r h 24 e en d x
 
-    module _ (q : Found) (eq : q ≡ found_kind (kind_of tag)) where
-      pub tags_unknown : q ≡ Nothing → Wrong 4 1 0 ≡ graded (number4 m least (fields_at r h 24))
-      unfolding number4 graded
-      tags_unknown y = rw (fields_more r h 24 e en tag start end next x) (rw (found_none (kind_of tag) (sym y ∙ eq)))
+    module _ (q : StdOption Kind) (eq : q ≡ found_kind (kind_of d.tag)) where
+      pub tags_unknown : q ≡ None → Err (fault 4 1 0) ≡ result_of (number4 m least (fields_at r h 24))
+      unfolding number4 result_of
+      tags_unknown y = rw (fields_more r h 24 e en d x) (rw (found_none (kind_of d.tag) (sym y ∙ eq)))
 
-      module _ (k : Kind) (y : q ≡ Is k) (n : ℕ) (ek : n ≡ rank k) where
-        pub tags_early : n < least → Wrong 4 1 0 ≡ graded (number4 m least (fields_at r h 24))
-        unfolding number4 graded
+      module _ (k : Kind) (y : q ≡ Some k) (n : ℕ) (ek : n ≡ rank k) where
+        pub tags_early : n < least → Err (fault 4 1 0) ≡ result_of (number4 m least (fields_at r h 24))
+        unfolding number4 result_of
         tags_early l =
-            rw (fields_more r h 24 e en tag start end next x)
-            (rw (found_some (kind_of tag) k (sym y ∙ eq)) (simp (← ek, lt-ltb n least l)))
+            rw (fields_more r h 24 e en d x)
+            (rw (found_some (kind_of d.tag) k (sym y ∙ eq)) (simp (← ek, lt-ltb n least l)))
 
-        pub tags_turn : least ≤ n → (t : Tags) → t ≡ graded (bind (fields_stand m k (between r start end) (fields_at r h next)) (λ _. ok k))
-            → t ≡ graded (number4 m least (fields_at r h 24))
+        pub tags_turn : least ≤ n → (t : Result Kind Fault) → t ≡ result_of (bind (fields_stand m k (between r d.start d.end) (fields_at r h d.next)) (λ _. ok k))
+            → t ≡ result_of (number4 m least (fields_at r h 24))
         unfolding number4
         tags_turn l t z =
-            rw (fields_more r h 24 e en tag start end next x)
-            (rw (found_some (kind_of tag) k (sym y ∙ eq)) (simp (← ek, le-ltb n least l) z))
+            rw (fields_more r h 24 e en d x)
+            (rw (found_some (kind_of d.tag) k (sym y ∙ eq)) (simp (← ek, le-ltb n least l) z))
 
 pub ruleset tags_ways = (tags_none, tags_after, tags_right, tags_runs, tags_in, tags_unknown, tags_early, tags_turn)

@@ -1,29 +1,29 @@
 -- Laws of the order of fields. Assumes nothing.
-use mathlib.Core.Path.{◌≡◌, refl}
+use mathlib.Core.Path.{◌≡◌, refl, ap, ◌∙◌}
 use mathlib.Core.Bool.{Bool, true, false, not}
 use mathlib.Core.List.{List}
 use mathlib.Core.Option.{none}
+use Rattle.std.specs.Prelude.{Option, Some, None, Ok, Err}
 use Prim.Native.Nat.{ℕ, ◌+◌, ◌^◌, ◌≤◌, ◌<◌}
 use native.Mathlib.Omega.{arith}
 use borrow.Author.Tests.{eq-eqb, ne_eqb}
 use lib.Dec.{eqb}
 use lib.ListN.{length, get_or, drop}
 use Rattle.base.specs.Choice.{both, either}
+use Rattle.base.specs.Verdict.{first_fault}
+use Rattle.base.proofs.CheckLaws.{faulty_first}
 use Rattle.base.proofs.ChoiceLaws.{both_false}
 use Rattle.skeleton.specs.Directory.{tag_at}
-use Rattle.skeleton.specs.Place.{place_at}
+use Rattle.skeleton.specs.Place.{at_place, place_at}
 use Rattle.skeleton.specs.RightFrom.{RightFrom}
 use Rattle.skeleton.specs.declared.directory.Shape.{Shape}
 use Rattle.skeleton.specs.declared.place.Place.{Place}
-use Rattle.skeleton.specs.declared.place.Place.TheVariants.{At, Done}
 use Rattle.skeleton.proofs.PlaceLaws.{fields_more, fields_done}
 use Rattle.skeleton.proofs.RightLaws.{Next, right_in, right_tag, right_on, right_word, right_falls, right_done, right_next}
 use Rattle.rules.specs.Grammar.{forbidden, in_order}
 use Rattle.rules.specs.declared.Mode.TheVariants.{InDataset, InUpdate}
 use Rattle.rules.specs.Grammar.{rows_after}
 use Rattle.records.specs.Rows.{rows_with, row_after}
-use Rattle.records.specs.declared.rows.Rest.{Rest}
-use Rattle.records.specs.declared.rows.Rest.TheVariants.{From, NoRow}
 use Rattle.records.proofs.RowsLaws.{Left, row_left}
 use Rattle.records.specs.Order.{shut_out, order_from, faulty_field}
 use Rattle.records.specs.declared.order.Instructions.{Instructions}
@@ -86,40 +86,40 @@ pub ruleset shut_out_ways = (shut_general, shut_dataset, shut_update)
 -- ---- the loop over the fields: at directory place p, row place j, field i, where the whole comes to n
 
 module _ (r : List ℕ) (h : Shape) (tags : List ℕ) (s : Instructions) (p j i n : ℕ) (inv : order_from r h tags s p j i ≡ n)
-    (e : Place) (en : e ≡ place_at r h p) where
-  order_done : e ≡ Done → 0 ≡ n
+    (e : Option Place) (en : e ≡ place_at r h p) where
+  order_done : e ≡ None → 0 ≡ n
   unfolding order_from in_order faulty_field
   order_done x = rw (fields_done r h p e en x) at inv
 
-  module _ (tag start end next : ℕ) (x : e ≡ At tag start end next) where
-    module _ (b : Bool) (eb : b ≡ shut_out s tag) where
+  module _ (d : Place) (x : e ≡ Some d) where
+    module _ (b : Bool) (eb : b ≡ shut_out s d.tag) where
       order_shut : b ≡ true → i ≡ n
       unfolding order_from in_order faulty_field
-      order_shut y = simp (← eb, y) at (rw (fields_more r h p e en tag start end next x) at inv)
+      order_shut y = simp (← eb, y) at (rw (fields_more r h p e en d x) at inv)
 
-      module _ (nb : b ≡ false) (q : Rest) (eq : q ≡ row_after tags tag j) where
-        left : Left tags (rows_after tag (rows_with (drop j tags))) q
-        left = rw eq (row_left tags tag j)
+      module _ (nb : b ≡ false) (q : Option ℕ) (eq : q ≡ row_after tags d.tag j) where
+        left : Left tags (rows_after d.tag (rows_with (drop j tags))) q
+        left = rw eq (row_left tags d.tag j)
 
-        order_none : q ≡ NoRow → i ≡ n
+        order_none : q ≡ None → i ≡ n
         unfolding order_from in_order faulty_field
         order_none z =
-            let l : rows_after tag (rows_with (drop j tags)) ≡ none = rw z at left in
-            simp (← eb, nb, l) at (rw (fields_more r h p e en tag start end next x) at inv)
+            let l : rows_after d.tag (rows_with (drop j tags)) ≡ none = rw z at left in
+            simp (← eb, nb, l) at (rw (fields_more r h p e en d x) at inv)
 
-        order_more : (k : ℕ) → q ≡ From k → order_from r h tags s next k (i + 1) ≡ n
+        order_more : (k : ℕ) → q ≡ Some k → order_from r h tags s d.next k (i + 1) ≡ n
         unfolding order_from in_order faulty_field
         order_more k z =
-            let l : Left tags (rows_after tag (rows_with (drop j tags))) (From k) = rw z at left in
-            simp (← eb, nb, l.0) at (rw (fields_more r h p e en tag start end next x) at inv)
+            let l : Left tags (rows_after d.tag (rows_with (drop j tags))) (Some k) = rw z at left in
+            simp (← eb, nb, l.0) at (rw (fields_more r h p e en d x) at inv)
 
-        order_place : (k : ℕ) → q ≡ From k → k ≤ length tags
-        order_place k z = let l : Left tags (rows_after tag (rows_with (drop j tags))) (From k) = rw z at left in l.1
+        order_place : (k : ℕ) → q ≡ Some k → k ≤ length tags
+        order_place k z = let l : Left tags (rows_after d.tag (rows_with (drop j tags))) (Some k) = rw z at left in l.1
 
 -- the same by the tag alone, where the directory is right from p on
 module _ (r : List ℕ) (h : Shape) (tags : List ℕ) (s : Instructions) (p j i n : ℕ) (inv : order_from r h tags s p j i ≡ n) (k : RightFrom r h p) where
-  pub order_end : get_or r p 0 ≡ 30 → 0 ≡ n
-  order_end y = order_done r h tags s p j i n inv Done (right_done r h p k y) refl
+  pub order_end : get_or r p 0 ≡ 30 → Ok tt ≡ first_fault n
+  order_end y = ap first_fault (order_done r h tags s p j i n inv None (right_done r h p k y) refl)
 
   module _ (y : get_or r p 0 ≡ 30 → ⊥) where
     next : Next r h p
@@ -132,21 +132,21 @@ module _ (r : List ℕ) (h : Shape) (tags : List ℕ) (s : Instructions) (p j i 
     order_word l g = let f = next.fits in omega arith
 
     module _ (tag : ℕ) (et : tag ≡ tag_at r p) where
-      here : At tag next.start next.end (p + (4 + h.a + h.b)) ≡ place_at r h p
+      here : at_place tag next.start next.end (p + (4 + h.a + h.b)) ≡ place_at r h p
       here = rw et next.place
 
       module _ (b : Bool) (eb : b ≡ shut_out s tag) where
-        pub order_out : b ≡ true → i ≡ n
-        order_out = order_shut r h tags s p j i n inv _ here tag _ _ _ refl b eb
+        pub order_out : b ≡ true → 2 ≤ i → Err i ≡ first_fault n
+        order_out y l = faulty_first i (λ z. omega arith) ∙ ap first_fault (order_shut r h tags s p j i n inv _ here _ refl b eb y)
 
-        module _ (nb : b ≡ false) (q : Rest) (eq : q ≡ row_after tags tag j) where
-          pub order_rowless : q ≡ NoRow → i ≡ n
-          order_rowless = order_none r h tags s p j i n inv _ here tag _ _ _ refl b eb nb q eq
+        module _ (nb : b ≡ false) (q : Option ℕ) (eq : q ≡ row_after tags tag j) where
+          pub order_rowless : q ≡ None → 2 ≤ i → Err i ≡ first_fault n
+          order_rowless y l = faulty_first i (λ z. omega arith) ∙ ap first_fault (order_none r h tags s p j i n inv _ here _ refl b eb nb q eq y)
 
-          pub order_on : (m : ℕ) → q ≡ From m → order_from r h tags s (p + (4 + h.a + h.b)) m (i + 1) ≡ n
-          order_on = order_more r h tags s p j i n inv _ here tag _ _ _ refl b eb nb q eq
+          pub order_on : (m : ℕ) → q ≡ Some m → order_from r h tags s (p + (4 + h.a + h.b)) m (i + 1) ≡ n
+          order_on = order_more r h tags s p j i n inv _ here _ refl b eb nb q eq
 
-          pub order_left : (m : ℕ) → q ≡ From m → m ≤ length tags
-          order_left = order_place r h tags s p j i n inv _ here tag _ _ _ refl b eb nb q eq
+          pub order_left : (m : ℕ) → q ≡ Some m → m ≤ length tags
+          order_left = order_place r h tags s p j i n inv _ here _ refl b eb nb q eq
 
 pub ruleset order_turn = (order_end, order_counts, order_word, order_out, order_rowless, order_on, order_left, right_in, right_tag, right_on, right_word, right_falls)

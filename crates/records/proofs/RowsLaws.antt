@@ -2,7 +2,9 @@
 use mathlib.Core.Path.{◌≡◌, refl, ◌∙◌, ap}
 use mathlib.Core.Bool.{Bool, true, false}
 use mathlib.Core.List.{List, [], ◌∷◌}
+use mathlib.Core.Logic.{◌⊎◌, ⊎_elim}
 use mathlib.Core.Option.{Option, some, none}
+use Rattle.std.specs.Prelude.{Option as StdOption, Some, None}
 use Prim.Native.Nat.{ℕ, suc, ◌+◌, ◌-◌, ◌≤◌, ◌<◌}
 use native.Mathlib.Numerals.{add-one}
 use native.Mathlib.Omega.{arith}
@@ -18,8 +20,6 @@ use Rattle.rules.specs.Grammar.{rows_after}
 use Rattle.rules.specs.declared.Kind.{Kind}
 use Rattle.rules.specs.declared.Kind.TheVariants.{Info, Point, Multi, Feature}
 use Rattle.records.specs.Rows.{stands_often, is_needed, row_with, rows_with, tags_of, rest_from, row_after}
-use Rattle.records.specs.declared.rows.Rest.{Rest}
-use Rattle.records.specs.declared.rows.Rest.TheVariants.{From, NoRow}
 
 -- ---- the tags' rows are those of the kinds
 
@@ -37,38 +37,25 @@ general_rows_lem = refl
 -- ---- fields that stand often
 
 module _ (t : ℕ) where
-  pub often_inas : t ≡ 0x494e4153 → true ≡ stands_often t
+  pub often_one : (t ≡ 0x4332494c) ⊎ (t ≡ 0x494e4153) ⊎ (t ≡ 0x53504153) → true ≡ stands_often t
   unfolding stands_often
-  often_inas e = simp (eq-eqb t 0x494e4153 e)
+  often_one = ⊎_elim (λ e. rw e) (⊎_elim (λ e. rw e) (λ e. rw e))
 
-  pub often_c2il : (t ≡ 0x494e4153 → ⊥) → t ≡ 0x4332494c → true ≡ stands_often t
+  pub often_none : (t ≡ 0x494e4153 → ⊥) → (t ≡ 0x4332494c → ⊥) → (t ≡ 0x53504153 → ⊥) → false ≡ stands_often t
   unfolding stands_often
-  often_c2il n e = simp (ne_eqb t 0x494e4153 n, eq-eqb t 0x4332494c e)
+  often_none a b c = simp (ne_eqb t 0x494e4153 a, ne_eqb t 0x4332494c b, ne_eqb t 0x53504153 c)
 
-  pub often_spas : (t ≡ 0x494e4153 → ⊥) → (t ≡ 0x4332494c → ⊥) → eqb t 0x53504153 ≡ stands_often t
-  unfolding stands_often
-  often_spas n m = simp (ne_eqb t 0x494e4153 n, ne_eqb t 0x4332494c m)
-
-pub ruleset often_ways = (often_inas, often_c2il, often_spas)
-
-module _ (t j : ℕ) (b : Bool) (e : b ≡ stands_often t) where
-  pub behind_same : b ≡ true → j ≡ pick (stands_often t) j (j + 1)
-  behind_same x = rw (← e, x)
-
-  pub behind_next : b ≡ false → j + 1 ≡ pick (stands_often t) j (j + 1)
-  behind_next x = rw (← e, x)
-
-pub ruleset behind_ways = (behind_same, behind_next)
+pub ruleset often_ways = (often_one, often_none)
 
 -- ---- the row of a field, looked for from place j on
 
-module _ (ts : List ℕ) (t j : ℕ) (R : Rest) (inv : row_after ts t j ≡ R) where
-  pub row_none : length ts ≤ j → NoRow ≡ R
+module _ (ts : List ℕ) (t j : ℕ) (R : StdOption ℕ) (inv : row_after ts t j ≡ R) where
+  pub row_none : length ts ≤ j → None ≡ R
   unfolding row_after rest_from
   row_none h = rw (drop_of_length-le ts h) at inv
 
   module _ (h : j < length ts) where
-    pub row_here : get_or ts j 0 ≡ t → (k : ℕ) → k ≡ pick (stands_often (get_or ts j 0)) j (j + 1) → From k ≡ R
+    pub row_here : get_or ts j 0 ≡ t → (k : ℕ) → k ≡ pick (stands_often (get_or ts j 0)) j (j + 1) → Some k ≡ R
     unfolding row_after rest_from
     row_here e k x = simp (eq-eqb (get_or ts j 0) t e, ← x) at (rw (drop-cons ts j 0 h) at inv)
 
@@ -83,9 +70,9 @@ pub ruleset row_turn = (row_none, row_here, row_later, arith)
 -- ---- the rows that are left are those from the place on
 
 -- what a place says of the rows left
-abbrev pub Left : List ℕ → Option (List Row) → Rest → Type 0
-Left ts o (From k) = (o ≡ some (rows_with (drop k ts))) × (k ≤ length ts)
-Left ts o NoRow = o ≡ none
+abbrev pub Left : List ℕ → Option (List Row) → StdOption ℕ → Type 0
+Left ts o (Some k) = (o ≡ some (rows_with (drop k ts))) × (k ≤ length ts)
+Left ts o None = o ≡ none
 
 tail_of : (ts xs : List ℕ) (x j : ℕ) → x ∷ xs ≡ drop j ts → (j < length ts) × (xs ≡ drop (j + 1) ts)
 tail_of ts xs x j e =
@@ -102,7 +89,7 @@ rest_left ts (x ∷ xs) t j e = go (eqb x t) (stands_often x) refl (rest_left ts
   where
     go : (b o : Bool) → stands_often x ≡ o → Left ts (rows_after t (rows_with xs)) (rest_from xs t (j + 1))
         → Left ts (pick b (some (pick o (record { tag = x; often = o; needed = is_needed x } ∷ rows_with xs) (rows_with xs))) (rows_after t (rows_with xs)))
-        (pick b (From (pick o j (j + 1))) (rest_from xs t (j + 1)))
+        (pick b (Some (pick o j (j + 1))) (rest_from xs t (j + 1)))
     go true true eo ih = let tl = tail_of ts xs x j e in (rw (← e, eo), omega arith)
     go true false eo ih = let tl = tail_of ts xs x j e in (ap (λ (l : List ℕ). some (rows_with l)) tl.1, omega arith)
     go false o eo ih = ih

@@ -1,3 +1,3 @@
 pub mod Rows
 pub mod Order
-pub mod Graded
+pub mod Answers

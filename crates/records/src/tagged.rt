@@ -6,8 +6,9 @@ ghost use Rattle.skeleton.specs.Shape.{Bounded};
 ghost use Rattle.rules.specs.ByTag.{has};
 ghost use Rattle.rules.specs.Grammar.{coui_byte};
 
+use rules::tags;
 use skeleton::directory::{Shape, tag_at};
-use skeleton::place::{Place, find};
+use skeleton::place::find;
 
 // Whether there is a field with the tag, from the entry at p on, in a directory that was found right: tags are read, and no numbers.
 pub fn has_field(r: &[u8], h: Shape, wanted: u32, p: usize) -> bool
@@ -15,34 +16,26 @@ pub fn has_field(r: &[u8], h: Shape, wanted: u32, p: usize) -> bool
     ensures { result ≡ has wanted (fields_at r.now h p) }
 {
     let mut q = p;
-    loop {
-        if r[q] == 0x1e {
-            return false;
-        }
+    while r[q] != 0x1e {
         if tag_at(r, q) == wanted {
             return true;
         }
         q += 4 + h.a + h.b;
     }
+    false
 }
 
-// The first byte of COCC (0x434f4343), COUI; 0 where there is none.
+// The first byte of COCC, COUI; 0 where there is none, as the rules' definition says.
 pub fn coui_byte(r: &[u8], h: Shape, p: usize) -> u8
     requires { Bounded h }
     ensures { result ≡ coui_byte (fields_at r.now h p) }
 {
-    match find(r, h, 0x434f4343, p) {
-        Place::At {
-            tag: _,
-            start,
-            end,
-            next: _,
-        } => {
-            if start < end {
-                return r[start];
-            }
-            0
-        }
-        Place::Done => 0,
+    let Some(field) = find(r, h, tags::COCC, p) else {
+        return 0;
+    };
+    if field.start < field.end {
+        r[field.start]
+    } else {
+        0
     }
 }

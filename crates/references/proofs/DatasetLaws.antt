@@ -1,18 +1,18 @@
 -- Laws of number 11 of a dataset, record after record. Assumes nothing.
 use mathlib.Core.Path.{◌≡◌, refl, sym, ◌∙◌}
-use mathlib.Core.List.{List, [], ◌∷◌}
+use mathlib.Core.List.{List, []}
 use mathlib.Core.Bool.{Bool, true, false}
 use Prim.Native.Nat.{ℕ, ◌+◌, ◌-◌, ◌^◌, ◌≤◌, ◌<◌}
 use native.Mathlib.Omega.{arith}
-use lib.ListN.{length, take, replicate}
-use Rattle.base.specs.Check.{no, fault}
+use borrow.Author.Tests.{ltb-true, ltb-false}
+use lib.Dec.{ltb}
+use lib.ListN.{length, drop, replicate}
+use Rattle.std.specs.Prelude.{Result, Ok, Err}
 use Rattle.base.specs.Choice.{pick}
-use Rattle.base.specs.Keys.{among}
 use Rattle.base.specs.Lists.{each}
-use Rattle.base.specs.Verdict.{verdict_of}
-use Rattle.base.specs.Walk.{Got}
-use Rattle.base.specs.declared.Verdict.{Verdict}
-use Rattle.base.specs.declared.Verdict.TheVariants.{Passed as Through, Refused}
+use Rattle.base.specs.Verdict.{refusal}
+use Rattle.base.specs.declared.Fault.{Fault}
+use Rattle.base.proofs.CheckLaws.{refused_is}
 use Rattle.base.proofs.ChoiceLaws.{both_hold}
 use Rattle.skeleton.specs.File.{Field, records_from}
 use Rattle.skeleton.specs.Place.{between, fields_at}
@@ -20,12 +20,14 @@ use Rattle.skeleton.specs.Record.{record_at, stated_at}
 use Rattle.skeleton.specs.RightFrom.{RightFrom}
 use Rattle.skeleton.specs.Shape.{Bounded}
 use Rattle.skeleton.specs.declared.leader.Head.{Head}
-use Rattle.skeleton.specs.declared.leader.Head.TheVariants.{Good, Refused as Unread}
+use Rattle.skeleton.specs.Leader.{stated_of}
+use Rattle.skeleton.specs.declared.leader.Broken.{Broken}
+use Rattle.skeleton.specs.declared.leader.Broken.TheVariants.{Cut}
 use Rattle.skeleton.proofs.RecordLaws.{Right, right}
 use Rattle.skeleton.proofs.RightLaws.{right_start}
 use Rattle.skeleton.proofs.FileLaws.{records_more}
 use Rattle.skeleton.proofs.AgainLaws.{again, again_not, records_some}
-use Rattle.rules.specs.Associations.{Mark, marks, number11}
+use Rattle.rules.specs.Associations.{marks, number11}
 use Rattle.rules.specs.Record.{Rec, key_of}
 use Rattle.rules.specs.Outcome.{done}
 use Rattle.contents.proofs.VerdictLaws.{says_pass}
@@ -40,8 +42,6 @@ use Rattle.references.specs.Readable.{record_readable, every_readable}
 use Rattle.references.specs.Named.{Says}
 use Rattle.references.specs.Vouched.{Aided}
 use Rattle.references.specs.Linked.{said_by, Answers}
-use Rattle.references.specs.declared.dataset.Linked.{Linked}
-use Rattle.references.specs.declared.dataset.Linked.TheVariants.{All, Loose}
 use Rattle.references.proofs.ReadableLaws.{passed_readable}
 use Rattle.references.proofs.RecordLaws.{part_small}
 
@@ -64,64 +64,66 @@ reached_start f start t n map v l e =
 pub reached_in : (f : List ℕ) (start p m : ℕ) → Reached f start p m → p ≤ length f
 reached_in f start p m s = s.inside
 
-pub reached_over : (f : List ℕ) (start p m : ℕ) → Reached f start p m → length f ≤ p → Answers f start All
+reached_over : (f : List ℕ) (start p m : ℕ) → Reached f start p m → length f ≤ p → Answers f start (Ok tt)
 unfolding Answers said_by
 reached_over f start p m s h recs b = references_over recs f p m _ (s.same recs b) h
 
--- a test of references that is refused: it is 11
-loose_at : (keys : List (List ℕ)) (ms : List Mark) (k i j : ℕ) → Refused k i j ≡ verdict_of (number11 keys ms) → number11 keys ms ≡ no (fault 11 i j)
-unfolding number11 verdict_of
-loose_at keys [] k i j e = absurd (let z : ◌≡◌ {A = ℕ} 0 1 = cc in omega arith)
-loose_at keys (m ∷ ms) k i j e = go (loose_at keys ms k i j) (among (take 2 m.key) keys) e
+-- where a leader's numbers are read, the file goes on
+pub stated_some : (f : List ℕ) (p : ℕ) (h : Result Head Broken) → h ≡ stated_at f p → (d : Head) → h ≡ Ok d → p < length f
+unfolding stated_at
+stated_some f p h eh d x = go (ltb (length f - p) 24) refl (sym x ∙ eh)
   where
-    go : (Refused k i j ≡ verdict_of (number11 keys ms) → number11 keys ms ≡ no (fault 11 i j)) → (t : Bool)
-        → Refused k i j ≡ verdict_of (pick t (number11 keys ms) (no (fault 11 m.field m.tuple)))
-        → pick t (number11 keys ms) (no (fault 11 m.field m.tuple)) ≡ no (fault 11 i j)
-    go later true h = later h
-    go later false h =
-        let a : m.field ≡ i = cc in
-        let b : m.tuple ≡ j = cc in
-        rw (a, b)
+    go : (t : Bool) → ltb (length f - p) 24 ≡ t → Ok d ≡ pick t (Err Cut) (stated_of (drop p f)) → p < length f
+    go true e z = absurd (let y : ◌≡◌ {A = ℕ} 0 1 = cc in omega arith)
+    go false e z = let k = ltb-false (length f - p) 24 e in omega arith
 
 -- the record at hand, by what its leader says
-module _ (f : List ℕ) (start p m : ℕ) (s : Reached f start p m) (l : p < length f) (h : Head) (eh : h ≡ stated_at f p) where
-  found : h ≡ record_at f p
-  found = again f p (records_some f p l s.clean) h eh
+module _ (f : List ℕ) (start p m : ℕ) (s : Reached f start p m) (h : Result Head Broken) (eh : h ≡ stated_at f p) where
+  -- there is none only at the end of the file
+  pub reached_ended : (n : Broken) → h ≡ Err n → Answers f start (Ok tt)
+  reached_ended n x = go (ltb p (length f)) refl
+    where
+      go : (t : Bool) → ltb p (length f) ≡ t → Answers f start (Ok tt)
+      go true e = absurd (again_not f p (records_some f p (ltb-true p (length f) e) s.clean) h eh n x)
+      go false e = reached_over f start p m s (ltb-false p (length f) e)
 
-  pub reached_unread : (n : ℕ) → h ≡ Unread n → (r : Linked) → Answers f start r
-  reached_unread n x r = absurd (again_not f p (records_some f p l s.clean) h eh n x)
+  module _ (d : Head) (x : h ≡ Ok d) where
+    here : p < length f
+    here = stated_some f p h eh d x
 
-  module _ (len base a b : ℕ) (x : h ≡ Good len base a b) where
-    whole : Right f p len base a b
-    whole = right f p h found len base a b x
+    found : h ≡ record_at f p
+    found = again f p (records_some f p here s.clean) h eh
+
+    whole : Right f p d
+    whole = right f p h found d x
 
     -- its fields, and the records behind it
     abbrev fields : List Field
-    fields = fields_at (between f p (p + len)) (record { base = base; a = a; b = b }) 24
+    fields = fields_at (between f p (p + d.len)) d.shape 24
 
-    apart : (record_readable fields ≡ true) × (every_readable (records_from f (p + len)).items ≡ true)
+    apart : (record_readable fields ≡ true) × (every_readable (records_from f (p + d.len)).items ≡ true)
     unfolding every_readable
-    apart = both_hold _ _ (rw (records_more f p l h found len base a b x) at s.readable)
+    apart = both_hold _ _ (rw (records_more f p here h found d x) at s.readable)
 
     pub record_readable_lem : record_readable fields ≡ true
     record_readable_lem = apart.0
 
-    pub record_bounded : Bounded (record { base = base; a = a; b = b })
+    pub record_bounded : Bounded d.shape
     record_bounded = whole.bounded
 
-    pub record_right : RightFrom (between f p (p + len)) (record { base = base; a = a; b = b }) 24
-    record_right = right_start f p len _ (sym found ∙ x)
+    pub record_right : RightFrom (between f p (p + d.len)) d.shape 24
+    record_right = right_start f p d.len d.shape (sym found ∙ x)
 
-    pub record_in_lem : p + len ≤ length f
+    pub record_in_lem : p + d.len ≤ length f
     record_in_lem = whole.inside
 
-    pub record_runs : p ≤ p + len
+    pub record_runs : p ≤ p + d.len
     record_runs = omega arith
 
-    pub record_small : length (between f p (p + len)) ≤ 16777216
-    record_small = part_small f p (p + len) 16777216 s.small
+    pub record_small : length (between f p (p + d.len)) ≤ 16777216
+    record_small = part_small f p (p + d.len) 16777216 s.small
 
-    pub record_word : p + len < 2 ^ 64
+    pub record_word : p + d.len < 2 ^ 64
     record_word = let i = record_in_lem in let k = s.small in omega arith
 
     pub record_counts : m + 1 < 2 ^ 64
@@ -130,11 +132,11 @@ module _ (f : List ℕ) (start p m : ℕ) (s : Reached f start p m) (l : p < len
     pub record_number : m + 4 < 2 ^ 64
     record_number = let c = s.counted in let k = s.small in omega arith
 
-    pub record_falls : length f - (p + len) < length f - p
-    record_falls = let g = whole.long in omega arith
+    pub record_falls : length f - (p + d.len) < length f - p
+    record_falls = let g = whole.long in let i = here in omega arith
 
-    module _ (v : Verdict) (said : Says f start (marks 1 fields) v) where
-      pub record_more : v ≡ Through → Reached f start (p + len) (m + 1)
+    module _ (v : Result (Unit {0}) Fault) (said : Says f start (marks 1 fields) v) where
+      pub record_more : v ≡ Ok tt → Reached f start (p + d.len) (m + 1)
       unfolding Says
       record_more y =
           let g = whole.long in
@@ -143,21 +145,21 @@ module _ (f : List ℕ) (start p m : ℕ) (s : Reached f start p m) (l : p < len
             small = s.small;
             inside = record_in_lem;
             counted = omega arith;
-            clean = rw (records_more f p l h found len base a b x) at s.clean;
+            clean = rw (records_more f p here h found d x) at s.clean;
             readable = apart.1;
             same = λ recs q.
-                references_more recs f p m _ (s.same recs q) l h found len base a b x tt
+                references_more recs f p m _ (s.same recs q) here h found d x tt
                 (says_pass (number11 (each key_of recs) (marks 1 fields)) (sym (said recs q) ∙ y));
           }
 
-      pub record_loose : (k i j : ℕ) → v ≡ Refused k i j → Answers f start (Loose (m + 4) i j)
+      pub record_loose : (z : Fault) → v ≡ Err z → Answers f start (Err (refusal (m + 4) z))
       unfolding Says Answers said_by
-      record_loose k i j y recs q =
-          references_loose recs f p m _ (s.same recs q) l h found len base a b x (fault 11 i j)
-          (loose_at (each key_of recs) (marks 1 fields) k i j (sym y ∙ said recs q))
+      record_loose z y recs q =
+          references_loose recs f p m _ (s.same recs q) here h found d x z
+          (refused_is (number11 (each key_of recs) (marks 1 fields)) z (sym y ∙ said recs q))
 
 pub ruleset records_turn =
-    (reached_start, reached_in, reached_over, reached_unread, record_readable_lem, record_bounded, record_right, record_in_lem, record_runs, record_small, record_word, record_counts, record_number, record_falls, record_more, record_loose)
+    (reached_start, reached_in, reached_ended, record_readable_lem, record_bounded, record_right, record_in_lem, record_runs, record_small, record_word, record_counts, record_number, record_falls, record_more, record_loose)
 
 -- ---- the whole: what 1 to 7 give
 

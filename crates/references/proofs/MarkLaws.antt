@@ -5,21 +5,20 @@ use mathlib.Core.Bool.{Bool, true, false}
 use Prim.Native.Nat.{ℕ}
 use lib.ListN.{take}
 use Rattle.base.specs.Choice.{pick}
+use Rattle.std.specs.Prelude.{Result, Ok, Err}
 use Rattle.base.specs.Check.{no, bind, fault}
 use Rattle.base.specs.Keys.{among}
 use Rattle.base.specs.Lists.{each}
 use Rattle.base.specs.Verdict.{verdict_of}
-use Rattle.base.specs.declared.Verdict.{Verdict}
-use Rattle.base.specs.declared.Verdict.TheVariants.{Passed as Through, Refused}
+use Rattle.base.specs.declared.Fault.{Fault}
 use Rattle.rules.specs.Associations.{Mark, number11}
-use Rattle.rules.specs.Record.{Rec, key_of}
+use Rattle.rules.specs.Record.{key_of}
 use Rattle.contents.proofs.VerdictLaws.{says_pass, says_no}
 use Rattle.keys.specs.Key.{key_at}
 use Rattle.keys.specs.Listed.{has_from}
 use Rattle.keys.specs.Look.{Sound}
-use Rattle.keys.specs.Numbered.{Numbered}
 use Rattle.keys.proofs.NamedLaws.{Names}
-use Rattle.keys.proofs.ReferenceLaws.{Reads, named_more, named_loose}
+use Rattle.keys.proofs.ReferenceLaws.{named_more, named_loose}
 use Rattle.references.specs.Named.{Says, Alike}
 
 -- ---- references one after the other
@@ -42,23 +41,23 @@ module _ (f : List ℕ) (start : ℕ) where
   alike_same ms recs b = refl
 
   -- of none there is nothing to refuse
-  pub says_none : (whole : List Mark) → Alike f start [] whole → Says f start whole Through
+  pub says_none : (whole : List Mark) → Alike f start [] whole → Says f start whole (Ok tt)
   unfolding Says Alike number11 verdict_of
   says_none whole a recs b = ap verdict_of (a recs b)
 
   -- a first part that passes, and one that is refused
-  module _ (ms ns whole : List Mark) (a : Alike f start (ms ++ ns) whole) (v : Verdict) (s : Says f start ms v) where
-    pub parts_more : v ≡ Through → Alike f start ns whole
+  module _ (ms ns whole : List Mark) (a : Alike f start (ms ++ ns) whole) (v : Result (Unit {0}) Fault) (s : Says f start ms v) where
+    pub parts_more : v ≡ Ok tt → Alike f start ns whole
     unfolding Says Alike bind
     parts_more x recs b =
         let keys = each key_of recs in
         rw (says_pass (number11 keys ms) (sym (s recs b) ∙ x)) at (rw (number11_parts keys ms ns) at (a recs b))
 
-    pub parts_refused : (k i j : ℕ) → v ≡ Refused k i j → Says f start whole (Refused k i j)
+    pub parts_refused : (y : Fault) → v ≡ Err y → Says f start whole (Err y)
     unfolding Says Alike
-    parts_refused k i j x recs b =
+    parts_refused y x recs b =
         let keys = each key_of recs in
-        says_no (number11 keys ms) (λ _. number11 keys ns) k i j (sym (s recs b) ∙ x) ∙ ap verdict_of (sym (number11_parts keys ms ns) ∙ a recs b)
+        says_no (number11 keys ms) (λ _. number11 keys ns) y (sym (s recs b) ∙ x) ∙ ap verdict_of (sym (number11_parts keys ms ns) ∙ a recs b)
 
   -- the first reference, which stands in the bytes l at p
   module _ (sound : Sound f start) (m : Mark) (ms whole : List Mark) (a : Alike f start (m ∷ ms) whole) (l : List ℕ) (p : ℕ)
@@ -67,6 +66,6 @@ module _ (f : List ℕ) (start : ℕ) where
     unfolding Alike
     mark_more x recs b = named_more f start recs b m ms l p named t et _ (a recs b) x
 
-    pub mark_loose : t ≡ false → Says f start whole (Refused 11 m.field m.tuple)
+    pub mark_loose : t ≡ false → Says f start whole (Err (fault 11 m.field m.tuple))
     unfolding Alike Says verdict_of
     mark_loose x recs b = ap verdict_of (named_loose f start recs b m ms l p named t et _ (a recs b) x)

@@ -6,10 +6,10 @@ use Prim.Native.Nat.{ℕ, ◌+◌, ◌≤◌}
 use native.Mathlib.Omega.{arith}
 use borrow.Author.Tests.{eq-eqb, ne_eqb, eqb-true}
 use lib.Dec.{eqb}
+use Rattle.std.specs.Prelude.{Option, Some}
 use Rattle.base.specs.Choice.{pick}
 use Rattle.base.specs.Check.{ok}
 use Rattle.base.specs.Lists.{each}
-use Rattle.base.specs.Walk.{Got}
 use Rattle.base.proofs.CheckLaws.{bind_inv}
 use Rattle.base.proofs.ChoiceLaws.{both_hold}
 use Rattle.fields.specs.Table.{head_of, tuple_of}
@@ -20,7 +20,6 @@ use Rattle.skeleton.specs.File.{Field, records_from}
 use Rattle.skeleton.specs.Place.{between, place_at, fields_at}
 use Rattle.skeleton.specs.declared.directory.Shape.{Shape}
 use Rattle.skeleton.specs.declared.place.Place.{Place}
-use Rattle.skeleton.specs.declared.place.Place.TheVariants.{At}
 use Rattle.skeleton.proofs.PlaceLaws.{fields_more}
 use Rattle.rules.specs.Tags.{INAS, SPAS}
 use Rattle.rules.specs.ByTag.{first_tag}
@@ -163,14 +162,14 @@ module _ (r : List ℕ) (h : Shape) (e : record_readable (fields_at r h 24) ≡ 
 
 -- ---- field by field: by the place e that was read at p
 
-module _ (r : List ℕ) (h : Shape) (p : ℕ) (e : Place) (en : e ≡ place_at r h p) (tag start end next : ℕ) (x : e ≡ At tag start end next)
+module _ (r : List ℕ) (h : Shape) (p : ℕ) (e : Option Place) (en : e ≡ place_at r h p) (field : Place) (x : e ≡ Some field)
     (a : all_readable (fields_at r h p) ≡ true) where
-  apart : (readable (record { tag = tag; body = between r start end }) ≡ true) × (all_readable (fields_at r h next) ≡ true)
+  apart : (readable (record { tag = field.tag; body = between r field.start field.end }) ≡ true) × (all_readable (fields_at r h field.next) ≡ true)
   unfolding all_readable
-  apart = both_hold _ _ (rw (fields_more r h p e en tag start end next x) at a)
+  apart = both_hold _ _ (rw (fields_more r h p e en field x) at a)
 
-  pub readable_here : readable (record { tag = tag; body = between r start end }) ≡ true
+  pub readable_here : readable (record { tag = field.tag; body = between r field.start field.end }) ≡ true
   readable_here = apart.0
 
-  pub readable_next : all_readable (fields_at r h next) ≡ true
+  pub readable_next : all_readable (fields_at r h field.next) ≡ true
   readable_next = apart.1

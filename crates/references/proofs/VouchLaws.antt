@@ -2,19 +2,21 @@
 use mathlib.Core.Path.{◌≡◌, refl, sym, ◌∙◌}
 use mathlib.Core.List.{List}
 use mathlib.Core.Bool.{Bool, true, false, true≢false}
-use Prim.Native.Nat.{ℕ, ◌+◌, ◌-◌, ◌/◌, ◌≤◌, ◌<◌}
+use Prim.Native.Nat.{ℕ, ◌+◌, ◌-◌, ◌/◌, ◌<◌}
 use native.Mathlib.Omega.{arith}
 use lib.ListN.{length, replicate}
+use Rattle.std.specs.Prelude.{Option, Some, is_some}
 use Rattle.skeleton.proofs.PlaceLaws.{place_bounds}
 use Rattle.skeleton.proofs.RecordLaws.{record_bounds}
 use Rattle.memory.specs.Hold.{zeros}
 use Rattle.keys.specs.Bits.{flag_of}
 use Rattle.keys.specs.Listed.{keys_from, has_from}
 use Rattle.keys.specs.Look.{look_at, Sound}
-use Rattle.keys.specs.Slots.{slot_of}
+use Rattle.keys.specs.Places.{site_in}
+use Rattle.keys.specs.Slots.{slot_in}
 use Rattle.keys.specs.Table.{Tail, Laid}
 use Rattle.keys.specs.declared.look.Look.{Look}
-use Rattle.keys.specs.declared.look.Look.TheVariants.{At}
+use Rattle.keys.proofs.PlaceLaws.{site_says}
 use Rattle.keys.proofs.SlotLaws.{slots_say}
 use Rattle.keys.proofs.SoundLaws.{sound_falls}
 use Rattle.keys.proofs.TableLaws.{tail_start, tail_sound}
@@ -38,15 +40,15 @@ vouched_not b e = absurd (true≢false (sym e))
 pub all_start : (f : List ℕ) (start : ℕ) → Sound f start → Tail f start start
 all_start = tail_start
 
-module _ (f : List ℕ) (start p : ℕ) (l : Tail f start p) (e : Look) (en : e ≡ look_at f p) (len key : ℕ) (x : e ≡ At len key) where
-  pub all_vouched : (b k k' : List ℕ) → Vouched f start b k → k' ≡ joined b k key → Vouched f start b k'
+module _ (f : List ℕ) (start p : ℕ) (l : Tail f start p) (e : Option Look) (en : e ≡ look_at f p) (look : Look) (x : e ≡ Some look) where
+  pub all_vouched : (b k k' : List ℕ) → Vouched f start b k → k' ≡ joined b k look.key → Vouched f start b k'
   unfolding Vouches
   all_vouched b k k' v y =
-      let h = near_found f start p l e en len key x key refl refl in
-      record { some = v.some; vouches = means_joined (λ key'. has_from f start key' ≡ true) b k v.vouches key h k' y }
+      let h = near_found f start p l e en look x look.key refl in
+      record { some = v.some; vouches = means_joined (λ key'. has_from f start key' ≡ true) b k v.vouches look.key h k' y }
 
-  pub all_falls : length f - (p + len) < length f - p
-  all_falls = sound_falls f p (tail_sound f start p l) e en len key x
+  pub all_falls : length f - (p + look.len) < length f - p
+  all_falls = sound_falls f p (tail_sound f start p l) e en look x
 
 pub vouched_some : (f : List ℕ) (start : ℕ) (b k : List ℕ) → Vouched f start b k → 0 < length b
 vouched_some f start b k v = v.some
@@ -66,15 +68,18 @@ pub ruleset sift_ways = (unmet_zeros, unmet_sifted, arith)
 pub found_there : (b h : Bool) → (b ≡ true → h ≡ true) → b ≡ true → true ≡ h
 found_there b h g e = sym (g e)
 
-pub ruleset found_ways = (found_there, vouched_some, arith)
+pub found_site : (f : List ℕ) (start key : ℕ) → Sound f start → (r : Option ℕ) → r ≡ site_in f start key → (b : Bool) → b ≡ is_some r → b ≡ has_from f start key
+found_site f start key s r e b x = x ∙ site_says f start key s r e
+
+pub ruleset found_ways = (found_there, found_site, vouched_some, arith)
 
 module _ (f : List ℕ) (start : ℕ) (t : List ℕ) (n : ℕ) (map k : List ℕ) (a : Aided f start t n map k) where
   pub aided_sound : Sound f start
   aided_sound = a.sound
 
-  pub aided_flag : (key s : ℕ) → s ≡ slot_of key → s < 262144 → s / 8 < length map → (b : Bool) → b ≡ flag_of map s → b ≡ has_from f start key
+  pub aided_flag : (key : ℕ) (r : Option ℕ) → r ≡ slot_in key → (s : ℕ) → r ≡ Some s → s / 8 < length map → (b : Bool) → b ≡ flag_of map s → b ≡ has_from f start key
   unfolding has_from
-  aided_flag key s e h g b x = x ∙ slots_say (keys_from f start) map key s a.slots e h g
+  aided_flag key r e s h g b x = x ∙ slots_say (keys_from f start) map key a.slots r e s h g
 
   module _ (o : Bool) (eo : o ≡ flag_of map 262144) where
     pub aided_table : o ≡ true → Laid f start t n map

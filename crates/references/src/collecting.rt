@@ -8,19 +8,10 @@ use book::rcids::{rcid_of, sift};
 use keys::look::key_at;
 use keys::slots::slot;
 use memory::clearing::zero;
+use rules::tags;
 use skeleton::directory::Shape;
 use skeleton::file::record_at;
-use skeleton::leader::Head;
-use skeleton::place::{Place, place_at};
-
-// The largest number everywhere.
-fn blank(t: &mut [u32]) {
-    let mut i = 0;
-    while i < t.len() {
-        t[i] = 4294967295;
-        i += 1;
-    }
-}
+use skeleton::place::place_at;
 
 // The RCID of one key more behind n entries, if it has no place in the map and the book has room; how many there are then.
 fn add(t: &mut [u32], k: &mut [u8], n: usize, key: u64) -> usize
@@ -30,7 +21,7 @@ fn add(t: &mut [u32], k: &mut [u8], n: usize, key: u64) -> usize
     if t.len() <= n {
         return t.len();
     }
-    if slot(key) < 262144 {
+    if slot(key).is_some() {
         return n;
     }
     let rcid = rcid_of(key);
@@ -46,6 +37,7 @@ fn add_tuples(t: &mut [u32], k: &mut [u8], n: usize, b: &[u8], from: usize) -> u
 {
     let mut at = from;
     let mut m = n;
+    // A `while`: a tuple of 15 bytes is read where it stands.
     while at < b.len() {
         if 16777216 < at {
             return m;
@@ -61,10 +53,10 @@ fn add_field(t: &mut [u32], k: &mut [u8], n: usize, tag: u32, b: &[u8], from: us
     requires { (n ≤ length t.old) × Unmet k.old }
     ensures { (result ≤ length t.new) × Unmet k.new }
 {
-    if tag == 0x494e4153 {
+    if tag == tags::INAS {
         return add(t, k, n, key_at(b, 0));
     }
-    if tag == 0x53504153 {
+    if tag == tags::SPAS {
         return add_tuples(t, k, n, b, from);
     }
     n
@@ -86,30 +78,19 @@ fn add_record(
     let mut e = q;
     let mut at = from;
     let mut m = n;
-    loop {
-        match place_at(r, h, e) {
-            Place::At {
-                tag,
-                start,
-                end,
-                next,
-            } => {
-                m = add_field(t, k, m, tag, &r[start..end], at);
-                e = next;
-                at = 0;
-            }
-            Place::Done => {
-                return m;
-            }
-        }
+    while let Some(field) = place_at(r, h, e) {
+        m = add_field(t, k, m, field.tag, &r[field.start..field.end], at);
+        e = field.next;
+        at = 0;
     }
+    m
 }
 
 // Those of the records from p on, of the first from the field on whose entry stands at q.
 pub fn collect(f: &[u8], p: usize, q: usize, from: usize, t: &mut [u32], k: &mut [u8])
     ensures { Unmet k.new }
 {
-    blank(t);
+    t.fill(u32::MAX);
     zero(k);
     if f.len() < p {
         return;
@@ -119,17 +100,13 @@ pub fn collect(f: &[u8], p: usize, q: usize, from: usize, t: &mut [u32], k: &mut
     let mut at = from;
     let mut n = 0;
     while n < t.len() {
-        match record_at(f, r) {
-            Head::Good { len, base, a, b } => {
-                let to = r + len;
-                n = add_record(t, k, n, &f[r..to], Shape { base, a, b }, e, at);
-                r = to;
-                e = 24;
-                at = 0;
-            }
-            Head::Refused(_) => {
-                return;
-            }
-        }
+        let Ok(head) = record_at(f, r) else {
+            return;
+        };
+        let to = r + head.len;
+        n = add_record(t, k, n, &f[r..to], head.shape, e, at);
+        r = to;
+        e = 24;
+        at = 0;
     }
 }

@@ -6,11 +6,13 @@ ghost use Rattle.keys.specs.Look.{Sound};
 ghost use Rattle.references.specs.Vouched.{Vouched, Aided};
 
 use crate::collecting::collect;
-use book::rcids::{enter, sort, spot};
+use book::order::sort;
+use book::rcids::{enter, spot};
 use keys::bits::flag;
-use keys::look::{Look, look_at};
+use keys::look::look_at;
 use keys::order::ordered;
-use keys::present::{has, has_plain};
+use keys::present::has;
+use keys::sites::site_plain;
 use keys::slots::slot;
 
 // Whether the book says that a record with the key was found.
@@ -19,12 +21,7 @@ fn vouched(f: &[u8], start: usize, b: &[u32], k: &[u8], key: u64) -> bool
     ensures { result ≡ true → has_from f.now start key ≡ true }
 {
     let j = spot(b, k, key);
-    if 0 < j {
-        if j / 8 < k.len() {
-            return flag(k, j);
-        }
-    }
-    false
+    0 < j && j / 8 < k.len() && flag(k, j)
 }
 
 // All records are held against the book.
@@ -33,16 +30,9 @@ fn vouch_all(f: &[u8], start: usize, b: &[u32], k: &mut [u8])
     ensures { Vouched f.now start b.now k.new }
 {
     let mut p = start;
-    while p < f.len() {
-        match look_at(f, p) {
-            Look::At { len, key } => {
-                enter(b, k, key);
-                p += len;
-            }
-            Look::Nothing => {
-                return;
-            }
-        }
+    while let Some(look) = look_at(f, p) {
+        enter(b, k, look.key);
+        p += look.len;
     }
 }
 
@@ -74,10 +64,7 @@ fn found(
         return true;
     }
     refill(f, start, p, q, from, b, k);
-    if vouched(f, start, b, k, key) {
-        return true;
-    }
-    has_plain(f, start, key)
+    vouched(f, start, b, k, key) || site_plain(f, start, key).is_some()
 }
 
 // Whether a record has the key that is named at `from` of the field whose entry stands at q of the record at p.
@@ -96,11 +83,10 @@ pub fn exists(
     requires { Aided f.now start t.old n map.now k.old }
     ensures { (result ≡ has_from f.now start key) × Aided f.now start t.new n map.now k.new }
 {
-    let s = slot(key);
-    if s < 262144 {
-        if s / 8 < map.len() {
-            return flag(map, s);
-        }
+    if let Some(s) = slot(key)
+        && s / 8 < map.len()
+    {
+        return flag(map, s);
     }
     if ordered(map) {
         return has(f, start, t, n, map, key);

@@ -6,6 +6,7 @@ use mathlib.Core.List.{List}
 use native.Mathlib.Omega.{arith}
 use native.Mathlib.Numerals.{add-one}
 use lib.ListN.{length}
+use Rattle.std.specs.Prelude.{Result, Ok, Err}
 use Rattle.memory.specs.Put.{put}
 use Rattle.skeleton.specs.File.{records_from}
 use Rattle.rules.specs.Record.{Rec}
@@ -23,9 +24,6 @@ use Rattle.lasting.proofs.WholeLaws.{whole_kept}
 use Rattle.result.specs.Pass.{Within, pass_from, kinds_left, new_left, links_of, Made, Passing, Few, Walked, Sparing, Clear}
 use Rattle.result.specs.Side.{file_of, Reached, StandsBy, Ended, Stands, side_left, side_behind}
 use Rattle.result.specs.declared.pass.Progress.{Progress}
-use Rattle.result.specs.declared.pass.Pass.{Pass}
-use Rattle.result.specs.declared.pass.Pass.TheVariants.{Loose, Went}
-use Rattle.result.specs.declared.Composed.TheVariants.{Loose as LooseResult, Whole as WholeResult}
 use Rattle.result.proofs.RestLaws.{rest_bytes_lem, rest_long}
 use Rattle.result.proofs.ComposedLaws.{said_loose, said_whole, loose_said, whole_linked, whole_long, whole_counted}
 use Rattle.result.proofs.PassLaws.{walked_from, passing_then, sparing_none, sparing_then, sparing_spared}
@@ -56,17 +54,17 @@ unfolding Stands
 stands_new d ds t n map u us w y q = new_start d ds t n map u us w y
 
 module _ (d : List ℕ) (ds : ℕ) (u : List ℕ) (us : ℕ) where
-  few_then : (g h : Progress) → Within (g.made + 16777216) h → (r : Pass) → Few d ds u us 16777216 h r → Few d ds u us 33554432 g r
+  few_then : (g h : Progress) → Within (g.made + 16777216) h → (r : Result Progress ℕ) → Few d ds u us 16777216 h r → Few d ds u us 33554432 g r
   unfolding Few Within
-  few_then g h i (Loose k) f = tt
-  few_then g h i (Went h3) f = let a = i.0 in let b = f.0 in (omega arith, f.1)
+  few_then g h i (Err k) f = tt
+  few_then g h i (Ok h3) f = let a = i.0 in let b = f.0 in (omega arith, f.1)
 
-  reached_from : (q : ℕ) (s : Pass) (p : ℕ) → Reached d ds q p → StandsBy (Reached d ds q) (pass_from s p)
+  reached_from : (q : ℕ) (s : Result Progress ℕ) (p : ℕ) → Reached d ds q p → StandsBy (Reached d ds q) (pass_from s p)
   unfolding StandsBy pass_from
-  reached_from q (Loose k) p g = tt
-  reached_from q (Went h) p g = g
+  reached_from q (Err k) p g = tt
+  reached_from q (Ok h) p g = g
 
-  module _ (q : ℕ) (l : q ≤ 4) (g : Progress) (z : Reached d ds q g.next) (w o w2 o2 : List ℕ) (r : Pass)
+  module _ (q : ℕ) (l : q ≤ 4) (g : Progress) (z : Reached d ds q g.next) (w o w2 o2 : List ℕ) (r : Result Progress ℕ)
       (v : Ended d ds u us (side_left d ds u us q true g.next) (side_behind d ds u us q true) 16777216 (Stands d ds u us q true) g w o w2 o2 r) where
     first : Passing d ds u us (kinds_left d ds u us q) (new_left d ds u us q us) g o o2 r
     unfolding side_left side_behind
@@ -77,41 +75,41 @@ module _ (d : List ℕ) (ds : ℕ) (u : List ℕ) (us : ℕ) where
     pub kind_whole : (t : List ℕ) (n : ℕ) (map : List ℕ) → Whole d ds t n map u us w → length w2 ≡ length w → Whole d ds t n map u us w2
     kind_whole t n map y k = whole_kept d ds t n map u us w y w2 v.flags k
 
-    pub kind_loose : (k : ℕ) → r ≡ Loose k
-        → Ended d ds u us (kinds_left d ds u us q) (kinds_left d ds u us (suc q)) 33554432 (Reached d ds (suc q)) g w o w2 o2 (Loose k)
+    pub kind_loose : (k : ℕ) → r ≡ Err k
+        → Ended d ds u us (kinds_left d ds u us q) (kinds_left d ds u us (suc q)) 33554432 (Reached d ds (suc q)) g w o w2 o2 (Err k)
     unfolding Passing Few StandsBy Sparing
     kind_loose k x = record {
-      walked = record { passing = subst (λ (a : Pass). Passing d ds u us (kinds_left d ds u us q) (new_left d ds u us q us) g o o2 a) x first; few = tt; spares = tt };
+      walked = record { passing = subst (λ (a : Result Progress ℕ). Passing d ds u us (kinds_left d ds u us q) (new_left d ds u us q us) g o o2 a) x first; few = tt; spares = tt };
       stands = tt;
       flags = v.flags;
     }
 
-    module _ (h : Progress) (x : r ≡ Went h) where
+    module _ (h : Progress) (x : r ≡ Ok h) where
       few_first : Within (g.made + 16777216) h
       unfolding Few
-      few_first = subst (λ (a : Pass). Few d ds u us 16777216 g a) x v.walked.few
+      few_first = subst (λ (a : Result Progress ℕ). Few d ds u us 16777216 g a) x v.walked.few
 
       reached : Reached d ds (suc q) h.next
       unfolding StandsBy Stands
-      reached = subst (λ (a : Pass). StandsBy (Stands d ds u us q true) a) x v.stands
+      reached = subst (λ (a : Result Progress ℕ). StandsBy (Stands d ds u us q true) a) x v.stands
 
       pub kind_within : Within 1073741824 g → Within 2147483648 (record { to = h.to; made = h.made; next = us })
       unfolding Within
       kind_within i = let a = few_first.0 in let b = i.0 in (omega arith, few_first.1)
 
-      spares : Sparing g o o2 (Went h)
-      spares = subst (λ (a : Pass). Sparing g o o2 a) x v.walked.spares
+      spares : Sparing g o o2 (Ok h)
+      spares = subst (λ (a : Result Progress ℕ). Sparing g o o2 a) x v.walked.spares
 
       -- the indices that are left
       pub kind_spared : (lim : Limits) → Spared d ds u us lim g.to o → Spared d ds u us lim h.to o2
       kind_spared lim i = sparing_spared d ds u us lim g h o o2 spares i
 
-      module _ (w3 o3 : List ℕ) (s : Pass)
+      module _ (w3 o3 : List ℕ) (s : Result Progress ℕ)
           (y : Ended d ds u us (side_left d ds u us q false us) (side_behind d ds u us q false) 16777216 (Stands d ds u us q false) (record { to = h.to; made = h.made; next = us }) w2 o2 w3 o3 s) where
         -- the place in the dataset is put by
-        aside : Passing d ds u us (kinds_left d ds u us q) (new_left d ds u us q us) g o o2 (Went (record { to = h.to; made = h.made; next = us }))
+        aside : Passing d ds u us (kinds_left d ds u us q) (new_left d ds u us q us) g o o2 (Ok (record { to = h.to; made = h.made; next = us }))
         unfolding Passing
-        aside = subst (λ (a : Pass). Passing d ds u us (kinds_left d ds u us q) (new_left d ds u us q us) g o o2 a) x first
+        aside = subst (λ (a : Result Progress ℕ). Passing d ds u us (kinds_left d ds u us q) (new_left d ds u us q us) g o o2 a) x first
 
         second : Walked d ds u us (kinds_left d ds u us q) (kinds_left d ds u us (suc q)) 33554432 g o o3 s
         unfolding side_left side_behind Sparing
@@ -122,10 +120,10 @@ module _ (d : List ℕ) (ds : ℕ) (u : List ℕ) (us : ℕ) where
           spares = sparing_then g (record { to = h.to; made = h.made; next = us }) o o2 o3 spares s y.walked.spares;
         }
 
-        pub kind_on : (p : Pass) → p ≡ pass_from s h.next
+        pub kind_on : (p : Result Progress ℕ) → p ≡ pass_from s h.next
             → Ended d ds u us (kinds_left d ds u us q) (kinds_left d ds u us (suc q)) 33554432 (Reached d ds (suc q)) g w o w3 o3 p
         kind_on p e =
-            subst (λ (a : Pass). Ended d ds u us (kinds_left d ds u us q) (kinds_left d ds u us (suc q)) 33554432 (Reached d ds (suc q)) g w o w3 o3 a) (sym e)
+            subst (λ (a : Result Progress ℕ). Ended d ds u us (kinds_left d ds u us q) (kinds_left d ds u us (suc q)) 33554432 (Reached d ds (suc q)) g w o w3 o3 a) (sym e)
             (record {
               walked = walked_from d ds u us (kinds_left d ds u us q) (kinds_left d ds u us (suc q)) 33554432 g o o3 s h.next second;
               stands = reached_from (suc q) s h.next reached;
@@ -136,13 +134,13 @@ module _ (d : List ℕ) (ds : ℕ) (u : List ℕ) (us : ℕ) where
 
   -- the kinds before the one with place q were made
   pub record Kinds (t : List ℕ) (n : ℕ) (map : List ℕ) (q : ℕ) (g : Progress) (at : ℕ) (before w out : List ℕ) : Type 0 where
-    pub passing : Passing d ds u us (kinds_left d ds u us 1) (kinds_left d ds u us q) (record { to = at; made = 0; next = ds }) before out (Went g)
+    pub passing : Passing d ds u us (kinds_left d ds u us 1) (kinds_left d ds u us q) (record { to = at; made = 0; next = ds }) before out (Ok g)
     pub reached : Reached d ds q g.next
     pub whole : Whole d ds t n map u us w
     pub place : q ≤ 5
     pub few : g.made ≤ 33554432 * q
     pub room : g.to ≤ 33854429 + 99999 * g.made
-    pub spares : Sparing (record { to = at; made = 0; next = ds }) before out (Went g)
+    pub spares : Sparing (record { to = at; made = 0; next = ds }) before out (Ok g)
 
   module _ (t : List ℕ) (n : ℕ) (map : List ℕ) (at : ℕ) where
     pub kinds_start : at ≤ 33854429 → (o w : List ℕ) → Whole d ds t n map u us w → Kinds t n map 1 (record { to = at; made = 0; next = ds }) at o w o
@@ -175,7 +173,7 @@ module _ (d : List ℕ) (ds : ℕ) (u : List ℕ) (us : ℕ) where
       spares_kept l = k.spares.2 l
 
       -- behind the last kind
-      pub kinds_over : 5 ≤ q → ComposedBy (stock_from d ds) (records_from u us).items at before (WholeResult g.to g.made) out
+      pub kinds_over : 5 ≤ q → ComposedBy (stock_from d ds) (records_from u us).items at before (Ok (record { length = g.to; count = g.made })) out
       unfolding Passing result_references
       kinds_over h =
           let all : Complete (links_of d ds u us) (result_records (stock_from d ds) (records_from u us).items) at g.made g.to before out
@@ -183,59 +181,59 @@ module _ (d : List ℕ) (ds : ℕ) (u : List ℕ) (us : ℕ) where
           (composing_same (links_of d ds u us) (result_records (stock_from d ds) (records_from u us).items) at before g.made g.to out _ _
           (left_end (stock_from d ds) (records_from u us).items q (let p = k.place in omega arith)) (k.passing at before none_made)) in
           record {
-            said = said_whole _ _ at g.to g.made all.passed (all.long ∙ ap (λ (n : ℕ). at + n) (rest_long (stock_from d ds) (records_from u us).items)) all.count;
-            stands = λ len c e s.
-                let z : len ≡ g.to = cc in
+            said = said_whole _ _ at (record { length = g.to; count = g.made }) all.passed (all.long ∙ ap (λ (n : ℕ). at + n) (rest_long (stock_from d ds) (records_from u us).items)) all.count;
+            stands = λ c e s.
+                let z : c.length ≡ g.to = cc in
                 (all.wrote (omega arith)).is ∙ ap (λ (b : List ℕ). put at b before) (rest_bytes_lem (stock_from d ds) (records_from u us).items);
-            kept = λ len c e l. spares_kept l;
+            kept = λ c e l. spares_kept l;
           }
 
-      pub kinds_again : (r : Composed) → Again u us w r
-      kinds_again r = record { flags = λ len c e. k.whole.flags }
+      pub kinds_again : (r : Result Composed ℕ) → Again u us w r
+      kinds_again r = record { flags = λ c e. k.whole.flags }
 
       module _ (l : q < 5) where
         pub kinds_within : Within 1073741824 g
         unfolding Within
         kinds_within = let f = k.few in (omega arith, k.room)
 
-        module _ (w2 out2 : List ℕ) (r : Pass)
+        module _ (w2 out2 : List ℕ) (r : Result Progress ℕ)
             (v : Ended d ds u us (kinds_left d ds u us q) (kinds_left d ds u us (suc q)) 33554432 (Reached d ds (suc q)) g w out w2 out2 r) where
           on : Passing d ds u us (kinds_left d ds u us 1) (kinds_left d ds u us (suc q)) (record { to = at; made = 0; next = ds }) before out2 r
           on = passing_then d ds u us (kinds_left d ds u us 1) (kinds_left d ds u us q) (kinds_left d ds u us (suc q)) (record { to = at; made = 0; next = ds }) g before out out2 k.passing r v.walked.passing
 
-          pub kinds_loose : (i : ℕ) → r ≡ Loose i → ComposedBy (stock_from d ds) (records_from u us).items at before (LooseResult i) out2
+          pub kinds_loose : (i : ℕ) → r ≡ Err i → ComposedBy (stock_from d ds) (records_from u us).items at before (Err i) out2
           unfolding Passing
           kinds_loose i x =
-              let f : Passing d ds u us (kinds_left d ds u us 1) (kinds_left d ds u us (suc q)) (record { to = at; made = 0; next = ds }) before out2 (Loose i)
-              = subst (λ (a : Pass). Passing d ds u us (kinds_left d ds u us 1) (kinds_left d ds u us (suc q)) (record { to = at; made = 0; next = ds }) before out2 a) x on in
+              let f : Passing d ds u us (kinds_left d ds u us 1) (kinds_left d ds u us (suc q)) (record { to = at; made = 0; next = ds }) before out2 (Err i)
+              = subst (λ (a : Result Progress ℕ). Passing d ds u us (kinds_left d ds u us 1) (kinds_left d ds u us (suc q)) (record { to = at; made = 0; next = ds }) before out2 a) x on in
               let y = f at before none_made in
               record {
                 said = said_loose _ _ at i y.0 y.1 y.2;
-                stands = λ len c e. absurd (let z : ◌≡◌ {A = ℕ} 0 1 = cc in omega arith);
-                kept = λ len c e. absurd (let z : ◌≡◌ {A = ℕ} 0 1 = cc in omega arith);
+                stands = λ c e. absurd (let z : ◌≡◌ {A = ℕ} 0 1 = cc in omega arith);
+                kept = λ c e. absurd (let z : ◌≡◌ {A = ℕ} 0 1 = cc in omega arith);
               }
 
-          pub kinds_next : (h : Progress) → r ≡ Went h → length w2 ≡ length w → Kinds t n map (q + 1) h at before w2 out2
+          pub kinds_next : (h : Progress) → r ≡ Ok h → length w2 ≡ length w → Kinds t n map (q + 1) h at before w2 out2
           unfolding Few Within StandsBy
           kinds_next h x s =
-              let f : Few d ds u us 33554432 g (Went h) = subst (λ (a : Pass). Few d ds u us 33554432 g a) x v.walked.few in
+              let f : Few d ds u us 33554432 g (Ok h) = subst (λ (a : Result Progress ℕ). Few d ds u us 33554432 g a) x v.walked.few in
               let z : suc q ≡ q + 1 = sym (add-one q) in
               record {
-                passing = subst (λ (m : ℕ). Passing d ds u us (kinds_left d ds u us 1) (kinds_left d ds u us m) (record { to = at; made = 0; next = ds }) before out2 (Went h)) z
-                    (subst (λ (a : Pass). Passing d ds u us (kinds_left d ds u us 1) (kinds_left d ds u us (suc q)) (record { to = at; made = 0; next = ds }) before out2 a) x on);
-                reached = subst (λ (m : ℕ). Reached d ds m h.next) z (subst (λ (a : Pass). StandsBy (Reached d ds (suc q)) a) x v.stands);
+                passing = subst (λ (m : ℕ). Passing d ds u us (kinds_left d ds u us 1) (kinds_left d ds u us m) (record { to = at; made = 0; next = ds }) before out2 (Ok h)) z
+                    (subst (λ (a : Result Progress ℕ). Passing d ds u us (kinds_left d ds u us 1) (kinds_left d ds u us (suc q)) (record { to = at; made = 0; next = ds }) before out2 a) x on);
+                reached = subst (λ (m : ℕ). Reached d ds m h.next) z (subst (λ (a : Result Progress ℕ). StandsBy (Reached d ds (suc q)) a) x v.stands);
                 whole = whole_kept d ds t n map u us w k.whole w2 v.flags s;
                 place = omega arith;
                 few = let a = k.few in let b = f.0 in omega arith;
                 room = f.1;
-                spares = sparing_then (record { to = at; made = 0; next = ds }) g before out out2 k.spares (Went h) (subst (λ (a : Pass). Sparing g out out2 a) x v.walked.spares);
+                spares = sparing_then (record { to = at; made = 0; next = ds }) g before out out2 k.spares (Ok h) (subst (λ (a : Result Progress ℕ). Sparing g out out2 a) x v.walked.spares);
               }
 
 -- ---- one pass, or two
 
 -- a refusal leaves no pass to come
-pub loose_again : (u : List ℕ) (us : ℕ) (w : List ℕ) (k : ℕ) → Again u us w (LooseResult k)
-loose_again u us w k = record { flags = λ len c e. absurd (let z : ◌≡◌ {A = ℕ} 0 1 = cc in omega arith) }
+pub loose_again : (u : List ℕ) (us : ℕ) (w : List ℕ) (k : ℕ) → Again u us w (Err k)
+loose_again u us w k = record { flags = λ c e. absurd (let z : ◌≡◌ {A = ℕ} 0 1 = cc in omega arith) }
 
 -- the indices are not told by what the pass is
 pub indices_as : (d : List ℕ) (ds : ℕ) (u : List ℕ) (us : ℕ) (lim : Limits) (dry sure : Bool) (out : List ℕ) → Indices d ds u us lim out
@@ -249,44 +247,44 @@ clear_not d ds u us lim e = λ h. absurd (true≢false (sym h ∙ e))
 
 -- ---- the dry pass was made, from behind the end of the output o
 
-module _ (d : List ℕ) (ds : ℕ) (u : List ℕ) (us at : ℕ) (o o₂ : List ℕ) (room : length o < 33554432) (r : Composed)
+module _ (d : List ℕ) (ds : ℕ) (u : List ℕ) (us at : ℕ) (o o₂ : List ℕ) (room : length o < 33554432) (r : Result Composed ℕ)
     (c : ComposedBy (stock_from d ds) (records_from u us).items (at + 33554432) o r o₂) where
-  pub dry_loose : (k : ℕ) → r ≡ LooseResult k → ComposedBy (stock_from d ds) (records_from u us).items at o (LooseResult k) o₂
+  pub dry_loose : (k : ℕ) → r ≡ Err k → ComposedBy (stock_from d ds) (records_from u us).items at o (Err k) o₂
   dry_loose k x = record {
     said = let (y, z, e) = loose_said _ _ (at + 33554432) k (ap said_by (sym x) ∙ c.said) in said_loose _ _ at k y z e;
-    stands = λ len n e. absurd (let z : ◌≡◌ {A = ℕ} 0 1 = cc in omega arith);
-    kept = λ len n e. absurd (let z : ◌≡◌ {A = ℕ} 0 1 = cc in omega arith);
+    stands = λ c e. absurd (let z : ◌≡◌ {A = ℕ} 0 1 = cc in omega arith);
+    kept = λ c e. absurd (let z : ◌≡◌ {A = ℕ} 0 1 = cc in omega arith);
   }
 
-  module _ (len n : ℕ) (x : r ≡ WholeResult len n) where
-    whole : said_by (WholeResult len n) ≡ composed_of (stock_from d ds) (records_from u us).items (at + 33554432)
+  module _ (n : Composed) (x : r ≡ Ok n) where
+    whole : said_by (Ok n) ≡ composed_of (stock_from d ds) (records_from u us).items (at + 33554432)
     whole = ap said_by (sym x) ∙ c.said
 
-    pub dry_long : 33554432 ≤ len
-    dry_long = omega (arith, whole_long _ _ (at + 33554432) len n whole)
+    pub dry_long : 33554432 ≤ n.length
+    dry_long = omega (arith, whole_long _ _ (at + 33554432) n whole)
 
     -- nothing was written
     pub dry_kept : o₂ ≡ o
-    dry_kept = c.kept len n x (omega arith)
+    dry_kept = c.kept n x (omega arith)
 
     pub dry_indices : (lim : Limits) (sure : Bool) → Indices d ds u us lim o → Indices d ds u us (record { old = lim.old; new = lim.new; dry = false; sure = sure }) o₂
     dry_indices lim sure i = subst (Indices d ds u us (record { old = lim.old; new = lim.new; dry = false; sure = sure })) (sym dry_kept) (indices_as d ds u us lim false sure o i)
 
     pub dry_clear : (lim : Limits) → Clear d ds u us lim
     unfolding Clear
-    dry_clear lim h = whole_linked _ _ (at + 33554432) len n whole
+    dry_clear lim h = whole_linked _ _ (at + 33554432) n whole
 
     -- it has no room
-    pub dry_short : length o₂ < len - 33554432 → ComposedBy (stock_from d ds) (records_from u us).items at o (WholeResult (len - 33554432) n) o₂
+    pub dry_short : length o₂ < n.length - 33554432 → ComposedBy (stock_from d ds) (records_from u us).items at o (Ok (record { length = n.length - 33554432; count = n.count })) o₂
     dry_short h =
-        let l = whole_long _ _ (at + 33554432) len n whole in
+        let l = whole_long _ _ (at + 33554432) n whole in
         let same = ap length dry_kept in
         record {
-          said = said_whole _ _ at (len - 33554432) n (whole_linked _ _ (at + 33554432) len n whole) (omega arith) (whole_counted _ _ (at + 33554432) len n whole);
-          stands = λ m k e g. absurd (let z : m ≡ len - 33554432 = cc in omega arith);
-          kept = λ m k e g. dry_kept;
+          said = said_whole _ _ at (record { length = n.length - 33554432; count = n.count }) (whole_linked _ _ (at + 33554432) n whole) (omega arith) (whole_counted _ _ (at + 33554432) n whole);
+          stands = λ m e g. absurd (let z : m.length ≡ n.length - 33554432 = cc in omega arith);
+          kept = λ m e g. dry_kept;
         }
 
     -- it is written by the pass behind it
-    pub dry_then : (s : Composed) (o₃ : List ℕ) → ComposedBy (stock_from d ds) (records_from u us).items at o₂ s o₃ → ComposedBy (stock_from d ds) (records_from u us).items at o s o₃
+    pub dry_then : (s : Result Composed ℕ) (o₃ : List ℕ) → ComposedBy (stock_from d ds) (records_from u us).items at o₂ s o₃ → ComposedBy (stock_from d ds) (records_from u us).items at o s o₃
     dry_then s o₃ y = subst (λ (b : List ℕ). ComposedBy (stock_from d ds) (records_from u us).items at b s o₃) dry_kept y

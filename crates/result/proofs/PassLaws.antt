@@ -8,6 +8,7 @@ use borrow.Author.Tests.{leb-true, leb-false}
 use lib.Dec.{leb}
 use lib.ListN.{length, drop, take, length-take, length-append}
 use lib.Seq.{drop_at}
+use Rattle.std.specs.Prelude.{Result, Ok, Err}
 use Rattle.base.specs.Check.{Passed, ok, no, pass}
 use Rattle.memory.specs.Wrote.{Wrote}
 use Rattle.memory.proofs.PutLaws.{length_put, put_is}
@@ -32,10 +33,8 @@ use Rattle.lasting.specs.Step.{Stepped}
 use Rattle.lasting.proofs.WholeLaws.{whole_settled}
 use Rattle.result.specs.Pass.{Within, pass_after, pass_from, links_of, Made, Passing, Few, Walked, Sparing}
 use Rattle.lasting.specs.declared.Step.{Step}
-use Rattle.lasting.specs.declared.Step.TheVariants.{Nothing, Loose as LooseStep, One}
+use Rattle.lasting.specs.declared.Step.TheVariants.{Nothing, Loose, One}
 use Rattle.result.specs.declared.pass.Progress.{Progress}
-use Rattle.result.specs.declared.pass.Pass.{Pass}
-use Rattle.result.specs.declared.pass.Pass.TheVariants.{Loose, Went}
 
 -- ---- `after`
 
@@ -54,50 +53,48 @@ module _ (g : Progress) where
   within_place i = omega (arith, i.0, i.1)
 
   module _ (s : Step) (next : ℕ) where
-    pub after_nothing : s ≡ Nothing → Went (record { to = g.to; made = g.made; next = next }) ≡ pass_after s g next
+    pub after_nothing : s ≡ Nothing → Ok (record { to = g.to; made = g.made; next = next }) ≡ pass_after s g next
     unfolding pass_after
     after_nothing e = rw e
 
-    pub after_loose : s ≡ LooseStep → Loose (g.made + 4) ≡ pass_after s g next
+    pub after_loose : s ≡ Loose → Err (g.made + 4) ≡ pass_after s g next
     unfolding pass_after
     after_loose e = rw e
 
-    pub after_one : (to : ℕ) → s ≡ One to → Went (record { to = to; made = g.made + 1; next = next }) ≡ pass_after s g next
+    pub after_one : (to : ℕ) → s ≡ One to → Ok (record { to = to; made = g.made + 1; next = next }) ≡ pass_after s g next
     unfolding pass_after
     after_one to e = rw e
 
 pub ruleset after_ways = (within_number, within_count, after_nothing, after_loose, after_one)
 
--- ---- `pass_from`
+-- ---- to go on from another place
 
-module _ (s : Pass) (next : ℕ) where
-  pub from_loose : (k : ℕ) → s ≡ Loose k → Loose k ≡ pass_from s next
+module _ (s : Result Progress ℕ) (next : ℕ) where
+  pub from_loose : (k : ℕ) → s ≡ Err k → Err k ≡ pass_from s next
   unfolding pass_from
   from_loose k e = rw e
 
-  pub from_went : (g : Progress) → s ≡ Went g → Went (record { to = g.to; made = g.made; next = next }) ≡ pass_from s next
+  pub from_went : (g : Progress) → s ≡ Ok g → Ok (record { to = g.to; made = g.made; next = next }) ≡ pass_from s next
   unfolding pass_from
   from_went g e = rw e
 
-pub ruleset from_ways = (from_loose, from_went)
-
 -- ---- the bytes behind what is written
 
-pub sparing_none : (g : Progress) (o : List ℕ) → Sparing g o o (Went g)
+pub sparing_none : (g : Progress) (o : List ℕ) → Sparing g o o (Ok g)
 unfolding Sparing
 sparing_none g o = (omega arith, beyond_same g.to o, λ h. refl)
 
-pub sparing_then : (g g2 : Progress) (o o2 o3 : List ℕ) → Sparing g o o2 (Went g2) → (r : Pass) → Sparing g2 o2 o3 r → Sparing g o o3 r
+pub sparing_then : (g g2 : Progress) (o o2 o3 : List ℕ) → Sparing g o o2 (Ok g2) → (r : Result Progress ℕ) → Sparing g2 o2 o3 r → Sparing g o o3 r
 unfolding Sparing
-sparing_then g g2 o o2 o3 a (Loose k) b = tt
-sparing_then g g2 o o2 o3 a (Went g3) b =
+sparing_then g g2 o o2 o3 a (Err k) b = tt
+sparing_then g g2 o o2 o3 a (Ok g3) b =
     let x = a.0 in
     let y = b.0 in
     let l = a.1.long in
     (omega arith, beyond_then g2.to g3.to o o2 o3 y a.1 b.1, λ h. b.2 (omega arith) ∙ a.2 h)
 
 -- so are the indices that stand there
-pub sparing_spared : (d : List ℕ) (ds : ℕ) (u : List ℕ) (us : ℕ) (lim : Limits) (g h : Progress) (o o2 : List ℕ) → Sparing g o o2 (Went h)
+pub sparing_spared : (d : List ℕ) (ds : ℕ) (u : List ℕ) (us : ℕ) (lim : Limits) (g h : Progress) (o o2 : List ℕ) → Sparing g o o2 (Ok h)
     → Spared d ds u us lim g.to o → Spared d ds u us lim h.to o2
 unfolding Sparing
 sparing_spared d ds u us lim g h o o2 a s = spared_on d ds u us lim g.to h.to o o2 a.0 a.1 a.2 s
@@ -121,11 +118,11 @@ emitted_beyond fs to before n out e =
 
 module _ (d : List ℕ) (ds : ℕ) (u : List ℕ) (us : ℕ) where
   -- a walk says nothing of the place
-  pub walked_from : (left later : List Rec) (most : ℕ) (g : Progress) (o o' : List ℕ) (s : Pass) (next : ℕ)
+  pub walked_from : (left later : List Rec) (most : ℕ) (g : Progress) (o o' : List ℕ) (s : Result Progress ℕ) (next : ℕ)
       → Walked d ds u us left later most g o o' s → Walked d ds u us left later most g o o' (pass_from s next)
   unfolding pass_from Passing Few Within Sparing
-  walked_from left later most g o o' (Loose k) next w = record { passing = w.passing; few = tt; spares = tt }
-  walked_from left later most g o o' (Went h) next w = record { passing = w.passing; few = w.few; spares = w.spares }
+  walked_from left later most g o o' (Err k) next w = record { passing = w.passing; few = tt; spares = tt }
+  walked_from left later most g o o' (Ok h) next w = record { passing = w.passing; few = w.few; spares = w.spares }
 
   -- ---- one record
 
@@ -148,7 +145,7 @@ module _ (d : List ℕ) (ds : ℕ) (u : List ℕ) (us : ℕ) where
       few = (omega arith, i.1);
       spares = (omega arith, subst (Beyond g.to o) (sym h.1) (beyond_same g.to o), λ l. h.1);
     }
-    turned_by sure clear LooseStep h = record {
+    turned_by sure clear Loose h = record {
       passing = λ at first z.
           let v : Made d ds u us (h.0 ∷ left) at g.made g.to first o = rw h.1 at z in
           let x = h.2 (stock_from d ds) (whole_settled d ds t n map u us w y) in
@@ -170,8 +167,8 @@ module _ (d : List ℕ) (ds : ℕ) (u : List ℕ) (us : ℕ) where
 
   -- ---- one part after another
 
-  pub passing_then : (a b c : List Rec) (g g2 : Progress) (o o2 o3 : List ℕ) → Passing d ds u us a b g o o2 (Went g2)
-      → (r : Pass) → Passing d ds u us b c g2 o2 o3 r → Passing d ds u us a c g o o3 r
+  pub passing_then : (a b c : List Rec) (g g2 : Progress) (o o2 o3 : List ℕ) → Passing d ds u us a b g o o2 (Ok g2)
+      → (r : Result Progress ℕ) → Passing d ds u us b c g2 o2 o3 r → Passing d ds u us a c g o o3 r
   unfolding Passing
-  passing_then a b c g g2 o o2 o3 f (Loose k) h = λ at first z. h at first (f at first z)
-  passing_then a b c g g2 o o2 o3 f (Went g3) h = λ at first z. h at first (f at first z)
+  passing_then a b c g g2 o o2 o3 f (Err k) h = λ at first z. h at first (f at first z)
+  passing_then a b c g g2 o o2 o3 f (Ok g3) h = λ at first z. h at first (f at first z)

@@ -5,15 +5,15 @@ use mathlib.Core.List.{List, [], ◌∷◌, ◌++◌, append_assoc}
 use native.Mathlib.Omega.{arith}
 use borrow.Author.Tests.{ne_eqb}
 use lib.ListN.{length}
+use Rattle.std.specs.Prelude.{Result, Ok}
 use Rattle.base.specs.Lists.{gather, Each}
 use Rattle.base.specs.Walk.{Got}
 use Rattle.base.proofs.EachLaws.{each_map, each_join}
 use Rattle.skeleton.specs.File.{Field, records_from}
 use Rattle.skeleton.specs.Place.{between, fields_at}
 use Rattle.skeleton.specs.Record.{record_at, stated_at}
-use Rattle.skeleton.specs.declared.directory.Shape.{Shape}
 use Rattle.skeleton.specs.declared.leader.Head.{Head}
-use Rattle.skeleton.specs.declared.leader.Head.TheVariants.{Good}
+use Rattle.skeleton.specs.declared.leader.Broken.{Broken}
 use Rattle.skeleton.proofs.AgainLaws.{again, records_some}
 use Rattle.skeleton.proofs.FileLaws.{records_over, records_more}
 use Rattle.skeleton.proofs.RecordLaws.{right}
@@ -53,13 +53,13 @@ module _ (d : List ℕ) (ds : ℕ) (t : List ℕ) (n : ℕ) (map u : List ℕ) (
   new_start = record { sound = rest_sound u us y.ready.rest y.ready.inside y.ready.short.new; rest = y.ready.rest; before = []; split = refl; leads = here }
 
 -- the record at p, by the numbers of its leader
-module _ (f : List ℕ) (p : ℕ) (s : Sound f p) (l : p < length f) (h : Head) (eh : h ≡ stated_at f p) where
+module _ (f : List ℕ) (p : ℕ) (s : Sound f p) (l : p < length f) (h : Result Head Broken) (eh : h ≡ stated_at f p) where
   found : h ≡ record_at f p
   found = again f p (records_some f p l s.clean) h eh
 
   -- the records that lead to it lead on to what is behind it
-  further : (start len base a b : ℕ) → h ≡ Good len base a b → Leads f start p → Leads f start (p + len)
-  further start len base a b x g = leads_then g (over (sym (look_good f p h eh len base a b x (key_at f (p + base)) refl)) here)
+  further : (start : ℕ) (head : Head) → h ≡ Ok head → Leads f start p → Leads f start (p + head.len)
+  further start head x g = leads_then g (over (sym (look_good f p h eh head x (key_at f (p + head.shape.base)) refl)) here)
 
 -- one element of a list more is before the others
 more_before : {A : Type 0} (before later whole : List A) (x : A) (rest : List A) → later ≡ x ∷ rest → before ++ later ≡ whole → (before ++ (x ∷ [])) ++ rest ≡ whole
@@ -103,23 +103,20 @@ module _ (d : List ℕ) (ds m p : ℕ) (g : Reached d ds m p) where
       ap (left_old (stock_from d ds) (records_from u us).items q) (stock_over d p g.stock h)
       ∙ left_turn (stock_from d ds) (records_from u us).items q
 
-  module _ (l : p < length d) (h : Head) (eh : h ≡ stated_at d p) (len base a b : ℕ) (x : h ≡ Good len base a b) where
-    abbrev shape : Shape
-    shape = record { base = base; a = a; b = b }
-
+  module _ (l : p < length d) (h : Result Head Broken) (eh : h ≡ stated_at d p) (head : Head) (x : h ≡ Ok head) where
     abbrev rec : Rec
-    rec = rec_in (fields_at (between d p (p + len)) shape 24)
+    rec = rec_in (fields_at (between d p (p + head.len)) head.shape 24)
 
-    next_old : stock_from d p ≡ rec ∷ stock_from d (p + len)
-    next_old = stock_next d p g.stock l h (found d p g.sound l h eh) len base a b x
+    next_old : stock_from d p ≡ rec ∷ stock_from d (p + head.len)
+    next_old = stock_next d p g.stock l h (found d p g.sound l h eh) head x
 
-    pub old_split : (u : List ℕ) (us q : ℕ) → old_left d ds u us q p ≡ kept_of chart q (records_from u us).items rec ++ old_left d ds u us q (p + len)
+    pub old_split : (u : List ℕ) (us q : ℕ) → old_left d ds u us q p ≡ kept_of chart q (records_from u us).items rec ++ old_left d ds u us q (p + head.len)
     old_split u us q =
         ap (left_old (stock_from d ds) (records_from u us).items q) next_old
-        ∙ left_old_lem (stock_from d ds) (records_from u us).items q _ (stock_from d (p + len))
+        ∙ left_old_lem (stock_from d ds) (records_from u us).items q _ (stock_from d (p + head.len))
 
-    module _ (key : ℕ) (e : key ≡ key_at d (p + base)) where
-      pub old_here : Old d ds p len (record { base = base; a = a; b = b }) key
+    module _ (key : ℕ) (e : key ≡ key_at d (p + head.shape.base)) where
+      pub old_here : Old d ds p head.len head.shape key
       old_here = record {
         stock = g.stock;
         inside = l;
@@ -133,32 +130,32 @@ module _ (d : List ℕ) (ds m p : ℕ) (g : Reached d ds m p) where
       -- its kind, by its key
       ranked : rank chart rec ≡ key / 4294967296
       ranked =
-          let s = stock_here d p g.stock l h (found d p g.sound l h eh) len base a b x in
+          let s = stock_here d p g.stock l h (found d p g.sound l h eh) head x in
           let t = said s.0 _ s.1 in
           let k = (known_stored s.0 _ s.1).keyed in
-          let r = right d p h (found d p g.sound l h eh) len base a b x in
-          place_is _ t.ranged ∙ ap (λ (n : ℕ). n / 4294967296) (sym t.number ∙ sym (first_key d p len base a b r.walked k.some) ∙ sym e)
+          let r = right d p h (found d p g.sound l h eh) head x in
+          place_is _ t.ranged ∙ ap (λ (n : ℕ). n / 4294967296) (sym t.number ∙ sym (first_key d p head.len head.shape r.walked k.some) ∙ sym e)
 
       -- it is of a later kind
       pub old_stop : (q : ℕ) → q < key / 4294967296 → Ordered chart 1 (stock_from d ds) → (u : List ℕ) (us : ℕ) → old_left d ds u us q p ≡ new_left d ds u us q us
       unfolding left_old left_new Ordered
       old_stop q f o u us =
           let a : Ordered chart 1 (g.before ++ stock_from d p) = subst (λ (i : List Rec). Ordered chart 1 i) (sym g.split) o in
-          let b : Ordered chart 1 (rec ∷ stock_from d (p + len)) = subst (λ (i : List Rec). Ordered chart 1 i) next_old (ordered_behind 1 g.before (stock_from d p) a) in
+          let b : Ordered chart 1 (rec ∷ stock_from d (p + head.len)) = subst (λ (i : List Rec). Ordered chart 1 i) next_old (ordered_behind 1 g.before (stock_from d p) a) in
           let z : kept chart q (records_from u us).items (stock_from d p) ≡ []
           = ap (kept chart q (records_from u us).items) next_old
-          ∙ kept_beyond chart q (rank chart rec) (records_from u us).items (rec ∷ stock_from d (p + len)) (omega (arith, ranked)) (omega arith, b.1) in
+          ∙ kept_beyond chart q (rank chart rec) (records_from u us).items (rec ∷ stock_from d (p + head.len)) (omega (arith, ranked)) (omega arith, b.1) in
           ap (λ (i : List Rec). i ++ (joined chart q (records_from u us).items ++ left_kinds (stock_from d ds) (records_from u us).items (suc q))) z
 
       -- or it is passed
-      pub old_next : (q : ℕ) → m ≡ suc q → key / 4294967296 ≤ q → Reached d ds m (p + len)
+      pub old_next : (q : ℕ) → m ≡ suc q → key / 4294967296 ≤ q → Reached d ds m (p + head.len)
       old_next q em f = record {
-        sound = turn_sound d p g.sound l h eh len base a b x;
-        stock = stock_more d p g.stock l h (found d p g.sound l h eh) len base a b x;
+        sound = turn_sound d p g.sound l h eh head x;
+        stock = stock_more d p g.stock l h (found d p g.sound l h eh) head x;
         before = g.before ++ (rec ∷ []);
-        split = more_before g.before (stock_from d p) (stock_from d ds) _ (stock_from d (p + len)) next_old g.split;
+        split = more_before g.before (stock_from d p) (stock_from d ds) _ (stock_from d (p + head.len)) next_old g.split;
         passed = each_join (λ r. rank chart r < m) g.before (rec ∷ []) g.passed (unfold Each in (omega (arith, ranked), tt));
-        leads = further d p g.sound l h eh ds len base a b x g.leads;
+        leads = further d p g.sound l h eh ds head x g.leads;
       }
 
 -- ---- update records
@@ -169,8 +166,8 @@ module _ (u : List ℕ) (us p : ℕ) (g : NewAt u us p) where
       ap (λ (i : Got (List Field)). left_new (stock_from d ds) (records_from u us).items q i.items) (records_over u p h)
       ∙ left_next (stock_from d ds) (records_from u us).items q
 
-  module _ (l : p < length u) (h : Head) (eh : h ≡ stated_at u p) (len base a b : ℕ) (x : h ≡ Good len base a b) where
-    pub new_here : (key : ℕ) → key ≡ key_at u (p + base) → New u us p len (record { base = base; a = a; b = b }) key
+  module _ (l : p < length u) (h : Result Head Broken) (eh : h ≡ stated_at u p) (head : Head) (x : h ≡ Ok head) where
+    pub new_here : (key : ℕ) → key ≡ key_at u (p + head.shape.base) → New u us p head.len head.shape key
     new_here key e = record {
       rest = g.rest;
       inside = l;
@@ -181,20 +178,20 @@ module _ (u : List ℕ) (us p : ℕ) (g : NewAt u us p) where
       leads = g.leads;
     }
 
-    next_new : (records_from u p).items ≡ fields_at (between u p (p + len)) (record { base = base; a = a; b = b }) 24 ∷ (records_from u (p + len)).items
-    next_new = ap (λ (i : Got (List Field)). i.items) (records_more u p l h (found u p g.sound l h eh) len base a b x)
+    next_new : (records_from u p).items ≡ fields_at (between u p (p + head.len)) head.shape 24 ∷ (records_from u (p + head.len)).items
+    next_new = ap (λ (i : Got (List Field)). i.items) (records_more u p l h (found u p g.sound l h eh) head x)
 
-    pub new_next : NewAt u us (p + len)
+    pub new_next : NewAt u us (p + head.len)
     new_next = record {
-      sound = turn_sound u p g.sound l h eh len base a b x;
-      rest = rest_more u p g.rest l h (found u p g.sound l h eh) len base a b x;
-      before = g.before ++ (fields_at (between u p (p + len)) (record { base = base; a = a; b = b }) 24 ∷ []);
-      split = more_before g.before (records_from u p).items (records_from u us).items _ (records_from u (p + len)).items next_new g.split;
-      leads = further u p g.sound l h eh us len base a b x g.leads;
+      sound = turn_sound u p g.sound l h eh head x;
+      rest = rest_more u p g.rest l h (found u p g.sound l h eh) head x;
+      before = g.before ++ (fields_at (between u p (p + head.len)) head.shape 24 ∷ []);
+      split = more_before g.before (records_from u p).items (records_from u us).items _ (records_from u (p + head.len)).items next_new g.split;
+      leads = further u p g.sound l h eh us head x g.leads;
     }
 
     pub new_split : (d : List ℕ) (ds q : ℕ) → new_left d ds u us q p
-        ≡ joined_of chart q (fields_at (between u p (p + len)) (record { base = base; a = a; b = b }) 24) (records_from u (p + len)).items ++ new_left d ds u us q (p + len)
+        ≡ joined_of chart q (fields_at (between u p (p + head.len)) head.shape 24) (records_from u (p + head.len)).items ++ new_left d ds u us q (p + head.len)
     new_split d ds q =
         ap (left_new (stock_from d ds) (records_from u us).items q) next_new
-        ∙ left_new_lem (stock_from d ds) (records_from u us).items q _ (records_from u (p + len)).items
+        ∙ left_new_lem (stock_from d ds) (records_from u us).items q _ (records_from u (p + head.len)).items

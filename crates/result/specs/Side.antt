@@ -1,5 +1,5 @@
 -- The two sides of a result: the dataset's records, which stay or are changed, and the update's, which insert some. A walk over either goes from record to record of its file.
-use Rattle.std.specs.Prelude.{ℕ, suc, ◌+◌, ◌-◌, ◌*◌, ◌/◌, ◌≤◌, ◌<◌, ◌≡◌, Bool, true, false, List, ◌++◌, ltb, length}
+use Rattle.std.specs.Prelude.{ℕ, suc, ◌+◌, ◌-◌, ◌*◌, ◌/◌, ◌≤◌, ◌<◌, ◌≡◌, Bool, true, false, List, ◌++◌, ltb, length, Result, Ok, Err}
 use Rattle.base.specs.Lists.{Each}
 use Rattle.skeleton.specs.File.{Field, records_from}
 use Rattle.skeleton.specs.Place.{between, fields_at}
@@ -19,8 +19,6 @@ use Rattle.lasting.specs.Step.{Stepped}
 use Rattle.lasting.specs.declared.Step.{Step}
 use Rattle.result.specs.Pass.{kinds_left, old_left, new_left, Passing, Walked, Sparing}
 use Rattle.result.specs.declared.pass.Progress.{Progress}
-use Rattle.result.specs.declared.pass.Pass.{Pass}
-use Rattle.result.specs.declared.pass.Pass.TheVariants.{Loose, Went}
 
 -- one of the dataset's records from ds on begins at p, or they end there; those before it are of kinds before q
 pub record Reached (d : List ℕ) (ds q p : ℕ) : Type 0 where
@@ -50,9 +48,9 @@ later_kind true key q = ltb q (key / 4294967296)
 later_kind false key q = false
 
 -- where it went on, it stands at such a place
-unfoldable pub StandsBy : (ℕ → Type 0) → Pass → Type 0
-StandsBy At (Loose k) = Unit {0}
-StandsBy At (Went g) = At g.next
+unfoldable pub StandsBy : (ℕ → Type 0) → Result Progress ℕ → Type 0
+StandsBy At (Err k) = Unit {0}
+StandsBy At (Ok g) = At g.next
 
 module _ (d : List ℕ) (ds : ℕ) (u : List ℕ) (us : ℕ) where
   -- the side's record at p: len bytes of this shape, and its key has this number
@@ -61,7 +59,7 @@ module _ (d : List ℕ) (ds : ℕ) (u : List ℕ) (us : ℕ) where
   Here false p len h key = New u us p len h key
 
   -- a walk, from where the workspace was w and the output o
-  pub record Ended (left later : List Rec) (most : ℕ) (At : ℕ → Type 0) (g : Progress) (w o w' o' : List ℕ) (r : Pass) : Type 0 where
+  pub record Ended (left later : List Rec) (most : ℕ) (At : ℕ → Type 0) (g : Progress) (w o w' o' : List ℕ) (r : Result Progress ℕ) : Type 0 where
     pub walked : Walked d ds u us left later most g o o' r
     pub stands : StandsBy At r
     pub flags : FlagsKept w w'
@@ -95,17 +93,17 @@ module _ (d : List ℕ) (ds : ℕ) (u : List ℕ) (us : ℕ) where
     -- the walk went from g on to h; each byte that is still to come may hold a record more
     pub record Onward (old : Bool) (g h : Progress) (o o' : List ℕ) : Type 0 where
       pub stands : Stands old h.next
-      pub passing : Passing d ds u us (side_left old g.next) (side_left old h.next) g o o' (Went h)
+      pub passing : Passing d ds u us (side_left old g.next) (side_left old h.next) g o o' (Ok h)
       pub forward : g.next ≤ h.next
       pub few : h.made + (length (file_of old d u) - h.next) ≤ g.made + (length (file_of old d u) - g.next)
       pub room : h.to ≤ 33854429 + 99999 * h.made
-      pub spares : Sparing g o o' (Went h)
+      pub spares : Sparing g o o' (Ok h)
 
     -- one turn of it: a loose reference, or a record further; or it stands still, since the side is over
-    unfoldable pub TurnedTo : Bool → Progress → List ℕ → List ℕ → Pass → Type 0
-    TurnedTo old g o o' (Loose k) = (later : List Rec) → Passing d ds u us (side_left old g.next) later g o o' (Loose k)
-    TurnedTo old g o o' (Went h) = Onward old g h o o' × (h.next ≡ g.next → side_left old h.next ≡ side_behind old)
+    unfoldable pub TurnedTo : Bool → Progress → List ℕ → List ℕ → Result Progress ℕ → Type 0
+    TurnedTo old g o o' (Err k) = (later : List Rec) → Passing d ds u us (side_left old g.next) later g o o' (Err k)
+    TurnedTo old g o o' (Ok h) = Onward old g h o o' × (h.next ≡ g.next → side_left old h.next ≡ side_behind old)
 
-    pub record Turned (old : Bool) (g : Progress) (w o w' o' : List ℕ) (r : Pass) : Type 0 where
+    pub record Turned (old : Bool) (g : Progress) (w o w' o' : List ℕ) (r : Result Progress ℕ) : Type 0 where
       pub turned : TurnedTo old g o o' r
       pub flags : FlagsKept w w'

@@ -21,7 +21,7 @@ ghost use Rattle.composing.specs.Tied.{TiedFrom};
 ghost use Rattle.result.specs.Pass.{Clear};
 ghost use Rattle.result.specs.Composed.{ComposedBy, Again};
 
-use crate::pass::{Pass, Progress};
+use crate::pass::Progress;
 use crate::walk::walk_kind;
 use sorting::limits::Limits;
 
@@ -29,15 +29,15 @@ pub mod pass;
 pub mod turn;
 pub mod walk;
 
-// The number of the record with a loose reference (11); or the length of the result and the count of its records behind the third.
+// The length of a result and the count of its records behind the third.
 #[derive(Clone, Copy)]
-pub enum Composed {
-    Loose(usize),
-    Whole { length: usize, count: usize },
+pub struct Composed {
+    pub length: usize,
+    pub count: usize,
 }
 
 // All of them, kind by kind, from `at` on, in one pass. At the end of the output stand the indices that lim tells, until the records reach them. A dry pass
-// begins behind the output's end, so that it only tests and measures.
+// begins behind the output's end, so that it only tests and measures. In place of the result, the number of its record with a loose reference (11).
 fn pass_over(
     d: &[u8],
     ds: usize,
@@ -50,33 +50,24 @@ fn pass_over(
     out: &mut [u8],
     at: usize,
     lim: Limits,
-) -> Composed
+) -> Result<Composed, usize>
     requires ready { Ready d.now ds u.now us × Laid d.now ds t.now n map.now × (400000 ≤ length work.old) × (at ≤ 33854429) × Each SoundRec (stock_from d.now ds) × Ordered chart 1 (stock_from d.now ds) }
-    requires us_value { (verdicts (stock_from d.now ds) (records_from u.now us).items ≡ done tt) × Flags (keys_from u.now us) (flag_area work.old) × Indices d.now ds u.now us lim out.old × TiedFrom d.now ds ds }
-    requires out_len_bound { (lim.dry ≡ true → length out.old < at) × Clear d.now ds u.now us lim }
+    requires accepted { (verdicts (stock_from d.now ds) (records_from u.now us).items ≡ done tt) × Flags (keys_from u.now us) (flag_area work.old) × Indices d.now ds u.now us lim out.old × TiedFrom d.now ds ds }
+    requires dry { (lim.dry ≡ true → length out.old < at) × Clear d.now ds u.now us lim }
     ensures { ComposedBy (stock_from d.now ds) (records_from u.now us).items at out.old result out.new × Again u.now us work.new result }
 {
-    let mut q = 1;
     let mut g = Progress {
         to: at,
         made: 0,
         next: ds,
     };
-    while q < 5 {
-        match walk_kind(d, ds, t, n, map, u, us, q, work, out, g, lim) {
-            Pass::Loose(k) => {
-                return Composed::Loose(k);
-            }
-            Pass::Went(h) => {
-                g = h;
-                q += 1;
-            }
-        }
+    for q in 1..5 {
+        g = walk_kind(d, ds, t, n, map, u, us, q, work, out, g, lim)?;
     }
-    Composed::Whole {
+    Ok(Composed {
         length: g.to,
         count: g.made,
-    }
+    })
 }
 
 // Whether records of so many bytes may reach into indices that begin at `old` of so many bytes of an output, and these are so long that much would be
@@ -85,13 +76,7 @@ fn is_tight(bytes: usize, old: usize, all: usize) -> bool
     requires { old ≤ all }
     ensures { result ≡ true → all < 33554432 }
 {
-    if 33554432 <= all {
-        return false;
-    }
-    if all - old <= 32768 {
-        return false;
-    }
-    old < bytes
+    all < 33554432 && 32768 < all - old && old < bytes
 }
 
 // All of them where they may reach into the indices: what they name is tested by a dry pass first, which leaves the indices whole, and then they are written.
@@ -107,10 +92,10 @@ fn compose_tight(
     out: &mut [u8],
     at: usize,
     lim: Limits,
-) -> Composed
+) -> Result<Composed, usize>
     requires ready { Ready d.now ds u.now us × Laid d.now ds t.now n map.now × (400000 ≤ length work.old) × (at ≤ 299997) × Each SoundRec (stock_from d.now ds) × Ordered chart 1 (stock_from d.now ds) }
-    requires us_value { (verdicts (stock_from d.now ds) (records_from u.now us).items ≡ done tt) × Flags (keys_from u.now us) (flag_area work.old) × Indices d.now ds u.now us lim out.old × TiedFrom d.now ds ds }
-    requires out_len_bound { length out.old < 33554432 }
+    requires accepted { (verdicts (stock_from d.now ds) (records_from u.now us).items ≡ done tt) × Flags (keys_from u.now us) (flag_area work.old) × Indices d.now ds u.now us lim out.old × TiedFrom d.now ds ds }
+    requires short { length out.old < 33554432 }
     ensures { ComposedBy (stock_from d.now ds) (records_from u.now us).items at out.old result out.new }
 {
     let old = lim.old;
@@ -121,22 +106,21 @@ fn compose_tight(
         dry: true,
         sure: false,
     };
-    match pass_over(d, ds, t, n, map, u, us, work, out, at + 33554432, test) {
-        Composed::Loose(k) => Composed::Loose(k),
-        Composed::Whole { length, count } => {
-            let length = length - 33554432;
-            if out.len() < length {
-                return Composed::Whole { length, count };
-            }
-            let write = Limits {
-                old,
-                new,
-                dry: false,
-                sure: true,
-            };
-            pass_over(d, ds, t, n, map, u, us, work, out, at, write)
-        }
+    let dry = pass_over(d, ds, t, n, map, u, us, work, out, at + 33554432, test)?;
+    let length = dry.length - 33554432;
+    if out.len() < length {
+        return Ok(Composed {
+            length,
+            count: dry.count,
+        });
     }
+    let write = Limits {
+        old,
+        new,
+        dry: false,
+        sure: true,
+    };
+    pass_over(d, ds, t, n, map, u, us, work, out, at, write)
 }
 
 // All of them, kind by kind, from `at` on. At the end of the output stand the indices that lim tells, until the records reach them.
@@ -152,9 +136,9 @@ pub fn compose(
     out: &mut [u8],
     at: usize,
     lim: Limits,
-) -> Composed
+) -> Result<Composed, usize>
     requires ready { Ready d.now ds u.now us × Laid d.now ds t.now n map.now × (400000 ≤ length work.old) × (at ≤ 299997) × Each SoundRec (stock_from d.now ds) × Ordered chart 1 (stock_from d.now ds) }
-    requires us_value { (verdicts (stock_from d.now ds) (records_from u.now us).items ≡ done tt) × Flags (keys_from u.now us) (flag_area work.old) × Indices d.now ds u.now us lim out.old × TiedFrom d.now ds ds }
+    requires accepted { (verdicts (stock_from d.now ds) (records_from u.now us).items ≡ done tt) × Flags (keys_from u.now us) (flag_area work.old) × Indices d.now ds u.now us lim out.old × TiedFrom d.now ds ds }
     ensures { ComposedBy (stock_from d.now ds) (records_from u.now us).items at out.old result out.new }
 {
     let old = lim.old;

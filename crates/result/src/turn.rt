@@ -8,24 +8,20 @@ ghost use Rattle.lasting.specs.Whole.{Whole};
 ghost use Rattle.result.specs.Pass.{Within, Clear};
 ghost use Rattle.result.specs.Side.{file_of, Stands, later_kind, Here, Put, Turned};
 
-use crate::pass::{Pass, Progress, after};
+use crate::pass::{Progress, after};
 use keys::look::key_at;
 use lasting::Step;
 use lasting::new::make_new;
 use lasting::old::make_old;
 use skeleton::directory::Shape;
 use skeleton::file::stated_at;
-use skeleton::leader::Head;
 use sorting::limits::{Limits, spare};
 
 // Whether a record with this key ends the walk for the kind with place q: the old records stand kind by kind.
 fn ends(old: bool, key: u64, q: u64) -> bool
     ensures { result ≡ later_kind old key q }
 {
-    if old {
-        return q < key / 4294967296;
-    }
-    false
+    old && q < key / 4294967296
 }
 
 // A record that the walk has come to: where it begins, its length and shape, and the number of its key.
@@ -72,7 +68,8 @@ fn make(
     )
 }
 
-// The record where the walk over the file f is: what it leaves is put and counted, and the walk goes on behind it; it stands still where the side is over.
+// The record where the walk over the file f is: what it leaves is put and counted, and the walk goes on behind it; it stands still where the side is over,
+// and ends with the number of a result's record that has a loose reference (11).
 pub fn turn(
     old: bool,
     f: &[u8],
@@ -88,27 +85,25 @@ pub fn turn(
     out: &mut [u8],
     g: Progress,
     lim: Limits,
-) -> Pass
+) -> Result<Progress, usize>
     requires whole { Whole d.now ds t.now n map.now u.now us work.old × Ordered chart 1 (stock_from d.now ds) × Within 4294967296 g }
-    requires f_value { (f.now ≡ file_of old d.now u.now) × Stands d.now ds u.now us q old g.next × (g.next < length f.now) × Spared d.now ds u.now us lim g.to out.old × Clear d.now ds u.now us lim }
+    requires side { (f.now ≡ file_of old d.now u.now) × Stands d.now ds u.now us q old g.next × (g.next < length f.now) × Spared d.now ds u.now us lim g.to out.old × Clear d.now ds u.now us lim }
     ensures { Turned d.now ds u.now us q old g work.old out.old work.new out.new result }
 {
     let p = g.next;
-    match stated_at(f, p) {
-        Head::Good { len, base, a, b } => {
-            let k = key_at(f, p + base);
-            if ends(old, k, q) {
-                return Pass::Went(g);
-            }
-            let r = Found {
-                at: p,
-                len,
-                shape: Shape { base, a, b },
-                key: k,
-            };
-            let s = make(old, d, ds, t, n, map, u, us, r, q, work, out, g.to, lim);
-            after(s, g, p + len)
-        }
-        Head::Refused(_) => Pass::Went(g),
+    let Ok(head) = stated_at(f, p) else {
+        return Ok(g);
+    };
+    let k = key_at(f, p + head.shape.base);
+    if ends(old, k, q) {
+        return Ok(g);
     }
+    let r = Found {
+        at: p,
+        len: head.len,
+        shape: head.shape,
+        key: k,
+    };
+    let s = make(old, d, ds, t, n, map, u, us, r, q, work, out, g.to, lim);
+    after(s, g, p + head.len)
 }

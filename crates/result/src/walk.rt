@@ -8,11 +8,12 @@ ghost use Rattle.lasting.specs.Whole.{Whole};
 ghost use Rattle.result.specs.Pass.{Within, Clear, kinds_left};
 ghost use Rattle.result.specs.Side.{file_of, Reached, Stands, side_left, side_behind, Ended};
 
-use crate::pass::{Pass, Progress, pass_from};
+use crate::pass::Progress;
 use crate::turn::turn;
 use sorting::limits::Limits;
 
-// The records of a side, in the file f, for the kind with place q: the old ones up to the first of a later kind, or all that the update inserts.
+// The records of a side, in the file f, for the kind with place q: the old ones up to the first of a later kind, or all that the update inserts; or the number of
+// the result's record with a loose reference (11).
 pub fn walk(
     old: bool,
     f: &[u8],
@@ -28,26 +29,20 @@ pub fn walk(
     out: &mut [u8],
     from: Progress,
     lim: Limits,
-) -> Pass
+) -> Result<Progress, usize>
     requires whole { Whole d.now ds t.now n map.now u.now us work.old × Ordered chart 1 (stock_from d.now ds) × Within 2147483648 from }
-    requires f_value { (f.now ≡ file_of old d.now u.now) × Stands d.now ds u.now us q old from.next × Spared d.now ds u.now us lim from.to out.old × Clear d.now ds u.now us lim }
+    requires side { (f.now ≡ file_of old d.now u.now) × Stands d.now ds u.now us q old from.next × Spared d.now ds u.now us lim from.to out.old × Clear d.now ds u.now us lim }
     ensures { Ended d.now ds u.now us (side_left d.now ds u.now us q old from.next) (side_behind d.now ds u.now us q old) 16777216 (Stands d.now ds u.now us q old) from work.old out.old work.new out.new result }
 {
     let mut g = from;
     while g.next < f.len() {
-        match turn(old, f, d, ds, t, n, map, u, us, q, work, out, g, lim) {
-            Pass::Loose(k) => {
-                return Pass::Loose(k);
-            }
-            Pass::Went(h) => {
-                if h.next == g.next {
-                    return Pass::Went(h);
-                }
-                g = h;
-            }
+        let h = turn(old, f, d, ds, t, n, map, u, us, q, work, out, g, lim)?;
+        if h.next == g.next {
+            return Ok(h);
         }
+        g = h;
     }
-    Pass::Went(g)
+    Ok(g)
 }
 
 // Both sides of the kind with place q. The next kind's old records begin where this one's end.
@@ -64,20 +59,20 @@ pub fn walk_kind(
     out: &mut [u8],
     from: Progress,
     lim: Limits,
-) -> Pass
+) -> Result<Progress, usize>
     requires { Whole d.now ds t.now n map.now u.now us work.old × (q ≤ 4) × Within 1073741824 from × Ordered chart 1 (stock_from d.now ds) × Reached d.now ds q from.next × Spared d.now ds u.now us lim from.to out.old × Clear d.now ds u.now us lim }
     ensures { Ended d.now ds u.now us (kinds_left d.now ds u.now us q) (kinds_left d.now ds u.now us (suc q)) 33554432 (Reached d.now ds (suc q)) from work.old out.old work.new out.new result }
 {
-    match walk(true, d, d, ds, t, n, map, u, us, q, work, out, from, lim) {
-        Pass::Loose(k) => Pass::Loose(k),
-        Pass::Went(g) => {
-            let start = Progress {
-                to: g.to,
-                made: g.made,
-                next: us,
-            };
-            let s = walk(false, u, d, ds, t, n, map, u, us, q, work, out, start, lim);
-            pass_from(s, g.next)
-        }
-    }
+    let g = walk(true, d, d, ds, t, n, map, u, us, q, work, out, from, lim)?;
+    let start = Progress {
+        to: g.to,
+        made: g.made,
+        next: us,
+    };
+    let h = walk(false, u, d, ds, t, n, map, u, us, q, work, out, start, lim)?;
+    Ok(Progress {
+        to: h.to,
+        made: h.made,
+        next: g.next,
+    })
 }

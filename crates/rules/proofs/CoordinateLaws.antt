@@ -6,6 +6,7 @@ use Prim.Native.Nat.{ℕ, ◌+◌, ◌*◌, ◌/◌, ◌%◌}
 use native.Mathlib.Omega.{arith}
 use lib.Dec.{eqb}
 use lib.ListN.{length}
+use Rattle.std.specs.Prelude.{Ok, Err}
 use Rattle.base.specs.Choice.{pick}
 use Rattle.base.specs.Lists.{each, empty}
 use Rattle.base.specs.Walk.{Got, walk, steps}
@@ -15,7 +16,6 @@ use Rattle.fields.specs.Table.{tuple_of}
 use Rattle.fields.specs.Content.{tuples, tuple_step, many, tallied, tally}
 use Rattle.fields.specs.Places.{all_raw}
 use Rattle.fields.specs.declared.Format.TheVariants.{C2il}
-use Rattle.fields.specs.declared.Tally.TheVariants.{Whole, Short}
 use Rattle.fields.proofs.CountLaws.{by_length, raw_tally}
 use Rattle.rules.specs.Coordinates.{coord_of, coords_in}
 
@@ -23,7 +23,7 @@ use Rattle.rules.specs.Coordinates.{coord_of, coords_in}
 items_by : (m : ℕ) (g : Got (List Val)) → tallied 0 g ≡ by_length 8 m 0 → length g.items ≡ m / 8
 items_by m g e = go (eqb g.ending 0) (eqb (m % 8) 0) e
   where
-    go : (t u : Bool) → pick t (Whole (0 + length g.items)) (Short (0 + length g.items + 1)) ≡ pick u (Whole (0 + m / 8)) (Short (0 + m / 8 + 1)) → length g.items ≡ m / 8
+    go : (t u : Bool) → pick t (Ok (0 + length g.items)) (Err (0 + length g.items + 1)) ≡ pick u (Ok (0 + m / 8)) (Err (0 + m / 8 + 1)) → length g.items ≡ m / 8
     go true true x = let z : 0 + length g.items ≡ 0 + m / 8 = cc in omega arith
     go true false x = absurd (let z : ◌≡◌ {A = ℕ} 0 1 = cc in omega arith)
     go false true x = absurd (let z : ◌≡◌ {A = ℕ} 0 1 = cc in omega arith)

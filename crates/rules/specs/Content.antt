@@ -1,5 +1,5 @@
 -- Number 5: subfields do not fill the field, or a value is out of its range.
-use Rattle.std.specs.Prelude.{ℕ, ◌+◌, Bool, true, false, not, List, [], ◌∷◌, length, get_or, eqb}
+use Rattle.std.specs.Prelude.{ℕ, ◌+◌, Bool, true, false, not, List, [], ◌∷◌, length, get_or, eqb, Result, Ok, Err}
 use Rattle.base.specs.Choice.{pick, both}
 use Rattle.base.specs.Check.{no, bind, fault, Passed, pass}
 use Rattle.base.specs.Lists.{empty}
@@ -8,8 +8,6 @@ use Rattle.fields.specs.Table.{head_of, tuple_of}
 use Rattle.fields.specs.Content.{number_of, tally_field}
 use Rattle.fields.specs.declared.Format.{Format}
 use Rattle.fields.specs.declared.Format.TheVariants.{Irid, IridNew, Prid, PridNew, Mrid, MridNew, Frid, FridNew, Foid, Attr, AttrNew, InasNew, InasGone, Spas, SpasNew, Cocc, C2it, C2il}
-use Rattle.fields.specs.declared.Tally.{Tally}
-use Rattle.fields.specs.declared.Tally.TheVariants.{Whole, Short}
 use Rattle.rules.specs.Tags.{FOID, ATTR, INAS, SPAS, COCC, C2IT}
 use Rattle.rules.specs.Place.{Place}
 use Rattle.rules.specs.Coordinates.{sent, place_in}
@@ -50,9 +48,9 @@ format_of new t b =
 -- ---- fields that have their format
 
 -- field i, its tuples counted, is filled, else 5, at the tuple that does not stand if the format has tuples
-abbrev pub filled : ℕ → Bool → Tally → Passed
-filled i tupled (Whole n) = pass
-filled i tupled (Short j) = no (fault (number_of (Short j)) i (pick tupled j 0))
+abbrev pub filled : ℕ → Bool → Result ℕ ℕ → Passed
+filled i tupled (Ok n) = pass
+filled i tupled (Err j) = no (fault (number_of (Err j)) i (pick tupled j 0))
 
 -- field i has this format
 unfoldable pub stands : ℕ → Format → List ℕ → Passed

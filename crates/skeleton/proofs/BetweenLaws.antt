@@ -10,7 +10,7 @@ use Rattle.skeleton.specs.File.{Field}
 use Rattle.skeleton.specs.Place.{between, place_at, fields_at}
 use Rattle.skeleton.specs.declared.directory.Shape.{Shape}
 use Rattle.skeleton.specs.declared.place.Place.{Place}
-use Rattle.skeleton.specs.declared.place.Place.TheVariants.{At}
+use Rattle.std.specs.Prelude.{Option, Some}
 use Rattle.skeleton.proofs.PlaceLaws.{fields_more}
 
 -- how many they are
@@ -28,10 +28,10 @@ between_between b at len start end l =
     ∙ ap (λ (n : ℕ). take n (drop (at + start) b)) (sym same)
 
 -- the next field of a record that lies in a file, by its place in the file
-pub fields_within : (u : List ℕ) (at len : ℕ) (h : Shape) (q : ℕ) (e : Place) → e ≡ place_at (between u at (at + len)) h q → (tag start end next : ℕ)
-    → e ≡ At tag start end next → end ≤ len
-    → fields_at (between u at (at + len)) h q ≡ record { tag = tag; body = between u (at + start) (at + end) } ∷ fields_at (between u at (at + len)) h next
-fields_within u at len h q e en tag start end next y within =
-    let rest : List Field = fields_at (between u at (at + len)) h next in
-    fields_more (between u at (at + len)) h q e en tag start end next y
-    ∙ ap (λ (body : List ℕ). record { tag = tag; body = body } ∷ rest) (between_between u at len start end within)
+pub fields_within : (u : List ℕ) (at len : ℕ) (h : Shape) (q : ℕ) (e : Option Place) → e ≡ place_at (between u at (at + len)) h q → (d : Place)
+    → e ≡ Some d → d.end ≤ len
+    → fields_at (between u at (at + len)) h q ≡ record { tag = d.tag; body = between u (at + d.start) (at + d.end) } ∷ fields_at (between u at (at + len)) h d.next
+fields_within u at len h q e en d y within =
+    let rest : List Field = fields_at (between u at (at + len)) h d.next in
+    fields_more (between u at (at + len)) h q e en d y
+    ∙ ap (λ (body : List ℕ). record { tag = d.tag; body = body } ∷ rest) (between_between u at len d.start d.end within)

@@ -12,31 +12,39 @@ use Rattle.base.specs.Choice.{both}
 use Rattle.base.proofs.ChoiceLaws.{by_test, both_hold}
 use Rattle.base.proofs.ListLaws.{take_drop_cons}
 use Rattle.skeleton.specs.Digits.{is_digit, digits, digits_from, window, number_at, value_of}
-use Rattle.skeleton.specs.declared.digits.Number.{Number}
-use Rattle.skeleton.specs.declared.digits.Number.TheVariants.{Value, NotDigits}
+use Rattle.std.specs.Prelude.{Option, Some, None}
 
 -- a window is its first byte and the window after it
 window_cons : (s : List ℕ) (i k : ℕ) → 0 < k → i + k ≤ length s → window s i k ≡ get_or s i 0 ∷ window s (i + 1) (k - 1)
 window_cons s i k h g = take_drop_cons i k s (omega arith) h
 
--- what the number from i on is, by the byte at i: each law takes `inv`, what it has to be, one way out of a turn
-module _ (s : List ℕ) (i k acc : ℕ) (r : Number) (inv : digits_from s i k acc ≡ r) where
-  pub number_done : k ≤ 0 → Value acc ≡ r
+-- a digit more
+pub digit_more : (s : List ℕ) (i k acc : ℕ) → 0 < k → i + k ≤ length s → 48 ≤ get_or s i 0 → get_or s i 0 ≤ 57
+    → digits_from s (i + 1) (k - 1) (acc * 10 + (get_or s i 0 - 48)) ≡ digits_from s i k acc
+unfolding digits_from digits is_digit
+digit_more s i k acc h g l m = rw (window_cons s i k h g) (simp (le-leb _ _ l, le-leb _ _ m))
+
+-- what the number of the digits from i up to e is, by the byte at i: each law takes `inv`, what it has to be, one way out of a turn
+module _ (s : List ℕ) (i e acc : ℕ) (r : Option ℕ) (inv : digits_from s i (e - i) acc ≡ r) where
+  pub number_done : e ≤ i → Some acc ≡ r
   unfolding digits_from digits
-  number_done h = let e : k ≡ 0 = omega arith in rw e at inv
+  number_done h = let z : e - i ≡ 0 = omega arith in rw z at inv
 
-  module _ (h : 0 < k) (g : i + k ≤ length s) where
-    pub number_low : get_or s i 0 < 48 → NotDigits ≡ r
-    unfolding digits_from digits is_digit
-    number_low l = simp (lt-leb _ _ l) at (rw (window_cons s i k h g) at inv)
+  module _ (h : i < e) (g : e ≤ length s) where
+    there : window s i (e - i) ≡ get_or s i 0 ∷ window s (i + 1) (e - (i + 1))
+    there = let z : e - (i + 1) ≡ e - i - 1 = omega arith in rw z (window_cons s i (e - i) (omega arith) (omega arith))
 
-    pub number_high : 48 ≤ get_or s i 0 → 57 < get_or s i 0 → NotDigits ≡ r
+    pub number_low : get_or s i 0 < 48 → None ≡ r
     unfolding digits_from digits is_digit
-    number_high l m = simp (le-leb _ _ l, lt-leb _ _ m) at (rw (window_cons s i k h g) at inv)
+    number_low l = simp (lt-leb _ _ l) at (rw there at inv)
 
-    pub number_more : 48 ≤ get_or s i 0 → get_or s i 0 ≤ 57 → digits_from s (i + 1) (k - 1) (acc * 10 + (get_or s i 0 - 48)) ≡ r
+    pub number_high : 48 ≤ get_or s i 0 → 57 < get_or s i 0 → None ≡ r
     unfolding digits_from digits is_digit
-    number_more l m = simp (le-leb _ _ l, le-leb _ _ m) at (rw (window_cons s i k h g) at inv)
+    number_high l m = simp (le-leb _ _ l, lt-leb _ _ m) at (rw there at inv)
+
+    pub number_more : 48 ≤ get_or s i 0 → get_or s i 0 ≤ 57 → digits_from s (i + 1) (e - (i + 1)) (acc * 10 + (get_or s i 0 - 48)) ≡ r
+    unfolding digits_from digits is_digit
+    number_more l m = simp (le-leb _ _ l, le-leb _ _ m) at (rw there at inv)
 
 -- ---- room
 
@@ -62,8 +70,12 @@ room_next m (suc k) acc d h n r =
     rw (sub-one) (omega (arith, mul-le-mul_right (10 ^ k) (room_digit acc d n)))
 
 -- a digit's byte is read
-pub room_byte : (m k acc b : ℕ) → Room m k acc → 0 < k → b ≤ 57 → Room m (k - 1) (acc * 10 + (b - 48))
+room_byte : (m k acc b : ℕ) → Room m k acc → 0 < k → b ≤ 57 → Room m (k - 1) (acc * 10 + (b - 48))
 room_byte m k acc b r h n = room_next m k acc (b - 48) h (omega arith) r
+
+-- the same of the digits from i up to e
+pub room_digits : (m i e acc b : ℕ) → Room m (e - i) acc → i < e → b ≤ 57 → Room m (e - (i + 1)) (acc * 10 + (b - 48))
+room_digits m i e acc b r h n = let z : e - (i + 1) ≡ e - i - 1 = omega arith in rw z (room_byte m (e - i) acc b r (omega arith) n)
 
 -- what nine digits hold, and a digit more, fit a machine word
 pub room_times : (k acc : ℕ) → Room (10 ^ 9) k acc → acc * 10 < 2 ^ 64
@@ -92,4 +104,4 @@ number_small s at w h =
     digits_below (10 ^ 9) (window s at w) 0 (omega arith) (room_start 9 (length (window s at w)) (simp length-take (omega arith)))
 
 -- a turn of `number_at`
-pub ruleset number_turn = (number_done, number_low, number_high, number_more, room_byte, room_times, room_plus, arith)
+pub ruleset number_turn = (number_done, number_low, number_high, number_more, room_digits, room_times, room_plus, arith)

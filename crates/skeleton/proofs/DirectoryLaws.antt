@@ -9,16 +9,16 @@ use borrow.Author.Tests.{le-leb, lt-leb, lt-ltb, le-ltb, eq-eqb, ne_eqb, leb-tru
 use lib.ListN.{length, get_or}
 use lib.Dec.{leb, ltb, eqb}
 use Rattle.base.specs.Choice.{both}
-use Rattle.base.specs.Walk.{follow, Lower}
+use Rattle.base.specs.Walk.{Step, follow, Lower}
 use Rattle.base.proofs.ChoiceLaws.{by_test, both_hold}
-use Rattle.base.proofs.WalkLaws.{walk_step}
+use Rattle.base.proofs.WalkLaws.{walk_step, by_measure}
 use Rattle.skeleton.specs.Digits.{number_at, digits_from}
-use Rattle.skeleton.specs.Directory.{tag_at, entry_of, entry_in, entry_past, entry_at, zeros_at, small_at, lies, ended, step_by, dir_step, fields_from}
-use Rattle.skeleton.specs.declared.digits.Number.{Number}
-use Rattle.skeleton.specs.declared.digits.Number.TheVariants.{Value, NotDigits}
+use Rattle.skeleton.specs.Directory.{Body, tag_at, entry_of, entry_in, entry_past, entry_at, zeros_at, small_at, lies, ended, step_by, dir_step, fields_from, directed}
+use Rattle.std.specs.Prelude.{Option, Some, None, Ok, Err}
+use Rattle.skeleton.specs.declared.leader.Broken.TheVariants.{Directory}
 use Rattle.skeleton.specs.declared.directory.Entry.{Entry}
 use Rattle.skeleton.specs.declared.directory.Entry.TheVariants.{Field, End, Bad}
-use Rattle.skeleton.proofs.DigitsLaws.{number_small, number_more}
+use Rattle.skeleton.proofs.DigitsLaws.{number_small, digit_more}
 
 -- ---- what holds of an entry
 
@@ -26,17 +26,17 @@ use Rattle.skeleton.proofs.DigitsLaws.{number_small, number_more}
 pub record Entered (r : List ℕ) (a b p pos len : ℕ) : Type 0 where
   pub fits : p + (4 + a + b) ≤ length r
   pub opens : get_or r p 0 ≡ 30 → ⊥
-  pub length_read : number_at r (p + 4) a ≡ Value len
-  pub position_read : number_at r (p + 4 + a) b ≡ Value pos
+  pub length_read : number_at r (p + 4) a ≡ Some len
+  pub position_read : number_at r (p + 4 + a) b ≡ Some pos
 
 -- what holds of the three that may stand at p holds of what stands there
 module _ (P : Entry → Type 0) (r : List ℕ) (a b p : ℕ) (bad : P Bad) (end : p < length r → get_or r p 0 ≡ 30 → P End)
     (field : (pos len : ℕ) → Entered r a b p pos len → P (Field (tag_at r p) pos len (p + (4 + a + b)))) where
-  by_numbers : (n m : Number) → ((pos len : ℕ) → n ≡ Value len → m ≡ Value pos → P (Field (tag_at r p) pos len (p + (4 + a + b))))
+  by_numbers : (n m : Option ℕ) → ((pos len : ℕ) → n ≡ Some len → m ≡ Some pos → P (Field (tag_at r p) pos len (p + (4 + a + b))))
       → P (entry_of (tag_at r p) (p + (4 + a + b)) n m)
-  by_numbers (Value len) (Value pos) go = go pos len refl refl
-  by_numbers (Value len) NotDigits go = bad
-  by_numbers NotDigits m go = bad
+  by_numbers (Some len) (Some pos) go = go pos len refl refl
+  by_numbers (Some len) None go = bad
+  by_numbers None m go = bad
 
   pub by_entry : P (entry_at r a b p)
   unfolding entry_at entry_in
@@ -127,6 +127,23 @@ unfolding fields_from
 fields_step r base a b p at =
     walk_step (dir_step r base a b) (λ s. length r - s.0) (directory_falls r base a b) (p, at)
 
+-- a walk ends well, or with 3
+abbrev Ends : ℕ → Type 0
+Ends n = (n ≡ 0 → ⊥) → n ≡ 3
+
+module _ (r : List ℕ) (base a b p at : ℕ) (later : (s : ℕ × ℕ) → length r - s.0 < length r - p → Ends (fields_from r base a b s.0 s.1).ending) where
+  ends_by : (e : Entry) → Goes r a b p e → Ends (follow (step_by r base p at e) (λ s. fields_from r base a b s.0 s.1)).ending
+  ends_by (Field tag pos len next) h =
+      by_test (λ (x : Step (ℕ × ℕ) Body). Ends (follow x (λ s. fields_from r base a b s.0 s.1)).ending) (lies r base at pos len) _ _
+      (λ _. later (next, at + len) (omega arith)) (λ _ _. refl)
+  ends_by End h = by_test Ends (ended r base p at) 0 3 (λ _ n. absurd (n refl)) (λ _ _. refl)
+  ends_by Bad h = λ _. refl
+
+pub directory_ends : (r : List ℕ) (base a b p at : ℕ) → ((fields_from r base a b p at).ending ≡ 0 → ⊥) → (fields_from r base a b p at).ending ≡ 3
+directory_ends r base a b p at =
+    by_measure (λ (s : ℕ × ℕ). length r - s.0) (λ s. Ends (fields_from r base a b s.0 s.1).ending)
+    (λ s later. rw fields_step (ends_by r base a b s.0 s.1 later (entry_at r a b s.0) (entry_goes r a b s.0))) (p, at)
+
 -- a turn of `directory`, by the entry e that was read at p
 module _ (r : List ℕ) (base a b p at n : ℕ) (inv : (fields_from r base a b p at).ending ≡ n) (e : Entry) (en : e ≡ entry_at r a b p) where
   turn : (follow (step_by r base p at e) (λ s. fields_from r base a b s.0 s.1)).ending ≡ n
@@ -156,16 +173,17 @@ module _ (r : List ℕ) (base a b p at n : ℕ) (inv : (fields_from r base a b p
       pub dir_word : length r < 2 ^ 64 → at + len < 2 ^ 64
       dir_word w = let h = dir_in in omega arith
 
+-- what the number n with which the walk ended says
+pub dir_right : (n : ℕ) → 0 ≡ n → Ok tt ≡ directed n
+dir_right n z = rw (← z)
+
+pub dir_wrong : (n : ℕ) → 3 ≡ n → Err Directory ≡ directed n
+dir_wrong n z = rw (← z)
+
 pub ruleset directory_turn =
-    (dir_not, dir_more, dir_end, dir_end_not, dir_bad, dir_in, dir_word, field_falls, pos_small, len_small, end_in, arith)
+    (dir_right, dir_wrong, dir_not, dir_more, dir_end, dir_end_not, dir_bad, dir_in, dir_word, field_falls, pos_small, len_small, end_in, arith)
 
 -- ---- one entry
-
--- what `tag_at` returns, by the four bytes
-pub tag_is : (r : List ℕ) (p w x y z : ℕ) → w ≡ get_or r p 0 → x ≡ get_or r (p + 1) 0 → y ≡ get_or r (p + 2) 0 → z ≡ get_or r (p + 3) 0
-    → ((w * 256 + x) * 256 + y) * 256 + z ≡ tag_at r p
-unfolding tag_at
-tag_is r p w x y z e f g h = simp (e, f, g, h)
 
 -- a number of five digits that begins with two zeros
 five_small : (s : List ℕ) (at : ℕ) → at + 5 ≤ length s → zeros_at s at ≡ true → number_at s (at + 2) 3 ≡ number_at s at 5
@@ -174,8 +192,8 @@ five_small s at l z =
     let x = both_hold (eqb (get_or s at 0) 48) _ z in
     let f : get_or s at 0 ≡ 48 = eqb-true _ _ x.0 in
     let g : get_or s (at + 1) 0 ≡ 48 = eqb-true _ _ x.1 in
-    let one = number_more s at 5 0 _ refl (omega arith) l (omega arith) (omega arith) in
-    let two = number_more s (at + 1) 4 0 _ refl (omega arith) (omega arith) (omega arith) (omega arith) in
+    let one = digit_more s at 5 0 (omega arith) l (omega arith) (omega arith) in
+    let two = digit_more s (at + 1) 4 0 (omega arith) (omega arith) (omega arith) (omega arith) in
     let e : at + 1 + 1 ≡ at + 2 = omega arith in
     let one' : digits_from s (at + 1) 4 0 ≡ digits_from s at 5 0 = rw f at one in
     let two' : digits_from s (at + 2) 3 0 ≡ digits_from s (at + 1) 4 0 = rw (g, e) at two in
@@ -272,17 +290,17 @@ module _ (r : List ℕ) (a b p : ℕ) where
 pub ruleset small_ways = (small_first, small_second, small_third, small_last)
 
 -- ---- what `entry_in` returns, by what it reads
-module _ (r : List ℕ) (z a b p : ℕ) (m : Number) (em : m ≡ number_at r (p + 4 + z) a) where
-  pub entry_no_len : m ≡ NotDigits → Bad ≡ entry_past r z a b p
+module _ (r : List ℕ) (z a b p : ℕ) (m : Option ℕ) (em : m ≡ number_at r (p + 4 + z) a) where
+  pub entry_no_len : m ≡ None → Bad ≡ entry_past r z a b p
   unfolding entry_past
   entry_no_len x = simp (← em, x)
 
-  module _ (len : ℕ) (x : m ≡ Value len) (k : Number) (ek : k ≡ number_at r (p + 4 + (z + a) + z) b) where
-    pub entry_no_pos : k ≡ NotDigits → Bad ≡ entry_past r z a b p
+  module _ (len : ℕ) (x : m ≡ Some len) (k : Option ℕ) (ek : k ≡ number_at r (p + 4 + (z + a) + z) b) where
+    pub entry_no_pos : k ≡ None → Bad ≡ entry_past r z a b p
     unfolding entry_past
     entry_no_pos y = simp (← em, x, ← ek, y)
 
-    pub entry_field : (pos tag : ℕ) → k ≡ Value pos → tag ≡ tag_at r p → Field tag pos len (p + 4 + (z + a) + (z + b)) ≡ entry_past r z a b p
+    pub entry_field : (pos tag : ℕ) → k ≡ Some pos → tag ≡ tag_at r p → Field tag pos len (p + 4 + (z + a) + (z + b)) ≡ entry_past r z a b p
     unfolding entry_past
     entry_field pos tag y w = simp (← em, x, ← ek, y, ← w)
 

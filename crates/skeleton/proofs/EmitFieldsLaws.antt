@@ -15,7 +15,7 @@ use Rattle.skeleton.specs.Directory.{Body, tag_at, entry_in, entry_at, lies, end
 use Rattle.skeleton.specs.File.{Field, cut_out}
 use Rattle.skeleton.specs.Emit.{tag_bytes, size, sizes, entry, entries, contents, base_of, length_of, leading, emit}
 use Rattle.skeleton.specs.Writable.{TagFits, TagsFit, PlacesFit, Writable}
-use Rattle.skeleton.specs.declared.digits.Number.TheVariants.{Value}
+use Rattle.std.specs.Prelude.{Some}
 use Rattle.skeleton.specs.declared.directory.Entry.TheVariants.{Field as FieldAt, End}
 use Rattle.skeleton.proofs.DirectoryLaws.{fields_step}
 use Rattle.skeleton.proofs.EmitDigitsLaws.{length_digits}
@@ -67,10 +67,10 @@ module _ (a b : ℕ) (r pre more : List ℕ) (f : Field) (pos p : ℕ) (e : r �
   unfolding tag_at
   tag_read h = simp (first_byte, byte_off r pre _ p e l 1, byte_off r pre _ p e l 2, byte_off r pre _ p e l 3) (tag_back f.tag h)
 
-  size_read : size f < 10 ^ a → number_at r (p + 4) a ≡ Value (size f)
+  size_read : size f < 10 ^ a → number_at r (p + 4) a ≡ Some (size f)
   size_read = number_off r (pre ++ tag_bytes f.tag) (in_digits b pos ++ more) (p + 4) a (size f) (e ∙ simp append_assoc) (simp (length-append, l))
 
-  pos_read : pos < 10 ^ b → number_at r (p + 4 + a) b ≡ Value pos
+  pos_read : pos < 10 ^ b → number_at r (p + 4 + a) b ≡ Some pos
   pos_read =
       number_off r (pre ++ (tag_bytes f.tag ++ in_digits a (size f))) more (p + 4 + a) b pos (e ∙ simp append_assoc)
       (simp (length-append, length_digits, l) (omega arith))

@@ -12,8 +12,8 @@ use Rattle.skeleton.specs.Leader.{fits_byte, shaped, template, stated_of, leader
 use Rattle.skeleton.specs.Emit.{middle, marks, leading, entries, contents, base_of, length_of, emit}
 use Rattle.skeleton.specs.File.{Field}
 use Rattle.skeleton.specs.Writable.{Widths}
-use Rattle.skeleton.specs.declared.digits.Number.TheVariants.{Value}
-use Rattle.skeleton.specs.declared.leader.Head.TheVariants.{Good}
+use Rattle.std.specs.Prelude.{Some}
+use Rattle.skeleton.specs.Leader.{good, shape}
 use Rattle.skeleton.proofs.EmitDigitsLaws.{length_digits}
 use Rattle.skeleton.proofs.EmitFieldsLaws.{length_emit}
 use Rattle.skeleton.proofs.OffsetLaws.{byte_off, number_off}
@@ -67,7 +67,7 @@ length_marks false = refl
 -- a leader that was written at the front of s
 module _ (a b : ℕ) (first : Bool) (len base : ℕ) (s z : List ℕ) (w : Widths a b)
     (e : s ≡ in_digits 5 len ++ (middle first ++ (in_digits 5 base ++ (marks first ++ (widths a b ++ z))))) where
-  base_read : base < 10 ^ 5 → number_at s 12 5 ≡ Value base
+  base_read : base < 10 ^ 5 → number_at s 12 5 ≡ Some base
   base_read =
       number_off s (in_digits 5 len ++ middle first) (marks first ++ (widths a b ++ z)) 12 5 base (e ∙ simp append_assoc)
       (simp (length-append, length_digits, length_middle))
@@ -91,7 +91,7 @@ module _ (a b : ℕ) (first : Bool) (len base : ℕ) (s z : List ℕ) (w : Width
   unfolding widths in_digits
   b_read = simp (byte_off s before_widths (widths a b ++ z) 20 at_widths twenty 1) (let h = w.b_digit in omega arith)
 
-  leader_read : 24 ≤ length s → len ≤ length s → len < 10 ^ 5 → base < 10 ^ 5 → leader_of s first ≡ Good len base a b
+  leader_read : 24 ≤ length s → len ≤ length s → len < 10 ^ 5 → base < 10 ^ 5 → leader_of s first ≡ good len (shape base a b)
   unfolding leader_of stated_of
   leader_read l n h g =
       simp (
@@ -107,7 +107,7 @@ module _ (a b : ℕ) (first : Bool) (len base : ℕ) (s z : List ℕ) (w : Width
 
 -- the leader of a written record, whatever stands after the record
 pub leader_back : (a b : ℕ) → Widths a b → (first : Bool) (fs : List Field) (after : List ℕ) → length_of a b fs < 100000
-    → leader_of (emit a b first fs ++ after) first ≡ Good (length_of a b fs) (base_of a b fs) a b
+    → leader_of (emit a b first fs ++ after) first ≡ good (length_of a b fs) (shape (base_of a b fs) a b)
 unfolding emit leading widths
 leader_back a b w first fs after h =
     let l = length-append (emit a b first fs) after in

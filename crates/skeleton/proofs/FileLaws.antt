@@ -3,39 +3,41 @@ use mathlib.Core.Path.{◌≡◌, refl, ap, ◌∙◌}
 use mathlib.Core.List.{List, []}
 use mathlib.Core.Bool.{Bool, true, false}
 use Prim.Native.Nat.{ℕ, ◌+◌, ◌-◌, ◌≤◌, ◌<◌}
-use borrow.Author.Tests.{lt-ltb, le-ltb, eq-eqb, ne_eqb}
+use borrow.Author.Tests.{lt-ltb, le-ltb, eq-eqb, ne_eqb, eqb-false}
 use lib.ListN.{length, take, drop}
 use lib.Dec.{ltb, eqb}
 use Rattle.base.specs.Lists.{each}
 use Rattle.base.specs.Walk.{Step, more, over, before, follow, Lower}
 use Rattle.base.proofs.ChoiceLaws.{by_test}
 use Rattle.base.proofs.WalkLaws.{walk_step}
-use Rattle.skeleton.specs.Leader.{leader_of}
+use Rattle.skeleton.specs.Leader.{number_of, leader_of}
 use Rattle.skeleton.specs.Directory.{fields_of}
 use Rattle.skeleton.specs.File.{Field, cut_out, step_head, file_step, records_from, records_of}
 use Rattle.skeleton.specs.Place.{between, fields_at}
 use Rattle.skeleton.specs.Record.{with_directory, record_at}
 use Rattle.skeleton.specs.declared.leader.Head.{Head}
-use Rattle.skeleton.specs.declared.leader.Head.TheVariants.{Good, Refused}
+use Rattle.skeleton.specs.declared.leader.Broken.{Broken}
+use Rattle.std.specs.Prelude.{Result, Ok, Err}
+use Rattle.skeleton.proofs.DirectoryLaws.{directory_ends}
 use Rattle.skeleton.proofs.PlaceLaws.{fields_same}
 use Rattle.skeleton.proofs.RecordLaws.{right, record_falls, cut_is}
 
 -- ---- one step
 
 -- a step over a file whose next record is h
-abbrev step_record : ℕ → List ℕ → Head → Step ℕ (List Field)
-step_record at s (Good len base a b) = more (each (cut_out (take len s)) (fields_of (take len s) base a b).items) (at + len)
-step_record at s (Refused n) = over n
+abbrev step_record : ℕ → List ℕ → Result Head Broken → Step ℕ (List Field)
+step_record at s (Ok d) = more (each (cut_out (take d.len s)) (fields_of (take d.len s) d.shape.base d.shape.a d.shape.b).items) (at + d.len)
+step_record at s (Err x) = over (number_of x)
 
 -- the definition takes the leader and the directory in one step
-step_of : (at : ℕ) (s : List ℕ) (l : Head) → step_head at s l ≡ step_record at s (with_directory s l)
-step_of at s (Good len base a b) = go (eqb (fields_of (take len s) base a b).ending 0) refl
+step_of : (at : ℕ) (s : List ℕ) (l : Result Head Broken) → step_head at s l ≡ step_record at s (with_directory s l)
+step_of at s (Ok d) = go (eqb (fields_of (take d.len s) d.shape.base d.shape.a d.shape.b).ending 0) refl
   where
-    go : (t : Bool) → eqb (fields_of (take len s) base a b).ending 0 ≡ t
-        → step_head at s (Good len base a b) ≡ step_record at s (with_directory s (Good len base a b))
+    go : (t : Bool) → eqb (fields_of (take d.len s) d.shape.base d.shape.a d.shape.b).ending 0 ≡ t
+        → step_head at s (Ok d) ≡ step_record at s (with_directory s (Ok d))
     go true e = simp e
-    go false e = simp e
-step_of at s (Refused n) = refl
+    go false e = simp (e, directory_ends (take d.len s) d.shape.base d.shape.a d.shape.b 24 0 (eqb-false _ 0 e))
+step_of at s (Err x) = refl
 
 -- at a place before the file's end
 step_is : (f : List ℕ) (at : ℕ) → at < length f → file_step f at ≡ step_record at (drop at f) (record_at f at)
@@ -43,9 +45,9 @@ unfolding record_at
 step_is f at l = simp (lt-ltb at (length f) l) (step_of at (drop at f) (leader_of (drop at f) (eqb at 0)))
 
 -- a step leads further on
-lower_of : (f : List ℕ) (at : ℕ) (h : Head) → h ≡ record_at f at → Lower (λ (q : ℕ). length f - q) at (step_record at (drop at f) h)
-lower_of f at (Good len base a b) e = record_falls f at _ e len base a b refl
-lower_of f at (Refused n) e = tt
+lower_of : (f : List ℕ) (at : ℕ) (h : Result Head Broken) → h ≡ record_at f at → Lower (λ (q : ℕ). length f - q) at (step_record at (drop at f) h)
+lower_of f at (Ok d) e = record_falls f at _ e d refl
+lower_of f at (Err x) e = tt
 
 pub file_falls : (f : List ℕ) (at : ℕ) → Lower (λ (q : ℕ). length f - q) at (file_step f at)
 unfolding record_at
@@ -64,20 +66,20 @@ pub records_over : (f : List ℕ) (at : ℕ) → length f ≤ at → records_fro
 records_over f at h = records_step f at ∙ simp (le-ltb at (length f) h)
 
 -- by the record h that was read at at
-module _ (f : List ℕ) (at : ℕ) (l : at < length f) (h : Head) (eh : h ≡ record_at f at) where
+module _ (f : List ℕ) (at : ℕ) (l : at < length f) (h : Result Head Broken) (eh : h ≡ record_at f at) where
   by_record : records_from f at ≡ follow (step_record at (drop at f) h) (records_from f)
   by_record = records_step f at ∙ rw eh (ap (λ (x : Step ℕ (List Field)). follow x (records_from f)) (step_is f at l))
 
   -- the walk ends with its refusal
-  pub records_refused : (n : ℕ) → h ≡ Refused n → records_from f at ≡ record { items = []; ending = n }
-  records_refused n x = by_record ∙ simp x
+  pub records_refused : (x : Broken) → h ≡ Err x → records_from f at ≡ record { items = []; ending = number_of x }
+  records_refused x e = by_record ∙ simp e
 
   -- its fields, and then the records from its end on
-  pub records_more : (len base a b : ℕ) → h ≡ Good len base a b
-      → records_from f at ≡ before (fields_at (between f at (at + len)) (record { base = base; a = a; b = b }) 24) (records_from f (at + len))
-  records_more len base a b x =
-      let k = right f at h eh len base a b x in
-      let e = fields_same (between f at (at + len)) (record { base = base; a = a; b = b }) k.walked in
+  pub records_more : (d : Head) → h ≡ Ok d
+      → records_from f at ≡ before (fields_at (between f at (at + d.len)) d.shape 24) (records_from f (at + d.len))
+  records_more d x =
+      let k = right f at h eh d x in
+      let e = fields_same (between f at (at + d.len)) d.shape k.walked in
       rw e (rw cut_is (by_record ∙ simp x))
 
 -- ---- the whole file

@@ -12,11 +12,11 @@ use lib.Dec.{leb, ltb}
 use Rattle.base.specs.Choice.{both}
 use Rattle.base.proofs.ChoiceLaws.{by_test, both_hold}
 use Rattle.skeleton.specs.Digits.{number_at, value_of}
-use Rattle.skeleton.specs.Leader.{fits_byte, shaped, shaped_from, template, within, stated_of, leader_of}
-use Rattle.skeleton.specs.declared.digits.Number.{Number}
-use Rattle.skeleton.specs.declared.digits.Number.TheVariants.{Value, NotDigits}
+use Rattle.skeleton.specs.Leader.{fits_byte, shaped, shaped_from, template, number_of, good, shape, within, stated_of, leader_of}
+use Rattle.std.specs.Prelude.{Option, Some, None, Result, Ok, Err}
 use Rattle.skeleton.specs.declared.leader.Head.{Head}
-use Rattle.skeleton.specs.declared.leader.Head.TheVariants.{Good, Refused}
+use Rattle.skeleton.specs.declared.leader.Broken.{Broken}
+use Rattle.skeleton.specs.declared.leader.Broken.TheVariants.{Cut, Leader, Directory}
 use Rattle.skeleton.proofs.DigitsLaws.{number_small}
 
 -- ---- the bytes
@@ -64,33 +64,39 @@ width_b false s e = fits_plus _ (shaped_at (template false) s 21 (omega arith) e
 
 -- ---- what they say
 
--- the bounds of what a leader says; a refusal's number is not 0
-abbrev pub Fitting : List ℕ → Head → Type 0
-Fitting s (Good len base a b) = (len ≤ length s) × (base < 10 ^ 9) × (a ≤ 9) × (b ≤ 9)
-Fitting s (Refused n) = 0 < n
+-- the number of a refusal is not 0
+pub number_some : (x : Broken) → 0 < number_of x
+number_some Cut = omega arith
+number_some Leader = omega arith
+number_some Directory = omega arith
 
-fitting_of : (s : List ℕ) (n m : Number) → value_of m < 10 ^ 9 → get_or s 20 0 ≤ 57 → get_or s 21 0 ≤ 57 → Fitting s (within s n m)
-fitting_of s (Value len) (Value base) h a b =
-    by_test (Fitting s) (ltb (length s) len) _ _ (λ _. omega arith) (λ e. (ltb-false (length s) len e, h, omega arith, omega arith))
-fitting_of s (Value len) NotDigits h a b = omega arith
-fitting_of s NotDigits m h a b = omega arith
+-- the bounds of what a leader says
+abbrev pub Fitting : List ℕ → Result Head Broken → Type 0
+Fitting s (Ok d) = (d.len ≤ length s) × (d.shape.base < 10 ^ 9) × (d.shape.a ≤ 9) × (d.shape.b ≤ 9)
+Fitting s (Err x) = Unit {0}
+
+fitting_of : (s : List ℕ) (n m : Option ℕ) → value_of m < 10 ^ 9 → get_or s 20 0 ≤ 57 → get_or s 21 0 ≤ 57 → Fitting s (within s n m)
+fitting_of s (Some len) (Some base) h a b =
+    by_test (Fitting s) (ltb (length s) len) _ _ (λ _. tt) (λ e. (ltb-false (length s) len e, h, omega arith, omega arith))
+fitting_of s (Some len) None h a b = tt
+fitting_of s None m h a b = tt
 
 pub leader_fitting : (s : List ℕ) (first : Bool) → Fitting s (leader_of s first)
 unfolding leader_of stated_of
 leader_fitting s first =
-    by_test (Fitting s) (ltb (length s) 24) _ _ (λ _. omega arith) (λ _.
-    by_test (Fitting s) (not (shaped (template first) s)) _ _ (λ _. omega arith) (λ e.
+    by_test (Fitting s) (ltb (length s) 24) _ _ (λ _. tt) (λ _.
+    by_test (Fitting s) (not (shaped (template first) s)) _ _ (λ _. tt) (λ e.
     let x = not-false _ e in
     fitting_of s (number_at s 0 5) (number_at s 12 5) (number_small s 12 5 (omega arith)) (width_a first s x) (width_b first s x)))
 
 -- a leader that says something says what its numbers say
-abbrev pub Stated : List ℕ → Head → Type 0
-Stated s (Good len base a b) = (24 ≤ length s) × (stated_of s ≡ Good len base a b)
-Stated s (Refused n) = Unit {0}
+abbrev pub Stated : List ℕ → Result Head Broken → Type 0
+Stated s (Ok d) = (24 ≤ length s) × (stated_of s ≡ Ok d)
+Stated s (Err x) = Unit {0}
 
-stated_of_lem : (s : List ℕ) (h : Head) → 24 ≤ length s → stated_of s ≡ h → Stated s h
-stated_of_lem s (Good len base a b) l e = (l, e)
-stated_of_lem s (Refused n) l e = tt
+stated_of_lem : (s : List ℕ) (h : Result Head Broken) → 24 ≤ length s → stated_of s ≡ h → Stated s h
+stated_of_lem s (Ok d) l e = (l, e)
+stated_of_lem s (Err x) l e = tt
 
 pub leader_stated : (s : List ℕ) (first : Bool) → Stated s (leader_of s first)
 unfolding leader_of
@@ -100,38 +106,38 @@ leader_stated s first =
 
 -- what `leader` returns, by its tests
 module _ (s : List ℕ) (first : Bool) where
-  pub leader_short : length s < 24 → Refused 1 ≡ leader_of s first
+  pub leader_short : length s < 24 → Err Cut ≡ leader_of s first
   unfolding leader_of
   leader_short h = simp (lt-ltb _ _ h)
 
   module _ (h : 24 ≤ length s) (b : Bool) (e : b ≡ shaped (template first) s) where
-    pub leader_bytes : not b ≡ true → Refused 2 ≡ leader_of s first
+    pub leader_bytes : not b ≡ true → Err Leader ≡ leader_of s first
     unfolding leader_of
     leader_bytes n = simp (le-ltb _ _ h, ← e, n)
 
-    pub leader_numbers : not b ≡ false → (r : Head) → r ≡ stated_of s → r ≡ leader_of s first
+    pub leader_numbers : not b ≡ false → (r : Result Head Broken) → r ≡ stated_of s → r ≡ leader_of s first
     unfolding leader_of
     leader_numbers n r x = simp (le-ltb _ _ h, ← e, n, x)
 
 pub ruleset leader_ways = (leader_short, leader_bytes, leader_numbers)
 
 -- what `stated` returns, by its tests
-module _ (s : List ℕ) (n : Number) (en : n ≡ number_at s 0 5) where
-  pub stated_no_len : n ≡ NotDigits → Refused 2 ≡ stated_of s
+module _ (s : List ℕ) (n : Option ℕ) (en : n ≡ number_at s 0 5) where
+  pub stated_no_len : n ≡ None → Err Leader ≡ stated_of s
   unfolding stated_of
   stated_no_len x = simp (← en, x)
 
-  module _ (len : ℕ) (x : n ≡ Value len) (m : Number) (em : m ≡ number_at s 12 5) where
-    pub stated_no_base : m ≡ NotDigits → Refused 2 ≡ stated_of s
+  module _ (len : ℕ) (x : n ≡ Some len) (m : Option ℕ) (em : m ≡ number_at s 12 5) where
+    pub stated_no_base : m ≡ None → Err Leader ≡ stated_of s
     unfolding stated_of
     stated_no_base y = simp (← en, x, ← em, y)
 
-    module _ (base : ℕ) (y : m ≡ Value base) where
-      pub stated_past : length s < len → Refused 1 ≡ stated_of s
+    module _ (base : ℕ) (y : m ≡ Some base) where
+      pub stated_past : length s < len → Err Cut ≡ stated_of s
       unfolding stated_of
       stated_past h = simp (← en, x, ← em, y, lt-ltb _ _ h)
 
-      pub stated_good : len ≤ length s → (a b : ℕ) → a ≡ get_or s 20 0 - 48 → b ≡ get_or s 21 0 - 48 → Good len base a b ≡ stated_of s
+      pub stated_good : len ≤ length s → (a b : ℕ) → a ≡ get_or s 20 0 - 48 → b ≡ get_or s 21 0 - 48 → good len (shape base a b) ≡ stated_of s
       unfolding stated_of
       stated_good h a b p q = simp (← en, x, ← em, y, le-ltb _ _ h, p, q)
 

@@ -6,7 +6,7 @@ use native.Mathlib.Nat.{zero-mul, zero-add}
 use lib.ListN.{length, get_or, take, drop, length-append}
 use lib.Seq.{take_at, drop_at, get_or-append-add}
 use Rattle.skeleton.specs.Digits.{digits, digits_from, number_at, in_digits}
-use Rattle.skeleton.specs.declared.digits.Number.TheVariants.{Value}
+use Rattle.std.specs.Prelude.{Some}
 use Rattle.skeleton.proofs.EmitDigitsLaws.{length_digits, digits_back}
 
 module _ (r pre q : List ℕ) (p : ℕ) (e : r ≡ pre ++ q) (l : length pre ≡ p) where
@@ -20,7 +20,7 @@ module _ (r pre q : List ℕ) (p : ℕ) (e : r ≡ pre ++ q) (l : length pre ≡
   length_off = rw (e, ← l) (length-append pre q)
 
 -- a number that was written there
-pub number_off : (r pre more : List ℕ) (p w n : ℕ) → r ≡ pre ++ (in_digits w n ++ more) → length pre ≡ p → n < 10 ^ w → number_at r p w ≡ Value n
+pub number_off : (r pre more : List ℕ) (p w n : ℕ) → r ≡ pre ++ (in_digits w n ++ more) → length pre ≡ p → n < 10 ^ w → number_at r p w ≡ Some n
 unfolding digits_from
 number_off r pre more p w n e l h =
     ap (λ (s : List ℕ). digits (take w s) 0) (drop_off r pre (in_digits w n ++ more) p e l)

@@ -15,30 +15,30 @@ use Rattle.base.proofs.ChoiceLaws.{by_test, both_hold}
 use Rattle.base.proofs.WalkLaws.{walk_step, walk_same, Agree}
 use Rattle.skeleton.specs.Directory.{Body, tag_at, entry_at, lies, step_by, dir_step, fields_from, fields_of}
 use Rattle.skeleton.specs.File.{Field, cut_out}
-use Rattle.skeleton.specs.Place.{between, place_of, place_at, place_step, fields_at}
+use Rattle.skeleton.specs.Place.{between, at_place, place_of, place_at, place_step, fields_at}
 use Rattle.skeleton.specs.Shape.{Bounded}
 use Rattle.skeleton.specs.declared.directory.Entry.{Entry}
 use Rattle.skeleton.specs.declared.directory.Entry.TheVariants.{Field as FieldAt, End, Bad}
 use Rattle.skeleton.specs.declared.directory.Shape.{Shape}
 use Rattle.skeleton.specs.declared.place.Place.{Place}
-use Rattle.skeleton.specs.declared.place.Place.TheVariants.{At, Done}
+use Rattle.std.specs.Prelude.{Option, Some, None}
 use Rattle.skeleton.proofs.DirectoryLaws.{Entered, by_entry, lies_in, field_small}
 
 -- ---- what holds of a place
 
 -- where there is a field at p: the next place is one entry on, and the body and its 1E lie in the record
-pub record Held (r : List ℕ) (h : Shape) (p tag start end next : ℕ) : Type 0 where
-  pub next_is : next ≡ p + (4 + h.a + h.b)
-  pub next_in : next ≤ length r
-  pub body_runs : start ≤ end
-  pub body_in : end < length r
-  pub tag_is : tag ≡ tag_at r p
+pub record Held (r : List ℕ) (h : Shape) (p : ℕ) (d : Place) : Type 0 where
+  pub next_is : d.next ≡ p + (4 + h.a + h.b)
+  pub next_in : d.next ≤ length r
+  pub body_runs : d.start ≤ d.end
+  pub body_in : d.end < length r
+  pub tag_is : d.tag ≡ tag_at r p
   pub opens : get_or r p 0 ≡ 30 → ⊥
 
 -- the same of any place: of none there is nothing to say
-abbrev pub HeldAt : List ℕ → Shape → ℕ → Place → Type 0
-HeldAt r h p (At tag start end next) = Held r h p tag start end next
-HeldAt r h p Done = Unit {0}
+abbrev pub HeldAt : List ℕ → Shape → ℕ → Option Place → Type 0
+HeldAt r h p (Some d) = Held r h p d
+HeldAt r h p None = Unit {0}
 
 held_of : (r : List ℕ) (h : Shape) (p pos len : ℕ) → Entered r h.a h.b p pos len
     → HeldAt r h p (place_of r h.base (FieldAt (tag_at r p) pos len (p + (4 + h.a + h.b))))
@@ -56,17 +56,17 @@ unfolding place_at
 place_held r h p = by_entry (λ (e : Entry). HeldAt r h p (place_of r h.base e)) r h.a h.b p tt (λ _ _. tt) (held_of r h p)
 
 -- by the place e that was read at p
-module _ (r : List ℕ) (h : Shape) (p : ℕ) (e : Place) (en : e ≡ place_at r h p) (tag start end next : ℕ) (x : e ≡ At tag start end next) where
-  pub held : Held r h p tag start end next
+module _ (r : List ℕ) (h : Shape) (p : ℕ) (e : Option Place) (en : e ≡ place_at r h p) (d : Place) (x : e ≡ Some d) where
+  pub held : Held r h p d
   held = let k : HeldAt r h p e = rw en (place_held r h p) in rw x at k
 
-  pub place_falls : length r - next < length r - p
+  pub place_falls : length r - d.next < length r - p
   place_falls = let k = held in omega arith
 
-  pub place_runs : start ≤ end
+  pub place_runs : d.start ≤ d.end
   place_runs = held.body_runs
 
-  pub place_in_lem : end ≤ length r
+  pub place_in_lem : d.end ≤ length r
   place_in_lem = let k = held in omega arith
 
 -- what a caller's loop over fields wants besides the laws of its own definition
@@ -75,25 +75,25 @@ pub ruleset place_bounds = (place_falls, place_runs, place_in_lem)
 -- ---- one after the other
 
 -- a step leads further on
-lower_of : (r : List ℕ) (h : Shape) (p : ℕ) (e : Place) → HeldAt r h p e → Lower (λ (q : ℕ). length r - q) p (place_step r e)
-lower_of r h p (At tag start end next) k = omega arith
-lower_of r h p Done k = tt
+lower_of : (r : List ℕ) (h : Shape) (p : ℕ) (e : Option Place) → HeldAt r h p e → Lower (λ (q : ℕ). length r - q) p (place_step r e)
+lower_of r h p (Some d) k = omega arith
+lower_of r h p None k = tt
 
 falls : (r : List ℕ) (h : Shape) (p : ℕ) → Lower (λ (q : ℕ). length r - q) p (place_step r (place_at r h p))
 falls r h p = lower_of r h p (place_at r h p) (place_held r h p)
 
 -- by the place e that was read at p
-module _ (r : List ℕ) (h : Shape) (p : ℕ) (e : Place) (en : e ≡ place_at r h p) where
+module _ (r : List ℕ) (h : Shape) (p : ℕ) (e : Option Place) (en : e ≡ place_at r h p) where
   step : fields_at r h p ≡ (follow (place_step r e) (walk (λ q. place_step r (place_at r h q)) (λ q. length r - q))).items
   unfolding fields_at
   step = rw en (ap (λ (g : Got Field). g.items) (walk_step (λ q. place_step r (place_at r h q)) (λ q. length r - q) (falls r h) p))
 
-  pub fields_more : (tag start end next : ℕ) → e ≡ At tag start end next
-      → fields_at r h p ≡ record { tag = tag; body = between r start end } ∷ fields_at r h next
+  pub fields_more : (d : Place) → e ≡ Some d
+      → fields_at r h p ≡ record { tag = d.tag; body = between r d.start d.end } ∷ fields_at r h d.next
   unfolding fields_at
-  fields_more tag start end next x = step ∙ simp x
+  fields_more d x = step ∙ simp x
 
-  pub fields_done : e ≡ Done → fields_at r h p ≡ []
+  pub fields_done : e ≡ None → fields_at r h p ≡ []
   fields_done x = step ∙ simp x
 
 -- ---- they are the fields of the record
@@ -133,13 +133,13 @@ fields_same r h z = same_from_lem r h 24 0 z
 abbrev Ith : List ℕ → Shape → ℕ → ℕ → Type 0
 Ith r h i p = i ≤ length (fields_at r h p) → drop i (fields_at r h p) ≡ fields_at r h (p + i * (4 + h.a + h.b))
 
-ith_more : (r : List ℕ) (h : Shape) (i p : ℕ) (e : Place) → e ≡ place_at r h p → ((q : ℕ) → Ith r h i q) → Ith r h (suc i) p
-ith_more r h i p (At tag start end next) en ih l =
-    let m = fields_more r h p _ en tag start end next refl in
-    let k = held r h p _ en tag start end next refl in
-    let g : suc i ≤ suc (length (fields_at r h next)) = rw m at l in
-    rw m (ih next (omega arith) ∙ ap (fields_at r h) (omega arith))
-ith_more r h i p Done en ih l = let g : suc i ≤ 0 = rw (fields_done r h p _ en refl) at l in absurd (omega arith)
+ith_more : (r : List ℕ) (h : Shape) (i p : ℕ) (e : Option Place) → e ≡ place_at r h p → ((q : ℕ) → Ith r h i q) → Ith r h (suc i) p
+ith_more r h i p (Some d) en ih l =
+    let m = fields_more r h p _ en d refl in
+    let k = held r h p _ en d refl in
+    let g : suc i ≤ suc (length (fields_at r h d.next)) = rw m at l in
+    rw m (ih d.next (omega arith) ∙ ap (fields_at r h) (omega arith))
+ith_more r h i p None en ih l = let g : suc i ≤ 0 = rw (fields_done r h p _ en refl) at l in absurd (omega arith)
 
 -- its place is p + i * (4 + a + b)
 pub fields_ith : (r : List ℕ) (h : Shape) (i p : ℕ) → Ith r h i p
@@ -150,25 +150,25 @@ fields_ith r h (suc i) p l = ith_more r h i p (place_at r h p) refl (fields_ith 
 
 -- what it returns, by the entry e that it read
 module _ (r : List ℕ) (h : Shape) (p : ℕ) (e : Entry) (en : e ≡ entry_at r h.a h.b p) where
-  pub place_end : e ≡ End → Done ≡ place_at r h p
+  pub place_end : e ≡ End → None ≡ place_at r h p
   unfolding place_at
   place_end x = simp (← en, x)
 
-  pub place_bad : e ≡ Bad → Done ≡ place_at r h p
+  pub place_bad : e ≡ Bad → None ≡ place_at r h p
   unfolding place_at
   place_bad x = simp (← en, x)
 
   module _ (tag pos len next : ℕ) (x : e ≡ FieldAt tag pos len next) where
-    pub place_empty : len ≡ 0 → Done ≡ place_at r h p
+    pub place_empty : len ≡ 0 → None ≡ place_at r h p
     unfolding place_at
     place_empty z = simp (← en, x, eq-eqb len 0 z)
 
     module _ (n : len ≡ 0 → ⊥) where
-      pub place_past : length r < h.base + pos + len → Done ≡ place_at r h p
+      pub place_past : length r < h.base + pos + len → None ≡ place_at r h p
       unfolding place_at
       place_past l = simp (← en, x, ne_eqb len 0 n, lt-leb _ _ l)
 
-      pub place_there : h.base + pos + len ≤ length r → At tag (h.base + pos) (h.base + pos + len - 1) next ≡ place_at r h p
+      pub place_there : h.base + pos + len ≤ length r → at_place tag (h.base + pos) (h.base + pos + len - 1) next ≡ place_at r h p
       unfolding place_at
       place_there l = simp (← en, x, ne_eqb len 0 n, le-leb _ _ l)
 

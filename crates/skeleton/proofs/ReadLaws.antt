@@ -19,12 +19,12 @@ use Rattle.skeleton.specs.Place.{between, place_at, fields_at}
 use Rattle.skeleton.specs.Record.{record_at}
 use Rattle.skeleton.specs.Writable.{TagFits, TagsFit, AllTagged}
 use Rattle.skeleton.specs.declared.leader.Head.{Head}
-use Rattle.skeleton.specs.declared.leader.Head.TheVariants.{Good, Refused}
+use Rattle.skeleton.specs.declared.leader.Broken.{Broken}
+use Rattle.std.specs.Prelude.{Option, Some, None, Result, Ok, Err}
 use Rattle.skeleton.specs.declared.directory.Entry.{Entry}
 use Rattle.skeleton.specs.declared.directory.Entry.TheVariants.{Field as FieldAt, End, Bad}
 use Rattle.skeleton.specs.declared.directory.Shape.{Shape}
 use Rattle.skeleton.specs.declared.place.Place.{Place}
-use Rattle.skeleton.specs.declared.place.Place.TheVariants.{At, Done}
 use Rattle.skeleton.proofs.DirectoryLaws.{fields_step}
 use Rattle.skeleton.proofs.PlaceLaws.{held, fields_more, fields_done, fields_same}
 use Rattle.skeleton.proofs.RecordLaws.{right}
@@ -42,12 +42,12 @@ tag_fits r bytes p opens =
     let z = bytes (p + 3) in
     (omega arith, λ e. opens (omega arith))
 
-tags_at : (r : List ℕ) (h : Shape) → ((k : ℕ) → get_or r k 0 < 256) → (p : ℕ) (e : Place) → e ≡ place_at r h p
+tags_at : (r : List ℕ) (h : Shape) → ((k : ℕ) → get_or r k 0 < 256) → (p : ℕ) (e : Option Place) → e ≡ place_at r h p
     → ((q : ℕ) → length r - q < length r - p → TagsFit (fields_at r h q)) → TagsFit (fields_at r h p)
-tags_at r h bytes p (At tag start end next) en later =
-    let k = held r h p _ en tag start end next refl in
-    rw (fields_more r h p _ en tag start end next refl) (rw k.tag_is (tag_fits r bytes p k.opens), later next (omega arith))
-tags_at r h bytes p Done en later = rw (fields_done r h p _ en refl) tt
+tags_at r h bytes p (Some d) en later =
+    let k = held r h p _ en d refl in
+    rw (fields_more r h p _ en d refl) (rw k.tag_is (tag_fits r bytes p k.opens), later d.next (omega arith))
+tags_at r h bytes p None en later = rw (fields_done r h p _ en refl) tt
 
 -- the fields of a record that is made of bytes
 pub tags_read : (r : List ℕ) (h : Shape) → ((k : ℕ) → get_or r k 0 < 256) → (p : ℕ) → TagsFit (fields_at r h p)
@@ -90,15 +90,14 @@ pub bytes_between : (f : List ℕ) (i j : ℕ) → ((k : ℕ) → get_or f k 0 <
 bytes_between f i j bytes k = omega (arith, take_below (j - i) (drop i f) k, get_or-drop i f k 0, bytes (i + k))
 
 -- a record, and then those from its end on
-records_at : (f : List ℕ) → ((k : ℕ) → get_or f k 0 < 256) → (at : ℕ) → at < length f → (h : Head) → h ≡ record_at f at
+records_at : (f : List ℕ) → ((k : ℕ) → get_or f k 0 < 256) → (at : ℕ) → at < length f → (h : Result Head Broken) → h ≡ record_at f at
     → ((q : ℕ) → length f - q < length f - at → AllTagged (records_from f q).items) → AllTagged (records_from f at).items
-records_at f bytes at l (Good len base a b) e later =
-    let k = right f at _ e len base a b refl in
-    let h : Shape = record { base = base; a = a; b = b } in
-    let r = between f at (at + len) in
-    rw (records_more f at l _ e len base a b refl)
-    (fields_some r h k.walked, tags_read r h (bytes_between f at (at + len) bytes) 24, later (at + len) (omega arith))
-records_at f bytes at l (Refused n) e later = rw (records_refused f at l _ e n refl) tt
+records_at f bytes at l (Ok d) e later =
+    let k = right f at _ e d refl in
+    let r = between f at (at + d.len) in
+    rw (records_more f at l _ e d refl)
+    (fields_some r d.shape k.walked, tags_read r d.shape (bytes_between f at (at + d.len) bytes) 24, later (at + d.len) (omega arith))
+records_at f bytes at l (Err x) e later = rw (records_refused f at l _ e x refl) tt
 
 records_by : (f : List ℕ) → ((k : ℕ) → get_or f k 0 < 256) → (at : ℕ) (t : Bool) → ltb at (length f) ≡ t
     → ((q : ℕ) → length f - q < length f - at → AllTagged (records_from f q).items) → AllTagged (records_from f at).items
@@ -120,12 +119,12 @@ abbrev Few : List ℕ → ℕ → Type 0
 Few f at = length (records_from f at).items ≤ length f - at
 
 -- a record, and then those from its end on
-few_at : (f : List ℕ) (at : ℕ) → at < length f → (h : Head) → h ≡ record_at f at → ((q : ℕ) → length f - q < length f - at → Few f q) → Few f at
-few_at f at l (Good len base a b) e later =
-    let k = right f at _ e len base a b refl in
-    let n = later (at + len) (omega arith) in
-    rw (records_more f at l _ e len base a b refl) (omega arith)
-few_at f at l (Refused n) e later = rw (records_refused f at l _ e n refl) (omega arith)
+few_at : (f : List ℕ) (at : ℕ) → at < length f → (h : Result Head Broken) → h ≡ record_at f at → ((q : ℕ) → length f - q < length f - at → Few f q) → Few f at
+few_at f at l (Ok d) e later =
+    let k = right f at _ e d refl in
+    let n = later (at + d.len) (omega arith) in
+    rw (records_more f at l _ e d refl) (omega arith)
+few_at f at l (Err x) e later = rw (records_refused f at l _ e x refl) (omega arith)
 
 few_by : (f : List ℕ) (at : ℕ) (t : Bool) → ltb at (length f) ≡ t → ((q : ℕ) → length f - q < length f - at → Few f q) → Few f at
 few_by f at false e later = rw (records_over f at (ltb-false at (length f) e)) (omega arith)

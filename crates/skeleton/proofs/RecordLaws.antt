@@ -4,18 +4,20 @@ use mathlib.Core.List.{List}
 use mathlib.Core.Bool.{Bool, true, false}
 use Prim.Native.Nat.{ℕ, ◌+◌, ◌-◌, ◌^◌, ◌≤◌, ◌<◌}
 use native.Mathlib.Omega.{arith}
-use borrow.Author.Tests.{lt-ltb, le-ltb, eq-eqb, ne_eqb, leb-false, eqb-true, eqb-false}
+use borrow.Author.Tests.{lt-ltb, le-ltb, leb-false, eqb-true}
 use lib.ListN.{length, take, drop, length-take, length-drop}
 use lib.Seq.{take_all, length-take-le}
 use lib.Dec.{leb, eqb}
 use Rattle.base.proofs.ChoiceLaws.{by_test}
 use Rattle.skeleton.specs.Leader.{stated_of, leader_of}
-use Rattle.skeleton.specs.Directory.{entry_at, fields_of}
+use Rattle.skeleton.specs.Directory.{entry_at, fields_of, directed}
 use Rattle.skeleton.specs.Place.{between}
-use Rattle.skeleton.specs.Record.{with_directory, record_at, stated_at}
+use Rattle.skeleton.specs.Record.{found_right, with_directory, record_at, stated_at}
 use Rattle.skeleton.specs.Shape.{Bounded}
 use Rattle.skeleton.specs.declared.leader.Head.{Head}
-use Rattle.skeleton.specs.declared.leader.Head.TheVariants.{Good, Refused}
+use Rattle.skeleton.specs.declared.leader.Broken.{Broken}
+use Rattle.skeleton.specs.declared.leader.Broken.TheVariants.{Cut}
+use Rattle.std.specs.Prelude.{Result, Ok, Err}
 use Rattle.skeleton.proofs.LeaderLaws.{Fitting, leader_fitting, Stated, leader_stated}
 use Rattle.skeleton.proofs.DirectoryLaws.{dir_bad}
 
@@ -29,41 +31,41 @@ rest_is f at = take_all (length f - at) (drop at f) (omega (arith, length-drop a
 -- ---- `record_at` and `stated_at`
 
 -- what `record_at` returns, by what the leader and the directory say
-module _ (f : List ℕ) (at : ℕ) (h : Head) (eh : h ≡ leader_of (rest f at) (eqb at 0)) where
+module _ (f : List ℕ) (at : ℕ) (h : Result Head Broken) (eh : h ≡ leader_of (rest f at) (eqb at 0)) where
   at_rest : h ≡ leader_of (drop at f) (eqb at 0)
   at_rest = rw (rest_is f at) at eh
 
-  pub record_refused : (n : ℕ) → h ≡ Refused n → Refused n ≡ record_at f at
+  pub record_refused : (x : Broken) → h ≡ Err x → Err x ≡ record_at f at
   unfolding record_at
-  record_refused n x = simp (← at_rest, x)
+  record_refused x e = simp (← at_rest, e)
 
-  module _ (len base a b : ℕ) (x : h ≡ Good len base a b) where
-    fitting : (len ≤ length (rest f at)) × (base < 10 ^ 9) × (a ≤ 9) × (b ≤ 9)
+  module _ (d : Head) (x : h ≡ Ok d) where
+    fitting : (d.len ≤ length (rest f at)) × (d.shape.base < 10 ^ 9) × (d.shape.a ≤ 9) × (d.shape.b ≤ 9)
     fitting = let g : Fitting (rest f at) h = rw eh (leader_fitting (rest f at) (eqb at 0)) in rw x at g
 
-    pub record_cut : len ≡ length (take len (rest f at))
-    record_cut = sym (length-take-le len (rest f at) fitting.0)
+    pub record_cut : d.len ≡ length (take d.len (rest f at))
+    record_cut = sym (length-take-le d.len (rest f at) fitting.0)
 
-    pub record_shape : Bounded (record { base = base; a = a; b = b })
+    pub record_shape : Bounded d.shape
     record_shape = let g = fitting in record { base_small = g.1; a_small = g.2; b_small = g.3 }
 
-    module _ (n : ℕ) (en : n ≡ (fields_of (take len (rest f at)) base a b).ending) where
-      ending : n ≡ (fields_of (take len (drop at f)) base a b).ending
-      ending = rw (rest_is f at) at en
+    module _ (r : Result (Unit {0}) Broken) (er : r ≡ directed (fields_of (take d.len (rest f at)) d.shape.base d.shape.a d.shape.b).ending) where
+      judged : r ≡ directed (fields_of (take d.len (drop at f)) d.shape.base d.shape.a d.shape.b).ending
+      judged = rw (rest_is f at) at er
 
-      pub record_good : n ≡ 0 → Good len base a b ≡ record_at f at
+      pub record_good : (u : Unit {0}) → r ≡ Ok u → Ok d ≡ record_at f at
       unfolding record_at
-      record_good z = simp (← at_rest, x, ← ending, eq-eqb n 0 z)
+      record_good u z = simp (← at_rest, x, ← judged, z)
 
-      pub record_bad : (n ≡ 0 → ⊥) → Refused n ≡ record_at f at
+      pub record_bad : (y : Broken) → r ≡ Err y → Err y ≡ record_at f at
       unfolding record_at
-      record_bad z = simp (← at_rest, x, ← ending, ne_eqb n 0 z)
+      record_bad y z = simp (← at_rest, x, ← judged, z)
 
 pub ruleset record_ways = (record_cut, record_shape, record_refused, record_good, record_bad)
 
 -- what `stated_at` returns
 module _ (f : List ℕ) (at : ℕ) where
-  pub stated_short : length f - at < 24 → Refused 1 ≡ stated_at f at
+  pub stated_short : length f - at < 24 → Err Cut ≡ stated_at f at
   unfolding stated_at
   stated_short h = simp (lt-ltb _ _ h)
 
@@ -71,7 +73,7 @@ module _ (f : List ℕ) (at : ℕ) where
     pub stated_room : 24 ≤ length (rest f at)
     stated_room = rw (rest_is f at) (omega (arith, length-drop at f))
 
-    pub stated_there : (r : Head) → r ≡ stated_of (rest f at) → r ≡ stated_at f at
+    pub stated_there : (r : Result Head Broken) → r ≡ stated_of (rest f at) → r ≡ stated_at f at
     unfolding stated_at
     stated_there r x = simp (le-ltb _ _ h) (rw (rest_is f at) at x)
 
@@ -80,17 +82,17 @@ pub ruleset stated_at_ways = (stated_short, stated_room, stated_there)
 -- ---- what holds of a record that is right
 
 -- it is more than a leader, lies in the file, its directory is right, and its numbers alone say what its leader says
-pub record Right (f : List ℕ) (at len base a b : ℕ) : Type 0 where
-  pub long : 24 < len
-  pub inside : at + len ≤ length f
-  pub bounded : Bounded (record { base = base; a = a; b = b })
-  pub walked : (fields_of (between f at (at + len)) base a b).ending ≡ 0
-  pub again : stated_at f at ≡ Good len base a b
+pub record Right (f : List ℕ) (at : ℕ) (d : Head) : Type 0 where
+  pub long : 24 < d.len
+  pub inside : at + d.len ≤ length f
+  pub bounded : Bounded d.shape
+  pub walked : (fields_of (between f at (at + d.len)) d.shape.base d.shape.a d.shape.b).ending ≡ 0
+  pub again : stated_at f at ≡ Ok d
 
--- a record is right, or the number of its refusal is not 0
-abbrev RightAt : List ℕ → ℕ → Head → Type 0
-RightAt f at (Good len base a b) = Right f at len base a b
-RightAt f at (Refused n) = 0 < n
+-- a record is right, or refused
+abbrev RightAt : List ℕ → ℕ → Result Head Broken → Type 0
+RightAt f at (Ok d) = Right f at d
+RightAt f at (Err x) = Unit {0}
 
 -- a record whose directory is right has more than a leader
 fields_long : (r : List ℕ) (base a b : ℕ) → (fields_of r base a b).ending ≡ 0 → 24 < length r
@@ -106,24 +108,24 @@ pub cut_is : (f : List ℕ) (at len : ℕ) → between f at (at + len) ≡ take 
 cut_is f at len = let e : at + len - at ≡ len = omega arith in rw e refl
 
 -- what a leader says of a record, where the directory is right
-right_of : (f : List ℕ) (at : ℕ) (h : Head) → Fitting (drop at f) h → Stated (drop at f) h → RightAt f at (with_directory (drop at f) h)
+right_of : (f : List ℕ) (at : ℕ) (h : Result Head Broken) → Fitting (drop at f) h → Stated (drop at f) h → RightAt f at (with_directory (drop at f) h)
 unfolding stated_at
-right_of f at (Good len base a b) h s =
-    by_test (RightAt f at) (eqb (fields_of (take len (drop at f)) base a b).ending 0) _ _
+right_of f at (Ok d) h s =
+    by_test (λ r. RightAt f at (found_right d r)) (eqb (fields_of (take d.len (drop at f)) d.shape.base d.shape.a d.shape.b).ending 0) _ _
     (λ e.
-    let z : (fields_of (take len (drop at f)) base a b).ending ≡ 0 = eqb-true _ 0 e in
-    let l = fields_long (take len (drop at f)) base a b z in
+    let z : (fields_of (take d.len (drop at f)) d.shape.base d.shape.a d.shape.b).ending ≡ 0 = eqb-true _ 0 e in
+    let l = fields_long (take d.len (drop at f)) d.shape.base d.shape.a d.shape.b z in
     let m = length-drop at f in
-    let k = length-take len (drop at f) in
+    let k = length-take d.len (drop at f) in
     record {
       long = omega arith;
       inside = omega arith;
       bounded = record { base_small = h.1; a_small = h.2; b_small = h.3 };
-      walked = rw (cut_is f at len) z;
+      walked = rw (cut_is f at d.len) z;
       again = simp (le-ltb (length f - at) 24 (omega arith)) s.1;
     })
-    (λ e. let n = eqb-false (fields_of (take len (drop at f)) base a b).ending 0 e in omega arith)
-right_of f at (Refused n) h s = h
+    (λ _. tt)
+right_of f at (Err x) h s = tt
 
 record_right : (f : List ℕ) (at : ℕ) → RightAt f at (record_at f at)
 unfolding record_at
@@ -132,27 +134,24 @@ record_right f at =
     right_of f at (leader_of s (eqb at 0)) (leader_fitting s (eqb at 0)) (leader_stated s (eqb at 0))
 
 -- by the record h that was read at at
-module _ (f : List ℕ) (at : ℕ) (h : Head) (eh : h ≡ record_at f at) where
+module _ (f : List ℕ) (at : ℕ) (h : Result Head Broken) (eh : h ≡ record_at f at) where
   right_at : RightAt f at h
   right_at = rw eh (record_right f at)
 
-  pub refusal_some : (n : ℕ) → h ≡ Refused n → 0 < n
-  refusal_some n x = rw x at right_at
-
-  module _ (len base a b : ℕ) (x : h ≡ Good len base a b) where
-    pub right : Right f at len base a b
+  module _ (d : Head) (x : h ≡ Ok d) where
+    pub right : Right f at d
     right = rw x at right_at
 
-    pub record_in_lem : at + len ≤ length f
+    pub record_in_lem : at + d.len ≤ length f
     record_in_lem = right.inside
 
-    pub record_falls : length f - (at + len) < length f - at
+    pub record_falls : length f - (at + d.len) < length f - at
     record_falls = let k = right in omega arith
 
-    pub record_word : length f < 2 ^ 64 → at + len < 2 ^ 64
+    pub record_word : length f < 2 ^ 64 → at + d.len < 2 ^ 64
     record_word w = let k = right in omega arith
 
-    pub record_bounded : Bounded (record { base = base; a = a; b = b })
+    pub record_bounded : Bounded d.shape
     record_bounded = right.bounded
 
 -- what a caller's loop over records wants besides the laws of its own definition

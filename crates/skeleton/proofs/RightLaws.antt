@@ -5,28 +5,28 @@ use mathlib.Core.Bool.{Bool, true, false}
 use Prim.Native.Nat.{ℕ, ◌+◌, ◌-◌, ◌^◌, ◌≤◌, ◌<◌}
 use native.Mathlib.Omega.{arith}
 use lib.ListN.{length, get_or}
+use Rattle.skeleton.specs.Leader.{good}
 use Rattle.skeleton.specs.Directory.{tag_at, entry_at, lies}
-use Rattle.skeleton.specs.Place.{between, place_at}
+use Rattle.skeleton.specs.Place.{between, at_place, place_at}
 use Rattle.skeleton.specs.Record.{record_at}
 use Rattle.skeleton.specs.RightFrom.{RightFrom}
 use Rattle.skeleton.specs.declared.directory.Entry.TheVariants.{Field, End, Bad}
 use Rattle.skeleton.specs.declared.directory.Shape.{Shape}
-use Rattle.skeleton.specs.declared.leader.Head.TheVariants.{Good}
 use Rattle.skeleton.specs.declared.place.Place.{Place}
-use Rattle.skeleton.specs.declared.place.Place.TheVariants.{At, Done}
+use Rattle.std.specs.Prelude.{Option, Some, None}
 use Rattle.skeleton.proofs.DirectoryLaws.{Entered, by_entry, lies_in, dir_bad, dir_not, dir_more, entry_end}
 use Rattle.skeleton.proofs.PlaceLaws.{held, place_end, place_there}
 use Rattle.skeleton.proofs.RecordLaws.{right}
 
 -- a record that is right has a directory that is right from its first entry on
-pub right_start : (f : List ℕ) (p len : ℕ) (h : Shape) → record_at f p ≡ Good len h.base h.a h.b → RightFrom (between f p (p + len)) h 24
-right_start f p len h e = record { at = 0; found = (right f p _ refl len h.base h.a h.b e).walked }
+pub right_start : (f : List ℕ) (p len : ℕ) (h : Shape) → record_at f p ≡ good len h → RightFrom (between f p (p + len)) h 24
+right_start f p len h e = record { at = 0; found = (right f p _ refl (record { len = len; shape = h }) e).walked }
 
 -- a field whose entry stands at q, and the directory behind it
 pub record Next (r : List ℕ) (h : Shape) (q : ℕ) : Type 0 where
   pub start : ℕ
   pub end : ℕ
-  pub place : At (tag_at r q) start end (q + (4 + h.a + h.b)) ≡ place_at r h q
+  pub place : at_place (tag_at r q) start end (q + (4 + h.a + h.b)) ≡ place_at r h q
   pub fits : q + (4 + h.a + h.b) ≤ length r
   pub on : RightFrom r h (q + (4 + h.a + h.b))
 
@@ -39,7 +39,7 @@ module _ (r : List ℕ) (h : Shape) (q : ℕ) (k : RightFrom r h q) where
       by_entry (λ e. e ≡ entry_at r h.a h.b q → q < length r) r h.a h.b q
       (λ en. absurd (no_bad en)) (λ l _ _. l) (λ pos len e _. let f = e.fits in omega arith) refl
 
-  pub right_done : get_or r q 0 ≡ 30 → Done ≡ place_at r h q
+  pub right_done : get_or r q 0 ≡ 30 → None ≡ place_at r h q
   right_done y = place_end r h q End (entry_end r h.a h.b q right_in y) refl
 
   module _ (n : get_or r q 0 ≡ 30 → ⊥) where
@@ -76,10 +76,10 @@ module _ (r : List ℕ) (h : Shape) (q : ℕ) (k : RightFrom r h q) where
     right_falls = let f = right_next.fits in omega arith
 
 -- behind a field that was read
-pub right_after : (r : List ℕ) (h : Shape) (q : ℕ) → RightFrom r h q → (e : Place) → e ≡ place_at r h q → (tag start end next : ℕ)
-    → e ≡ At tag start end next → RightFrom r h next
-right_after r h q k e en tag start end next x =
-    let l = held r h q e en tag start end next x in
+pub right_after : (r : List ℕ) (h : Shape) (q : ℕ) → RightFrom r h q → (e : Option Place) → e ≡ place_at r h q → (d : Place)
+    → e ≡ Some d → RightFrom r h d.next
+right_after r h q k e en d x =
+    let l = held r h q e en d x in
     rw l.next_is (right_on r h q k l.opens)
 
 -- what a walk over the tags of a right directory wants besides the laws of its own definition

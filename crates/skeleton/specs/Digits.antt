@@ -1,9 +1,7 @@
 -- Decimal numbers in bytes: read from digits, and written as digits.
-use Rattle.std.specs.Prelude.{ℕ, zero, suc, ◌+◌, ◌-◌, ◌*◌, ◌/◌, ◌%◌, List, [], ◌∷◌, ◌++◌, Bool, length, take, drop, leb, ltb}
+use Rattle.std.specs.Prelude.{ℕ, zero, suc, ◌+◌, ◌-◌, ◌*◌, ◌/◌, ◌%◌, List, [], ◌∷◌, ◌++◌, Bool, length, take, drop, leb, ltb, Option, Some, None}
 use Rattle.base.specs.Choice.{pick, both}
 use Rattle.base.specs.Walk.{Step, more, over, walk}
-use Rattle.skeleton.specs.declared.digits.Number.{Number}
-use Rattle.skeleton.specs.declared.digits.Number.TheVariants.{Value, NotDigits}
 
 -- ---- read
 
@@ -12,26 +10,26 @@ unfoldable pub is_digit : ℕ → Bool
 is_digit b = both (leb 48 b) (leb b 57)
 
 -- the number whose digits are acc's and then these bytes
-unfoldable pub digits : List ℕ → ℕ → Number
-digits [] acc = Value acc
-digits (b ∷ bs) acc = pick (is_digit b) (digits bs (acc * 10 + (b - 48))) NotDigits
+unfoldable pub digits : List ℕ → ℕ → Option ℕ
+digits [] acc = Some acc
+digits (b ∷ bs) acc = pick (is_digit b) (digits bs (acc * 10 + (b - 48))) None
 
 -- the n bytes from at
 abbrev pub window : List ℕ → ℕ → ℕ → List ℕ
 window s at n = take n (drop at s)
 
 -- the number whose digits are acc's and then the k bytes from i: the answer of a loop from where it stands
-unfoldable pub digits_from : List ℕ → ℕ → ℕ → ℕ → Number
+unfoldable pub digits_from : List ℕ → ℕ → ℕ → ℕ → Option ℕ
 digits_from s i k acc = digits (window s i k) acc
 
 -- the number that stands in width digits from at
-abbrev pub number_at : List ℕ → ℕ → ℕ → Number
+abbrev pub number_at : List ℕ → ℕ → ℕ → Option ℕ
 number_at s at width = digits_from s at width 0
 
 -- the number, or 0 where there is none
-abbrev pub value_of : Number → ℕ
-value_of (Value n) = n
-value_of NotDigits = 0
+abbrev pub value_of : Option ℕ → ℕ
+value_of (Some n) = n
+value_of None = 0
 
 -- ---- written
 

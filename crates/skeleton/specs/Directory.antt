@@ -1,10 +1,10 @@
 -- The directory of a record, and the bounds of its fields.
-use Rattle.std.specs.Prelude.{ℕ, ◌+◌, ◌-◌, ◌*◌, List, Bool, not, length, get_or, leb, ltb, eqb}
+use Rattle.std.specs.Prelude.{ℕ, ◌+◌, ◌-◌, ◌*◌, List, Bool, not, length, get_or, leb, ltb, eqb, Option, Some, None, Result, Ok, Err}
 use Rattle.base.specs.Choice.{pick, both}
 use Rattle.base.specs.Walk.{Step, more, over, Got, walk}
 use Rattle.skeleton.specs.Digits.{number_at}
-use Rattle.skeleton.specs.declared.digits.Number.{Number}
-use Rattle.skeleton.specs.declared.digits.Number.TheVariants.{Value, NotDigits}
+use Rattle.skeleton.specs.declared.leader.Broken.{Broken}
+use Rattle.skeleton.specs.declared.leader.Broken.TheVariants.{Directory}
 use Rattle.skeleton.specs.declared.directory.Entry.{Entry}
 use Rattle.skeleton.specs.declared.directory.Entry.TheVariants.{Field, End, Bad}
 
@@ -25,10 +25,10 @@ number_of End = 0
 number_of Bad = 3
 
 -- an entry, where its length and its position are digits
-abbrev pub entry_of : ℕ → ℕ → Number → Number → Entry
-entry_of tag next (Value len) (Value pos) = Field tag pos len next
-entry_of tag next (Value len) NotDigits = Bad
-entry_of tag next NotDigits pos = Bad
+abbrev pub entry_of : ℕ → ℕ → Option ℕ → Option ℕ → Entry
+entry_of tag next (Some len) (Some pos) = Field tag pos len next
+entry_of tag next (Some len) None = Bad
+entry_of tag next None pos = Bad
 
 -- the entry in the 4+a+b bytes from p: tag, length, position
 unfoldable pub entry_in : List ℕ → ℕ → ℕ → ℕ → Entry
@@ -81,3 +81,7 @@ fields_from r base a b p at = walk (dir_step r base a b) (λ s. length r - s.0) 
 -- the fields of a record, with the number 0, or 3 where the directory or a field's bounds are wrong
 abbrev pub fields_of : List ℕ → ℕ → ℕ → ℕ → Got Body
 fields_of r base a b = fields_from r base a b 24 0
+
+-- what the number with which the walk over a directory ended says of it
+abbrev pub directed : ℕ → Result (Unit {0}) Broken
+directed n = pick (eqb n 0) (Ok tt) (Err Directory)

@@ -1,12 +1,12 @@
 -- The records of a file as the skeleton finds them: each one's fields, and how the walk over the file ended.
-use Rattle.std.specs.Prelude.{ℕ, ◌+◌, ◌-◌, List, [], length, take, drop, eqb, ltb}
+use Rattle.std.specs.Prelude.{ℕ, ◌+◌, ◌-◌, List, [], length, take, drop, eqb, ltb, Result, Ok, Err}
 use Rattle.base.specs.Choice.{pick}
 use Rattle.base.specs.Lists.{each}
 use Rattle.base.specs.Walk.{Step, more, over, Got, walk}
-use Rattle.skeleton.specs.Leader.{leader_of}
+use Rattle.skeleton.specs.Leader.{number_of, leader_of}
 use Rattle.skeleton.specs.Directory.{Body, fields_of}
 use Rattle.skeleton.specs.declared.leader.Head.{Head}
-use Rattle.skeleton.specs.declared.leader.Head.TheVariants.{Good, Refused}
+use Rattle.skeleton.specs.declared.leader.Broken.{Broken}
 
 -- a field: its tag, the four bytes as one number, and its body without the closing 1E
 pub record Field : Type 0 where
@@ -22,9 +22,9 @@ abbrev pub step_dir : ℕ → List ℕ → Got Body → Step ℕ (List Field)
 step_dir next r g = pick (eqb g.ending 0) (more (each (cut_out r) g.items) next) (over g.ending)
 
 -- a record whose leader was read: the next one starts where the stated length ends; or 1 or 2
-abbrev pub step_head : ℕ → List ℕ → Head → Step ℕ (List Field)
-step_head at rest (Good len base a b) = step_dir (at + len) (take len rest) (fields_of (take len rest) base a b)
-step_head at rest (Refused n) = over n
+abbrev pub step_head : ℕ → List ℕ → Result Head Broken → Step ℕ (List Field)
+step_head at rest (Ok d) = step_dir (at + d.len) (take d.len rest) (fields_of (take d.len rest) d.shape.base d.shape.a d.shape.b)
+step_head at rest (Err x) = over (number_of x)
 
 -- one step over a file: at its end the walk is over, else a record's leader and then its directory
 abbrev pub file_step : List ℕ → ℕ → Step ℕ (List Field)

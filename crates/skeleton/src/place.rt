@@ -5,20 +5,17 @@ ghost use Rattle.skeleton.specs.Shape.{Bounded};
 
 use crate::directory::{Entry, Shape, entry_at};
 
-// A field: its tag, where its body starts and where its closing 1E stands, and the place of the next entry; or that there is none.
+// A field: its tag, where its body starts and where its closing 1E stands, and the place of the next entry.
 #[derive(Clone, Copy)]
-pub enum Place {
-    At {
-        tag: u32,
-        start: usize,
-        end: usize,
-        next: usize,
-    },
-    Done,
+pub struct Place {
+    pub tag: u32,
+    pub start: usize,
+    pub end: usize,
+    pub next: usize,
 }
 
-// The field whose entry stands at p of the directory; its body is r[start..end].
-pub fn place_at(r: &[u8], h: Shape, p: usize) -> Place
+// The field whose entry stands at p of the directory, if there is one; its body is r[start..end].
+pub fn place_at(r: &[u8], h: Shape, p: usize) -> Option<Place>
     requires { Bounded h }
     ensures { result ≡ place_at r.now h p }
 {
@@ -30,51 +27,35 @@ pub fn place_at(r: &[u8], h: Shape, p: usize) -> Place
             next,
         } => {
             if len == 0 {
-                return Place::Done;
+                return None;
             }
             let start = h.base + pos;
             if r.len() < start + len {
-                return Place::Done;
+                return None;
             }
-            Place::At {
+            Some(Place {
                 tag,
                 start,
                 end: start + len - 1,
                 next,
-            }
+            })
         }
-        Entry::End => Place::Done,
-        Entry::Bad => Place::Done,
+        Entry::End => None,
+        Entry::Bad => None,
     }
 }
 
 // The first field with the tag, from the entry at p on.
-pub fn find(r: &[u8], h: Shape, wanted: u32, p: usize) -> Place
+pub fn find(r: &[u8], h: Shape, wanted: u32, p: usize) -> Option<Place>
     requires { Bounded h }
     ensures { result ≡ find_from r.now h wanted p }
 {
     let mut q = p;
-    loop {
-        match place_at(r, h, q) {
-            Place::At {
-                tag,
-                start,
-                end,
-                next,
-            } => {
-                if tag == wanted {
-                    return Place::At {
-                        tag,
-                        start,
-                        end,
-                        next,
-                    };
-                }
-                q = next;
-            }
-            Place::Done => {
-                return Place::Done;
-            }
+    while let Some(field) = place_at(r, h, q) {
+        if field.tag == wanted {
+            return Some(field);
         }
+        q = field.next;
     }
+    None
 }

@@ -7,13 +7,13 @@ use native.Mathlib.Omega.{arith}
 use borrow.Author.Tests.{ltb-true, ltb-false}
 use lib.ListN.{length, take, drop, length-take, length-drop}
 use lib.Seq.{drop_at, drop-length, drop-drop}
+use Rattle.std.specs.Prelude.{Option, Some, None}
 use Rattle.memory.specs.Put.{part}
 use Rattle.memory.specs.Digits.{from_little_endian}
 use lib.Dec.{ltb}
-use Rattle.keys.specs.Look.{look_at, Sound}
+use Rattle.keys.specs.Look.{looked, look_at, Sound}
 use Rattle.keys.specs.declared.look.Look.{Look}
-use Rattle.keys.specs.declared.look.Look.TheVariants.{At, Nothing}
-use Rattle.keys.proofs.SoundLaws.{Next as Follows, sound_nothing, sound_bounds}
+use Rattle.keys.proofs.SoundLaws.{Next as Follows, sound_over, sound_bounds}
 use Rattle.sorting.specs.Numbers.{number_at, Stored, Has, Mixed, Ascends, Parted}
 use Rattle.keys.specs.Places.{Leads, here, over, Names}
 use Rattle.sorting.specs.Places.{Skips, Next, Late, at_one, weight_of, Entry, Filled, Sorted, Indexed}
@@ -21,7 +21,7 @@ use Rattle.sorting.proofs.NumberLaws.{weak}
 use Rattle.keys.proofs.PlaceLaws.{follows, same_look, leads_sound, leads_up, leads_then, leads_on, leads_end}
 use Rattle.sorting.proofs.PlaceLaws.{skips_none, skips_over, skips_to}
 
-leads_one : {u : List ℕ} {p q : ℕ} (len key : ℕ) → Leads u p q → look_at u q ≡ At len key → Leads u p (q + len)
+leads_one : {u : List ℕ} {p q : ℕ} (len key : ℕ) → Leads u p q → look_at u q ≡ looked len key → Leads u p (q + len)
 leads_one len key l e = leads_then l (over e here)
 
 names_inside : {u : List ℕ} {us key p : ℕ} → Sound u us → Names u us key p → p < length u
@@ -30,8 +30,8 @@ names_inside {u} {us} {key} {p} s n =
 
 -- ---- `count`
 
-pub count_more : (u : List ℕ) (q : ℕ) → Sound u q → (e : Look) → e ≡ look_at u q → (len key : ℕ) → e ≡ At len key → (n : ℕ) → n ≤ q → n + 1 ≤ q + len
-count_more u q s e x len key y n h = let l = (follows u q len key s (sym x ∙ y)).found.long in omega arith
+pub count_more : (u : List ℕ) (q : ℕ) → Sound u q → (e : Option Look) → e ≡ look_at u q → (look : Look) → e ≡ Some look → (n : ℕ) → n ≤ q → n + 1 ≤ q + look.len
+count_more u q s e x look y n h = let l = (follows u q look.len look.key s (sym x ∙ y)).found.long in omega arith
 
 pub count_word : (u : List ℕ) (q : ℕ) → Sound u q → (n : ℕ) → n ≤ q → n ≤ 16777216
 count_word u q s n h = let i = s.inside in let l = s.small in omega arith
@@ -53,30 +53,32 @@ module _ (u : List ℕ) (key p q : ℕ) (a : Skipping u key p q) where
   pub skipping_sound : Sound u q
   skipping_sound = a.sound
 
-  pub skipping_over : length u ≤ q → Next u key p q
-  skipping_over h = record { leads = a.leads; sound = a.sound; skips = a.skips q (skips_none u key q); names = λ l. absurd (omega arith) }
+  module _ (e : Option Look) (en : e ≡ look_at u q) where
+    pub skipping_over : e ≡ None → Next u key p q
+    skipping_over x = record {
+      leads = a.leads;
+      sound = a.sound;
+      skips = a.skips q (skips_none u key q);
+      names = λ l. absurd (let h = sound_over u q a.sound e en x in omega arith);
+    }
 
-  module _ (e : Look) (en : e ≡ look_at u q) where
-    pub skipping_nothing : q < length u → e ≡ Nothing → (r : ℕ) → Next u key p r
-    skipping_nothing l x r = absurd (sound_nothing u q a.sound e en l x)
-
-    module _ (len k : ℕ) (x : e ≡ At len k) where
-      pub skipping_more : (k ≡ key → ⊥) → Skipping u key p (q + len)
+    module _ (look : Look) (x : e ≡ Some look) where
+      pub skipping_more : (look.key ≡ key → ⊥) → Skipping u key p (q + look.len)
       skipping_more n = record {
-        sound = (follows u q len k a.sound (sym en ∙ x)).sound;
-        leads = leads_one len k a.leads (sym en ∙ x);
-        skips = λ r t. a.skips r (skips_over u key q len k r a.sound (sym en ∙ x) n t);
+        sound = (follows u q look.len look.key a.sound (sym en ∙ x)).sound;
+        leads = leads_one look.len look.key a.leads (sym en ∙ x);
+        skips = λ r t. a.skips r (skips_over u key q look.len look.key r a.sound (sym en ∙ x) n t);
       }
 
-      pub skipping_here : k ≡ key → Next u key p q
+      pub skipping_here : look.key ≡ key → Next u key p q
       skipping_here z = record {
         leads = a.leads;
         sound = a.sound;
         skips = a.skips q (skips_none u key q);
-        names = λ l. record { leads = a.leads; len = len; look = sym en ∙ x ∙ ap (At len) z };
+        names = λ l. record { leads = a.leads; len = look.len; look = sym en ∙ x ∙ ap (looked look.len) z };
       }
 
-pub ruleset skipping_turn = (skipping_start, skipping_sound, skipping_over, skipping_nothing, skipping_more, skipping_here, sound_bounds, arith)
+pub ruleset skipping_turn = (skipping_start, skipping_sound, skipping_over, skipping_more, skipping_here, sound_bounds, arith)
 
 -- ---- `fill`
 
@@ -115,21 +117,21 @@ module _ (u : List ℕ) (us q n : ℕ) (s : List ℕ) (o : Sound u us) (a : Fill
   pub filling_count : n ≤ 16777217
   filling_count = let i = filling_place in let c = a.counted in omega arith
 
-  pub filling_all : length u ≤ q → 8 * n ≡ length s → (m : ℕ) × Filled u us m s
-  filling_all h e = (
+  pub filling_all : (e : Option Look) → e ≡ look_at u q → e ≡ None → 8 * n ≡ length s → (m : ℕ) × Filled u us m s
+  filling_all e en x full = (
     n,
     record {
-      long = sym e;
+      long = sym full;
       each_one = a.each_one;
-      all = λ key p m. a.all key p m (let i = names_inside o m in omega arith);
+      all = λ key p m. a.all key p m (let h = sound_over u q a.sound e en x in let i = names_inside o m in omega arith);
     },
   )
 
-  module _ (e : Look) (en : e ≡ look_at u q) (len key : ℕ) (x : e ≡ At len key) where
-    step : Follows u q len key
-    step = follows u q len key a.sound (sym en ∙ x)
+  module _ (e : Option Look) (en : e ≡ look_at u q) (look : Look) (x : e ≡ Some look) where
+    step : Follows u q look.len look.key
+    step = follows u q look.len look.key a.sound (sym en ∙ x)
 
-    module _ (w : ℕ) (is-w : w ≡ weight_of key q) (t : List ℕ) (b : Stored s n w t) where
+    module _ (w : ℕ) (is-w : w ≡ weight_of look.key q) (t : List ℕ) (b : Stored s n w t) where
       kept : (y : ℕ) → Has n s y → Has (n + 1) t y
       kept y h =
           let i = h.inside in
@@ -147,33 +149,33 @@ module _ (u : List ℕ) (us q n : ℕ) (s : List ℕ) (o : Sound u us) (a : Fill
               let j = h.inside in
               let z : h.place ≡ n = omega arith in
               record {
-                key = key;
+                key = look.key;
                 place = q;
-                names = record { leads = a.leads; len = len; look = sym en ∙ x };
+                names = record { leads = a.leads; len = look.len; look = sym en ∙ x };
                 is = sym h.is ∙ ap (number_at t) z ∙ b.here ∙ is-w;
               }
 
       -- a record that is not before q and not behind the one there is that one
-      only : (k p : ℕ) → look_at u p ≡ look_at u p → Leads u q p → p < q + len → (m : ℕ) → look_at u p ≡ At m k → Has (n + 1) t (weight_of k p)
+      only : (k p : ℕ) → look_at u p ≡ look_at u p → Leads u q p → p < q + look.len → (m : ℕ) → look_at u p ≡ looked m k → Has (n + 1) t (weight_of k p)
       only k p r here l m g =
-          let z = same_look e len key m k x (en ∙ g) in
+          let z = same_look e look.len look.key m k x (en ∙ g) in
           record { place = n; inside = omega arith; is = b.here ∙ is-w ∙ ap (λ (i : ℕ). weight_of i q) z.1 }
       only k p r (over {len = m2} {key = k2} d y) l m g =
-          let z = same_look e len key m2 k2 x (en ∙ d) in
+          let z = same_look e look.len look.key m2 k2 x (en ∙ d) in
           let i = leads_up y (follows u q m2 k2 a.sound d).sound in
           absurd (omega (arith, z.0))
 
-      any : (k p : ℕ) → Names u us k p → p < q + len → Has (n + 1) t (weight_of k p)
+      any : (k p : ℕ) → Names u us k p → p < q + look.len → Has (n + 1) t (weight_of k p)
       any k p m l = go (ltb p q) refl
         where
           go : (c : Bool) → ltb p q ≡ c → Has (n + 1) t (weight_of k p)
           go true i = kept (weight_of k p) (a.all k p m (ltb-true p q i))
           go false i = only k p refl (leads_on o a.leads m.leads (ltb-false p q i)) l m.len m.look
 
-      pub filling_more : 8 * n + 8 ≤ length s → Filling u us (q + len) (n + 1) t
+      pub filling_more : 8 * n + 8 ≤ length s → Filling u us (q + look.len) (n + 1) t
       filling_more h = record {
         sound = step.sound;
-        leads = leads_one len key a.leads (sym en ∙ x);
+        leads = leads_one look.len look.key a.leads (sym en ∙ x);
         room = (let l = b.long in omega arith);
         counted = (let l = step.found.long in let c = a.counted in omega arith);
         each_one = one;
@@ -302,7 +304,7 @@ module _ (u : List ℕ) (us n : ℕ) (s : List ℕ) (o : Sound u us) (x : Sorted
         leads = from_p;
         sound = leads_sound entry.names.leads o;
         skips = skips_to key here_sound from_p (λ q m f. let g = at_most q m in let y = entry.is in let z = key_is in omega arith);
-        names = λ _. record { leads = from_p; len = entry.names.len; look = entry.names.look ∙ ap (At entry.names.len) key_is };
+        names = λ _. record { leads = from_p; len = entry.names.len; look = entry.names.look ∙ ap (looked entry.names.len) key_is };
       }
 
       pub next_found : Next u key p (w - low)
@@ -327,7 +329,7 @@ late_found u us n s o x key low i is-low some b h w is-w l =
     at_one (record {
       leads = subst (Leads u us) p entry.names.leads;
       len = entry.names.len;
-      look = ap (look_at u) (sym p) ∙ entry.names.look ∙ ap (At entry.names.len) k;
+      look = ap (look_at u) (sym p) ∙ entry.names.look ∙ ap (looked entry.names.len) k;
     })
 
 -- ---- what is left of an index

@@ -7,14 +7,15 @@ use native.Mathlib.Omega.{arith}
 use borrow.Author.Tests.{ltb-true, ltb-false}
 use lib.ListN.{length, drop, length-append}
 use lib.Dec.{ltb}
+use Rattle.std.specs.Bool.{then_some}
+use Rattle.std.specs.Prelude.{is_some}
 use Rattle.base.specs.Lists.{each}
 use Rattle.skeleton.specs.File.{Field, records_from}
 use Rattle.keys.specs.Listed.{key_of, keys_from, listed, has_from}
-use Rattle.keys.specs.Look.{look_at, Sound}
-use Rattle.keys.specs.Places.{Leads, here, over, Names, site_of}
-use Rattle.keys.specs.declared.look.Look.TheVariants.{At}
+use Rattle.keys.specs.Look.{looked, look_at, Sound}
+use Rattle.keys.specs.Places.{Leads, here, over, Names, site_of, site_in}
 use Rattle.keys.proofs.ListLaws.{listed_none, listed_later, not_first, not_later}
-use Rattle.keys.proofs.PlaceLaws.{follows, leads_up, leads_then, site_here, site_over, site_end, site_says}
+use Rattle.keys.proofs.PlaceLaws.{follows, leads_up, leads_then, site_here, site_over, site_end, site_at, site_none, site_says}
 use Rattle.sorting.specs.Places.{Skips, Next}
 
 -- ---- a record's fields
@@ -41,7 +42,7 @@ pub record Front (u : List ℕ) (p len key : ℕ) : Type 0 where
   pub split : (records_from u p).items ≡ fields ∷ (records_from u (p + len)).items
   pub key_of_lem : key_of fields ≡ key
 
-pub front_of : (u : List ℕ) (p len key : ℕ) → Sound u p → look_at u p ≡ At len key → Front u p len key
+pub front_of : (u : List ℕ) (p len key : ℕ) → Sound u p → look_at u p ≡ looked len key → Front u p len key
 unfolding keys_from
 front_of u p len key s e =
     let f = (follows u p len key s e).found in
@@ -61,7 +62,7 @@ pub skips_none : (u : List ℕ) (key p : ℕ) → Skips u key p p
 unfolding each
 skips_none u key p = record { skipped = []; split = refl; none = listed_none key }
 
-pub skips_over : (u : List ℕ) (key p len k r : ℕ) → Sound u p → look_at u p ≡ At len k → (k ≡ key → ⊥) → Skips u key (p + len) r → Skips u key p r
+pub skips_over : (u : List ℕ) (key p len k r : ℕ) → Sound u p → look_at u p ≡ looked len k → (k ≡ key → ⊥) → Skips u key (p + len) r → Skips u key p r
 unfolding each keys_from
 skips_over u key p len k r s e n t =
     let f = (follows u p len k s e).found in
@@ -79,7 +80,7 @@ skips_to {u} {p} {r} key s (over {len} {key = k} e l) f =
     let up = leads_up l g.sound in
     let long = g.found.long in
     skips_over u key p len k r s e
-    (λ z. f p (record { leads = here; len = len; look = e ∙ ap (At len) z }) (omega arith))
+    (λ z. f p (record { leads = here; len = len; look = e ∙ ap (looked len) z }) (omega arith))
     (skips_to key g.sound l (λ q n. f q (record { leads = over e n.leads; len = n.len; look = n.look })))
 
 -- ---- for who goes from one record that names a key to the next
@@ -93,7 +94,7 @@ next_up s n = leads_up n.leads s
 -- ---- the first that names a key is its place
 
 -- a record before it is not the key's, and those behind it are skipped
-skips_on : (u : List ℕ) (key p len k r : ℕ) → Sound u p → look_at u p ≡ At len k → Leads u (p + len) r → Skips u key p r → (k ≡ key → ⊥) × Skips u key (p + len) r
+skips_on : (u : List ℕ) (key p len k r : ℕ) → Sound u p → look_at u p ≡ looked len k → Leads u (p + len) r → Skips u key p r → (k ≡ key → ⊥) × Skips u key (p + len) r
 unfolding each
 skips_on u key p len k r s e l t = go t.skipped t.split t.none
   where
@@ -127,5 +128,23 @@ next_site u key p r s n = sym (site_past key s n.leads n.skips ∙ go (ltb r (le
     go true x = let m = n.names (ltb-true r (length u) x) in site_here u r m.len key n.sound m.look key refl
     go false x = let h = ltb-false r (length u) x in let i = n.sound.inside in site_end u r key h ∙ omega arith
 
+-- or there is none, where it is the end
+pub next_site_in : (u : List ℕ) (key p r : ℕ) → Sound u p → Next u key p r → then_some (ltb r (length u)) r ≡ site_in u p key
+next_site_in u key p r s n = go (ltb r (length u)) refl
+  where
+    at_lem : r ≡ site_of u p key
+    at_lem = next_site u key p r s n
+
+    go : (b : Bool) → ltb r (length u) ≡ b → then_some (ltb r (length u)) r ≡ site_in u p key
+    go true x = ap (λ (b : Bool). then_some b r) x ∙ site_at u p key r at_lem (ltb-true r (length u) x)
+    go false x =
+        let h = ltb-false r (length u) x in
+        let i = n.sound.inside in
+        ap (λ (b : Bool). then_some b r) x ∙ site_none u p key (let z : length u ≡ r = omega arith in z ∙ at_lem)
+
 pub next_says : (u : List ℕ) (key p r : ℕ) → Sound u p → Next u key p r → ltb r (length u) ≡ has_from u p key
-next_says u key p r s n = ap (λ (i : ℕ). ltb i (length u)) (next_site u key p r s n) ∙ site_says u p key s
+next_says u key p r s n = some_lem (ltb r (length u)) ∙ site_says u p key s (then_some (ltb r (length u)) r) (next_site_in u key p r s n)
+  where
+    some_lem : (b : Bool) → b ≡ is_some (then_some b r)
+    some_lem true = refl
+    some_lem false = refl

@@ -1,7 +1,7 @@
 // Whether and where a key stands in a file, by an index of its records where there is one.
 ghost use Rattle.std.specs.Prelude.{◌≡◌};
 ghost use Rattle.keys.specs.Listed.{keys_from, has_from, EachOnce};
-ghost use Rattle.keys.specs.Places.{site_of};
+ghost use Rattle.keys.specs.Places.{site_in};
 ghost use Rattle.keys.specs.Table.{Laid};
 ghost use Rattle.sorting.specs.Places.{Indexed};
 
@@ -10,7 +10,7 @@ use keys::present::has;
 use keys::sites::site;
 use keys::slots::slot;
 
-// Where the record from start on that has the key begins, in a file whose keys stand once; the file's length where none has it.
+// Where the record from start on that has the key begins, in a file whose keys stand once.
 pub fn site_by(
     f: &[u8],
     start: usize,
@@ -19,14 +19,15 @@ pub fn site_by(
     map: &[u8],
     index: &[u8],
     key: u64,
-) -> usize
+) -> Option<usize>
     requires { Laid f.now start t.now n map.now × Indexed f.now start index.now × EachOnce (keys_from f.now start) }
-    ensures { result ≡ site_of f.now start key }
+    ensures { result ≡ site_in f.now start key }
 {
-    if index.len() == 0 {
+    if index.is_empty() {
         return site(f, start, t, n, map, key);
     }
-    next(f, start, index, start, key)
+    let p = next(f, start, index, start, key);
+    (p < f.len()).then_some(p)
 }
 
 // Whether the key is among those of the records from start on. The map is the quickest, where it has a place for the key.
@@ -42,10 +43,7 @@ pub fn has_by(
     requires { Laid f.now start t.now n map.now × Indexed f.now start index.now }
     ensures { result ≡ has_from f.now start key }
 {
-    if index.len() == 0 {
-        return has(f, start, t, n, map, key);
-    }
-    if slot(key) < 262144 {
+    if index.is_empty() || slot(key).is_some() {
         return has(f, start, t, n, map, key);
     }
     next(f, start, index, start, key) < f.len()

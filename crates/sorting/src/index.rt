@@ -7,7 +7,7 @@ ghost use Rattle.sorting.specs.Places.{Next, Late, weight_of, Filled, Sorted, In
 use crate::heap::sort;
 use crate::numbers::{number_at, put_number};
 use crate::order::{ascending, first_from};
-use keys::look::{Look, look_at};
+use keys::look::look_at;
 
 // The number of the record at p, which names the key.
 fn weight(key: u64, p: usize) -> usize
@@ -24,16 +24,9 @@ fn count(u: &[u8], us: usize) -> usize
 {
     let mut q = us;
     let mut n = 0;
-    while q < u.len() {
-        match look_at(u, q) {
-            Look::At { len, key: _ } => {
-                q += len;
-                n += 1;
-            }
-            Look::Nothing => {
-                return n;
-            }
-        }
+    while let Some(look) = look_at(u, q) {
+        q += look.len;
+        n += 1;
     }
     n
 }
@@ -49,23 +42,13 @@ fn fill(u: &[u8], us: usize, s: &mut [u8]) -> bool
     put_number(s, 0, 0);
     let mut q = us;
     let mut n = 1;
-    while q < u.len() {
-        match look_at(u, q) {
-            Look::At { len, key } => {
-                if s.len() < 8 * n + 8 {
-                    return false;
-                }
-                if 549755813888 <= key {
-                    return false;
-                }
-                put_number(s, n, weight(key, q));
-                q += len;
-                n += 1;
-            }
-            Look::Nothing => {
-                return false;
-            }
+    while let Some(look) = look_at(u, q) {
+        if s.len() < 8 * n + 8 || 549755813888 <= look.key {
+            return false;
         }
+        put_number(s, n, weight(look.key, q));
+        q += look.len;
+        n += 1;
     }
     8 * n == s.len()
 }
@@ -86,7 +69,8 @@ fn build(u: &[u8], us: usize, s: &mut [u8]) -> bool
     ascending(s, n)
 }
 
-// Makes an index at the end of out; where it begins, which is out's end where there is no room for it.
+// Makes an index at the end of out; where it begins, which is out's end where there is no room for it: an
+// index of nothing.
 pub fn lay(u: &[u8], us: usize, out: &mut [u8]) -> usize
     requires { Sound u.now us }
     ensures { (result ≤ length out.new) × Indexed u.now us (drop result out.new) }
@@ -108,18 +92,11 @@ fn next_plain(u: &[u8], p: usize, key: u64) -> usize
     ensures { Next u.now key p result }
 {
     let mut q = p;
-    while q < u.len() {
-        match look_at(u, q) {
-            Look::At { len, key: k } => {
-                if k == key {
-                    return q;
-                }
-                q += len;
-            }
-            Look::Nothing => {
-                return u.len();
-            }
+    while let Some(look) = look_at(u, q) {
+        if look.key == key {
+            return q;
         }
+        q += look.len;
     }
     q
 }
@@ -130,13 +107,7 @@ pub fn next(u: &[u8], us: usize, index: &[u8], p: usize, key: u64) -> usize
     ensures { Next u.now key p result }
 {
     let n = index.len() / 8;
-    if n == 0 {
-        return next_plain(u, p, key);
-    }
-    if key == 0 {
-        return next_plain(u, p, key);
-    }
-    if 549755813888 <= key {
+    if n == 0 || key == 0 || 549755813888 <= key {
         return next_plain(u, p, key);
     }
     let low = weight(key, 0);
@@ -160,13 +131,7 @@ pub fn late(u: &[u8], us: usize, index: &[u8], key: u64) -> usize
     ensures { Late u.now us key result }
 {
     let n = index.len() / 8;
-    if n == 0 {
-        return us;
-    }
-    if key == 0 {
-        return us;
-    }
-    if 549755813888 <= key {
+    if n == 0 || key == 0 || 549755813888 <= key {
         return us;
     }
     let low = weight(key, 0);

@@ -22,9 +22,7 @@ pub fn old_index(out: &[u8], lim: Limits) -> &[u8]
     requires { (lim.old ≤ lim.new) × (lim.new ≤ length out.now) }
     ensures { result.now ≡ between out.now lim.old lim.new }
 {
-    let from = lim.old;
-    let to = lim.new;
-    &out[from..to]
+    &out[lim.old..lim.new]
 }
 
 // The update's index.
@@ -32,8 +30,7 @@ pub fn new_index(out: &[u8], lim: Limits) -> &[u8]
     requires { lim.new ≤ length out.now }
     ensures { result.now ≡ drop lim.new out.now }
 {
-    let from = lim.new;
-    &out[from..]
+    &out[lim.new..]
 }
 
 // Makes an index in the bytes of out from `from` up to `to`; where it begins, which is `to` where there is no room for it.
@@ -50,15 +47,11 @@ pub fn lay_both(d: &[u8], ds: usize, ascend: bool, u: &[u8], us: usize, out: &mu
     ensures { Indices d.now ds u.now us result out.new }
 {
     let new = lay(u, us, out);
-    if ascend {
-        return Limits {
-            old: new,
-            new,
-            dry: false,
-            sure: false,
-        };
-    }
-    let old = lay_in(d, ds, out, 0, new);
+    let old = if ascend {
+        new
+    } else {
+        lay_in(d, ds, out, 0, new)
+    };
     Limits {
         old,
         new,
@@ -94,30 +87,21 @@ pub fn spare(lim: Limits, to: usize, all: usize) -> Limits
     ensures { ((d : List ℕ) (ds : ℕ) (u : List ℕ) (us : ℕ) (out : List ℕ) → Spared d ds u us lim to out → length out ≡ all → Indices d ds u us result out) × (result.sure ≡ lim.sure) }
 {
     let end = reached(lim, to);
-    let dry = lim.dry;
-    let sure = lim.sure;
     let old = past(lim.old, end);
     if old <= lim.new {
-        return Limits {
-            old,
-            new: lim.new,
-            dry,
-            sure,
-        };
+        return Limits { old, ..lim };
     }
     let new = past(lim.new, end);
     if new <= all {
         return Limits {
             old: new,
             new,
-            dry,
-            sure,
+            ..lim
         };
     }
     Limits {
         old: all,
         new: all,
-        dry,
-        sure,
+        ..lim
     }
 }

@@ -10,19 +10,18 @@ pub fn ascending(s: &[u8], n: usize) -> bool
     ensures { result ≡ rises n s.now }
 {
     let mut last = 0;
-    let mut i = 0;
-    while i < n {
+    for i in 0..n {
         let x = number_at(s, i);
         if x < last {
             return false;
         }
         last = x;
-        i += 1;
     }
     true
 }
 
-// The place of the first of the first n numbers that is not below w; n where all are.
+// The place of the first of the first n numbers that is not below w; n where all are: a place between them, as
+// `partition_point` answers.
 pub fn first_from(s: &[u8], n: usize, w: usize) -> usize
     requires { (8 * n ≤ length s.now) × Ascends n s.now }
     ensures { Parted n s.now w result }

@@ -6,6 +6,7 @@ use native.Mathlib.Omega.{arith}
 use borrow.Author.Tests.{ltb-true, ltb-false}
 use lib.ListN.{length}
 use lib.Dec.{eqb, ltb}
+use Rattle.std.specs.Prelude.{Option, Some, None, Result, Ok, Err}
 use Rattle.base.specs.Walk.{Got}
 use Rattle.base.specs.Lists.{Each}
 use Rattle.base.proofs.ChoiceLaws.{by_test}
@@ -16,10 +17,9 @@ use Rattle.skeleton.specs.Place.{between, place_at, fields_at}
 use Rattle.skeleton.specs.Record.{record_at}
 use Rattle.skeleton.specs.Writable.{AllTagged}
 use Rattle.skeleton.specs.declared.leader.Head.{Head}
-use Rattle.skeleton.specs.declared.leader.Head.TheVariants.{Good, Refused}
+use Rattle.skeleton.specs.declared.leader.Broken.{Broken}
 use Rattle.skeleton.specs.declared.directory.Shape.{Shape}
 use Rattle.skeleton.specs.declared.place.Place.{Place}
-use Rattle.skeleton.specs.declared.place.Place.TheVariants.{At, Done}
 use Rattle.skeleton.proofs.PlaceLaws.{held, fields_more, fields_done}
 use Rattle.skeleton.proofs.RecordLaws.{right}
 use Rattle.skeleton.proofs.FileLaws.{records_over, records_refused, records_more}
@@ -33,13 +33,13 @@ abbrev pub Bodies : List Field → Type 0
 Bodies fs = Each (λ f. Bytes f.body) fs
 
 -- the field at a place, and then those behind it
-fields_at_lem : (r : List ℕ) (h : Shape) → Bytes r → (p : ℕ) (e : Place) → e ≡ place_at r h p
+fields_at_lem : (r : List ℕ) (h : Shape) → Bytes r → (p : ℕ) (e : Option Place) → e ≡ place_at r h p
     → ((q : ℕ) → length r - q < length r - p → Bodies (fields_at r h q)) → Bodies (fields_at r h p)
 unfolding Each
-fields_at_lem r h bytes p (At tag start end next) en later =
-    let k = held r h p _ en tag start end next refl in
-    rw (fields_more r h p _ en tag start end next refl) (bytes_between r start end bytes, later next (omega arith))
-fields_at_lem r h bytes p Done en later = rw (fields_done r h p _ en refl) tt
+fields_at_lem r h bytes p (Some d) en later =
+    let k = held r h p _ en d refl in
+    rw (fields_more r h p _ en d refl) (bytes_between r d.start d.end bytes, later d.next (omega arith))
+fields_at_lem r h bytes p None en later = rw (fields_done r h p _ en refl) tt
 
 -- all fields of a record
 pub fields_bytes : (r : List ℕ) (h : Shape) → Bytes r → (p : ℕ) → Bodies (fields_at r h p)
@@ -47,14 +47,14 @@ fields_bytes r h bytes p =
     by_measure (λ q. length r - q) (λ q. Bodies (fields_at r h q)) (λ q later. fields_at_lem r h bytes q (place_at r h q) refl later) p
 
 -- the record at a place, and then those from its end on
-records_at : (f : List ℕ) → Bytes f → (at : ℕ) → at < length f → (h : Head) → h ≡ record_at f at
+records_at : (f : List ℕ) → Bytes f → (at : ℕ) → at < length f → (h : Result Head Broken) → h ≡ record_at f at
     → ((q : ℕ) → length f - q < length f - at → Each Bodies (records_from f q).items) → Each Bodies (records_from f at).items
 unfolding Each
-records_at f bytes at l (Good len base a b) e later =
-    let k = right f at _ e len base a b refl in
-    rw (records_more f at l _ e len base a b refl)
-    (fields_bytes (between f at (at + len)) (record { base = base; a = a; b = b }) (bytes_between f at (at + len) bytes) 24, later (at + len) (omega arith))
-records_at f bytes at l (Refused n) e later = rw (records_refused f at l _ e n refl) tt
+records_at f bytes at l (Ok d) e later =
+    let k = right f at _ e d refl in
+    rw (records_more f at l _ e d refl)
+    (fields_bytes (between f at (at + d.len)) d.shape (bytes_between f at (at + d.len) bytes) 24, later (at + d.len) (omega arith))
+records_at f bytes at l (Err x) e later = rw (records_refused f at l _ e x refl) tt
 
 -- all records from a place on
 pub records_bytes : (f : List ℕ) → Bytes f → (at : ℕ) → Each Bodies (records_from f at).items

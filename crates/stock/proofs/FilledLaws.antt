@@ -8,22 +8,22 @@ use native.Mathlib.Nat.{mul-le-mul_right, pow-suc, one-le-pow, pow-le-pow_right}
 use borrow.Author.Tests.{leb-true, eqb-true}
 use lib.Dec.{leb, eqb, ltb}
 use lib.ListN.{length, length-take, length-drop, drop, get_or}
+use Rattle.std.specs.Prelude.{Option, Some, None, Result, Ok, Err}
 use Rattle.base.specs.Choice.{pick, both}
 use Rattle.base.proofs.ChoiceLaws.{by_test, both_hold}
 use Rattle.base.proofs.WalkLaws.{by_measure}
 use Rattle.skeleton.specs.Digits.{is_digit, digits, digits_from, number_at, value_of, window}
-use Rattle.skeleton.specs.Leader.{within, stated_of}
+use Rattle.skeleton.specs.Leader.{good, shape, within, stated_of}
 use Rattle.skeleton.specs.Directory.{entry_at, lies, ended, fields_from}
 use Rattle.skeleton.specs.Emit.{sizes}
 use Rattle.skeleton.specs.Place.{between, place_at, fields_at}
 use Rattle.skeleton.specs.Record.{record_at, stated_at}
-use Rattle.skeleton.specs.declared.digits.Number.{Number}
-use Rattle.skeleton.specs.declared.digits.Number.TheVariants.{Value, NotDigits}
 use Rattle.skeleton.specs.declared.directory.Entry.{Entry}
 use Rattle.skeleton.specs.declared.directory.Entry.TheVariants.{Field as FieldAt, End, Bad}
 use Rattle.skeleton.specs.declared.directory.Shape.{Shape}
 use Rattle.skeleton.specs.declared.leader.Head.{Head}
-use Rattle.skeleton.specs.declared.leader.Head.TheVariants.{Good, Refused}
+use Rattle.skeleton.specs.declared.leader.Broken.{Broken}
+use Rattle.skeleton.specs.declared.leader.Broken.TheVariants.{Cut}
 use Rattle.skeleton.proofs.DirectoryLaws.{lies_in, dir_more, dir_not, dir_end_not, dir_bad}
 use Rattle.skeleton.proofs.PlaceLaws.{fields_more, fields_done, place_there, place_end, place_falls}
 use Rattle.skeleton.proofs.RecordLaws.{right}
@@ -53,24 +53,24 @@ five_digits s at =
     omega (arith, pow-le-pow_right {n = 10} (omega arith) b)
 
 -- a record has at most 99,999 bytes
-within_short : (s : List ℕ) (n m : Number) → value_of n < 100000 → (len base a b : ℕ) → within s n m ≡ Good len base a b → len ≤ 99999
-within_short s (Value x) (Value y) h len base a b e = go (ltb (length s) x) e
+within_short : (s : List ℕ) (n m : Option ℕ) → value_of n < 100000 → (d : Head) → within s n m ≡ Ok d → d.len ≤ 99999
+within_short s (Some x) (Some y) h d e = go (ltb (length s) x) e
   where
-    go : (t : Bool) → pick t (Refused 1) (Good x y (get_or s 20 0 - 48) (get_or s 21 0 - 48)) ≡ Good len base a b → len ≤ 99999
+    go : (t : Bool) → pick t (Err Cut) (good x (shape y (get_or s 20 0 - 48) (get_or s 21 0 - 48))) ≡ Ok d → d.len ≤ 99999
     go true z = absurd (let w : ◌≡◌ {A = ℕ} 0 1 = cc in omega arith)
-    go false z = let w : x ≡ len = cc in omega arith
-within_short s (Value x) NotDigits h len base a b e = absurd (let w : ◌≡◌ {A = ℕ} 0 1 = cc in omega arith)
-within_short s NotDigits m h len base a b e = absurd (let w : ◌≡◌ {A = ℕ} 0 1 = cc in omega arith)
+    go false z = let w : x ≡ d.len = cc in omega arith
+within_short s (Some x) None h d e = absurd (let w : ◌≡◌ {A = ℕ} 0 1 = cc in omega arith)
+within_short s None m h d e = absurd (let w : ◌≡◌ {A = ℕ} 0 1 = cc in omega arith)
 
-pub record_short : (f : List ℕ) (at : ℕ) (q : Head) → q ≡ record_at f at → (len base a b : ℕ) → q ≡ Good len base a b → len ≤ 99999
+pub record_short : (f : List ℕ) (at : ℕ) (q : Result Head Broken) → q ≡ record_at f at → (d : Head) → q ≡ Ok d → d.len ≤ 99999
 unfolding stated_at stated_of
-record_short f at q e len base a b x =
-    let r = right f at q e len base a b x in
+record_short f at q e d x =
+    let r = right f at q e d x in
     go (ltb (length f - at) 24) r.again
   where
-    go : (t : Bool) → pick t (Refused 1) (within (drop at f) (number_at (drop at f) 0 5) (number_at (drop at f) 12 5)) ≡ Good len base a b → len ≤ 99999
+    go : (t : Bool) → pick t (Err Cut) (within (drop at f) (number_at (drop at f) 0 5) (number_at (drop at f) 12 5)) ≡ Ok d → d.len ≤ 99999
     go true z = absurd (let w : ◌≡◌ {A = ℕ} 0 1 = cc in omega arith)
-    go false z = within_short (drop at f) (number_at (drop at f) 0 5) (number_at (drop at f) 12 5) (five_digits (drop at f) 0) len base a b z
+    go false z = within_short (drop at f) (number_at (drop at f) 0 5) (number_at (drop at f) 12 5) (five_digits (drop at f) 0) d z
 
 -- ---- its fields
 
@@ -91,8 +91,8 @@ module _ (r : List ℕ) (h : Shape) where
           let l = lies_in r h.base s.1 pos len (sym y) in
           let more = dir_more r h.base h.a h.b s.0 s.1 0 z _ en tag pos len next refl true y refl in
           let there = place_there r h s.0 _ en tag pos len next refl l.not_empty l.inside in
-          let falls = place_falls r h s.0 _ there tag (h.base + pos) (h.base + pos + len - 1) next refl in
-          let fields = fields_more r h s.0 _ there tag (h.base + pos) (h.base + pos + len - 1) next refl in
+          let falls = place_falls r h s.0 _ there (record { tag = tag; start = h.base + pos; end = h.base + pos + len - 1; next = next }) refl in
+          let fields = fields_more r h s.0 _ there (record { tag = tag; start = h.base + pos; end = h.base + pos + len - 1; next = next }) refl in
           let later = ih (next, s.1 + len) falls more in
           let body : length (between r (h.base + pos) (h.base + pos + len - 1)) ≡ len - 1 = body_long r (h.base + pos) len l.inside in
           rw fields (rw body (omega arith))
@@ -112,9 +112,9 @@ module _ (r : List ℕ) (h : Shape) where
   fills : (s : ℕ × ℕ) → Fills s
   fills s = by_measure (λ (s : ℕ × ℕ). length r - s.0) Fills (λ s ih. fills_by s ih (entry_at r h.a h.b s.0) refl) s
 
-pub record_filled : (f : List ℕ) (at : ℕ) (q : Head) → q ≡ record_at f at → (len base a b : ℕ) → q ≡ Good len base a b
-    → base + sizes (fields_at (between f at (at + len)) (record { base = base; a = a; b = b }) 24) ≡ length (between f at (at + len))
-record_filled f at q e len base a b x =
-    let r = right f at q e len base a b x in
-    let y = fills (between f at (at + len)) (record { base = base; a = a; b = b }) (24, 0) r.walked in
+pub record_filled : (f : List ℕ) (at : ℕ) (q : Result Head Broken) → q ≡ record_at f at → (d : Head) → q ≡ Ok d
+    → d.shape.base + sizes (fields_at (between f at (at + d.len)) d.shape 24) ≡ length (between f at (at + d.len))
+record_filled f at q e d x =
+    let r = right f at q e d x in
+    let y = fills (between f at (at + d.len)) d.shape (24, 0) r.walked in
     omega arith

@@ -8,6 +8,7 @@ use native.Mathlib.Omega.{arith}
 use borrow.Author.Tests.{le-ltb}
 use lib.Dec.{ltb}
 use lib.ListN.{length}
+use Rattle.std.specs.Prelude.{Result, Ok, Err}
 use Rattle.base.specs.Choice.{pick}
 use Rattle.base.specs.Check.{ok, no, bind, fault}
 use Rattle.base.specs.Lists.{each, Each}
@@ -15,12 +16,13 @@ use Rattle.base.specs.Keys.{among}
 use Rattle.base.specs.Walk.{Got}
 use Rattle.base.proofs.CheckLaws.{refused as not_passed, bind_inv, ok_inj}
 use Rattle.skeleton.specs.File.{Field, records_from}
+use Rattle.skeleton.specs.Leader.{number_of}
 use Rattle.skeleton.specs.Place.{between, fields_at}
 use Rattle.skeleton.specs.Record.{record_at}
 use Rattle.skeleton.specs.declared.leader.Head.{Head}
-use Rattle.skeleton.specs.declared.leader.Head.TheVariants.{Good, Refused}
+use Rattle.skeleton.specs.declared.leader.Broken.{Broken}
 use Rattle.skeleton.proofs.FileLaws.{records_more, records_refused, records_over}
-use Rattle.skeleton.proofs.RecordLaws.{refusal_some}
+use Rattle.skeleton.proofs.LeaderLaws.{number_some}
 use Rattle.rules.specs.Kind.{rank, kind_of}
 use Rattle.rules.specs.ByTag.{first_tag}
 use Rattle.rules.specs.Grammar.{on_kind, fields_stand, number4}
@@ -92,22 +94,22 @@ module _ (f : List ℕ) (p : ℕ) (s : Stock f p) where
   unfolding stock_from each
   stock_over h = ap (λ (g : Got (List Field)). each rec_in g.items) (records_over f p h)
 
-  module _ (h : p < length f) (q : Head) (e : q ≡ record_at f p) where
+  module _ (h : p < length f) (q : Result Head Broken) (e : q ≡ record_at f p) where
     -- no record is refused
-    pub stock_good : (n : ℕ) → q ≡ Refused n → ⊥
-    stock_good n x =
-        let a : (records_from f p).ending ≡ n = ap (λ (g : Got (List Field)). g.ending) (records_refused f p h q e n x) in
-        let b = refusal_some f p q e n x in
-        let z : n ≡ 0 = sym a ∙ s.ended in
+    pub stock_good : (y : Broken) → q ≡ Err y → ⊥
+    stock_good y x =
+        let a : (records_from f p).ending ≡ number_of y = ap (λ (g : Got (List Field)). g.ending) (records_refused f p h q e y x) in
+        let b = number_some y in
+        let z : number_of y ≡ 0 = sym a ∙ s.ended in
         omega arith
 
-    module _ (len base a b : ℕ) (x : q ≡ Good len base a b) where
+    module _ (d : Head) (x : q ≡ Ok d) where
       -- the record at p
       abbrev fields : List Field
-      fields = fields_at (between f p (p + len)) (record { base = base; a = a; b = b }) 24
+      fields = fields_at (between f p (p + d.len)) d.shape 24
 
-      more_items : (records_from f p).items ≡ fields ∷ (records_from f (p + len)).items
-      more_items = ap (λ (g : Got (List Field)). g.items) (records_more f p h q e len base a b x)
+      more_items : (records_from f p).items ≡ fields ∷ (records_from f (p + d.len)).items
+      more_items = ap (λ (g : Got (List Field)). g.items) (records_more f p h q e d x)
 
       -- is one as in a dataset
       pub stock_here : AnyStored fields
@@ -115,10 +117,10 @@ module _ (f : List ℕ) (p : ℕ) (s : Stock f p) where
       stock_here = (rw more_items at s.right).0
 
       -- and those behind it are the others
-      pub stock_more : Stock f (p + len)
+      pub stock_more : Stock f (p + d.len)
       unfolding Each
-      stock_more = record { ended = sym (ap (λ (g : Got (List Field)). g.ending) (records_more f p h q e len base a b x)) ∙ s.ended; right = (rw more_items at s.right).1 }
+      stock_more = record { ended = sym (ap (λ (g : Got (List Field)). g.ending) (records_more f p h q e d x)) ∙ s.ended; right = (rw more_items at s.right).1 }
 
-      pub stock_next : stock_from f p ≡ rec_in fields ∷ stock_from f (p + len)
+      pub stock_next : stock_from f p ≡ rec_in fields ∷ stock_from f (p + d.len)
       unfolding stock_from each
       stock_next = ap (each rec_in) more_items

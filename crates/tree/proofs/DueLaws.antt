@@ -3,10 +3,10 @@ use mathlib.Core.Path.{◌≡◌, refl, sym, ap, ◌∙◌}
 use mathlib.Core.List.{List}
 use mathlib.Core.Bool.{Bool, true, false, not}
 use mathlib.Core.Logic.{◌⊎◌, inl, inr, ⊎_elim}
-use Prim.Native.Nat.{ℕ, ◌+◌, ◌-◌, ◌≤◌, ◌<◌}
+use Prim.Native.Nat.{ℕ, zero, suc, ◌+◌, ◌-◌, ◌≤◌, ◌<◌}
 use native.Mathlib.Omega.{arith}
 use borrow.Author.Tests.{eq-eqb, eqb-true, eqb-false, le-leb}
-use lib.ListN.{length, get_or, set, get_or-eq_default}
+use lib.ListN.{length, get_or, set, replicate}
 use lib.Seq.{get_or-set_same, get_or-set_other}
 use lib.Dec.{eqb, leb}
 use Rattle.forest.proofs.Numbers.{lt_or_le}
@@ -66,10 +66,16 @@ hit_ways f at c p = go (eqb (two f at) c) refl (eqb (two f (at + 4)) p) refl
     go true x false y = inr (hit_parent f at c p (eqb-false (two f (at + 4)) p y))
     go false x t y = inr (hit_code f at c p (eqb-false (two f at) c x))
 
+-- zeros alone
+zero_each : (n i : ℕ) → ◌≡◌ {A = ℕ} (get_or (replicate n 0) i 0) 0
+zero_each zero i = refl
+zero_each (suc n) zero = refl
+zero_each (suc n) (suc i) = zero_each n i
+
 -- none before the first tuple
-pub tallied_none : (f b t : List ℕ) → ((j : ℕ) → get_or t j 0 ≡ 0) → Tallied f b t 0
+pub tallied_none : (f b t : List ℕ) (n : ℕ) → t ≡ replicate n 0 → Tallied f b t 0
 unfolding Tallied
-tallied_none f b t z c p l w = z (page_of b (keyed c p)) ∙ sym (count_none f 0 0 c p (omega arith))
+tallied_none f b t n e c p l w = rw e (zero_each n (page_of b (keyed c p))) ∙ sym (count_none f 0 0 c p (omega arith))
 
 module _ (f b t : List ℕ) (at : ℕ) (reached : Reach f 0 at) (ts : Tallied f b t at) (key : ℕ) (ek : key ≡ keyed (two f at) (two f (at + 4)))
     (small : two f at < 65536) (j : ℕ) (ej : j ≡ page_of b key) where
@@ -118,20 +124,6 @@ module _ (f b t : List ℕ) (at : ℕ) (reached : Reach f 0 at) (ts : Tallied f 
     join_counted asked h index x y i ex ey e =
         let s : index ≡ get_or t j 0 + 1 = omega arith in
         record { tallied = counted h index s; due = λ z. omega (arith, now, i, s) }
-
--- ---- no tuple counted
-
--- one tally more
-pub clear_more : (t : List ℕ) (i : ℕ) → i < length t → ((j : ℕ) → j < i → get_or t j 0 ≡ 0) → (j : ℕ) → j < i + 1 → get_or (set t i 0) j 0 ≡ 0
-clear_more t i h z j l =
-    ⊎_elim
-    (λ (m : j < i). let other : (j ≡ i → ⊥) = λ e. omega arith in rw (get_or-set_other t i j 0 0 other) (z j m))
-    (λ (m : i ≤ j). let s : j ≡ i = omega arith in rw (s, get_or-set_same t i 0 0 h) refl)
-    (lt_or_le j i)
-
--- all of them
-pub clear_end : (t : List ℕ) (i : ℕ) → length t ≤ i → ((j : ℕ) → j < i → get_or t j 0 ≡ 0) → (j : ℕ) → get_or t j 0 ≡ 0
-clear_end t i h z j = ⊎_elim (λ (m : j < i). z j m) (λ (m : i ≤ j). get_or-eq_default t 0 (omega arith)) (lt_or_le j i)
 
 -- ---- a walk over the tuples
 

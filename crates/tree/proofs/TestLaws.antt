@@ -2,21 +2,11 @@
 use mathlib.Core.Path.{◌≡◌, refl, sym, ◌∙◌}
 use mathlib.Core.List.{List}
 use mathlib.Core.Bool.{Bool, true, false, not, true≢false}
-use Prim.Native.Nat.{ℕ, ◌+◌, ◌≤◌, ◌<◌}
+use Prim.Native.Nat.{ℕ, ◌+◌}
 use lib.ListN.{get_or}
-use lib.Dec.{ltb, eqb}
-use borrow.Author.Tests.{lt-ltb, le-ltb}
-use Rattle.base.specs.Choice.{pick, either}
+use lib.Dec.{eqb}
 use Rattle.tree.specs.Source.{closed}
 use Rattle.tree.specs.Due.{due_for}
-
--- the first of two where a number is less than another
-pub pick_less : (a b x y : ℕ) → a < b → x ≡ pick (ltb a b) x y
-pick_less a b x y h = rw (lt-ltb a b h)
-
--- the second where it is not
-pub pick_not_less : (a b x y : ℕ) → b ≤ a → y ≡ pick (ltb a b) x y
-pick_not_less a b x y h = rw (le-ltb a b h)
 
 -- a value, where the whole rule is asked for
 pub closed_whole : (b : List ℕ) (whole : Bool) (at : ℕ) → whole ≡ true → not (eqb (get_or b (at + 7) 0) 31) ≡ closed b whole at
@@ -27,10 +17,6 @@ closed_whole b whole at e = rw e
 pub closed_parents : (b : List ℕ) (whole : Bool) (at : ℕ) → whole ≡ false → eqb (get_or b (at + 6) 0) 2 ≡ closed b whole at
 unfolding closed
 closed_parents b whole at e = rw e
-
--- the index, where it is asked for
-pub breaks_index : (shut whole : Bool) (n m due : ℕ) → n ≡ m → shut ≡ false → whole ≡ true → not (eqb n due) ≡ either shut (not (either (not whole) (eqb m due)))
-breaks_index shut whole n m due x e f = rw (e, f, x)
 
 -- a test that is not negated
 pub asked : (w : Bool) → not w ≡ false → w ≡ true

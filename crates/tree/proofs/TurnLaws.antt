@@ -9,8 +9,7 @@ use lib.Dec.{ltb, eqb}
 use Rattle.base.specs.Choice.{pick, either}
 use Rattle.base.specs.Check.{Check}
 use Rattle.forest.specs.Reader.{faulty}
-use Rattle.tree.specs.declared.walk.Walk.{Walk}
-use Rattle.tree.specs.declared.walk.Walk.TheVariants.{Bad, Upto}
+use Rattle.std.specs.Prelude.{Result, Ok, Err}
 use Rattle.tree.specs.Source.{two, past, count, numbered, closed, Spot, spot, tuples_in, said_by, run_at, entry_at}
 use Rattle.tree.specs.Due.{due_for}
 use Rattle.tree.specs.Known.{Reach, there, Fresh, Known, Seen}
@@ -32,7 +31,7 @@ module _ (b : List ℕ) (whole : Bool) (at k due : ℕ) (shut r : Bool) (told : 
       go false e f d = rw e (sym f)
 
   -- a tuple that breaks the rule
-  pub entry_breaks : r ≡ true → said_by (Bad k) ≡ entry_at b whole at k shut
+  pub entry_breaks : r ≡ true → said_by (Err k) ≡ entry_at b whole at k shut
   entry_breaks e = sym (entry_bad b whole at k shut (test_faulty ∙ e))
 
   -- its children
@@ -67,20 +66,20 @@ module _ {b : List ℕ} {whole : Bool} {at p k : ℕ} {shut : Bool} {a q top man
   pub turn_asks : Known b (two b (a + 4)) a q × (a < length b) × (whole ≡ true → due ≡ count b 0 a (two b a) (two b (a + 4)) + 1)
   turn_asks = (rw own go.known, inside, λ x. rw own (dued x))
 
-  module _ (w : Walk) (went : said_by w ≡ entry_at b whole a q shut) where
+  module _ (w : Result (ℕ × ℕ) ℕ) (went : said_by w ≡ entry_at b whole a q shut) where
     -- a tuple that breaks the rule
-    pub turn_bad : (j : ℕ) → w ≡ Bad j → said_by (Bad j) ≡ run_at b whole at p k shut
+    pub turn_bad : (j : ℕ) → w ≡ Err j → said_by (Err j) ≡ run_at b whole at p k shut
     turn_bad j e = sym (run_bad b whole a p q shut inside own j (sym went ∙ ap said_by e)) ∙ go.same
 
     -- the run goes forward
-    pub turn_less : (x y : ℕ) → w ≡ Upto x y → length b - x < length b - a
+    pub turn_less : (x y : ℕ) → w ≡ Ok (x, y) → length b - x < length b - a
     turn_less x y e = omega (arith, entry_on b whole a p q shut inside own x y (sym went ∙ ap said_by e))
 
     -- the same is known behind the entry
-    pub turn_again : (x y top' many' : ℕ) → w ≡ Upto x y → many' ≡ pick (ltb code top) many due → top' ≡ pick (ltb top code) code top
+    pub turn_again : (x y top' many' : ℕ) → w ≡ Ok (x, y) → many' ≡ pick (ltb code top) many due → top' ≡ pick (ltb top code) code top
         → Going b whole at p k shut x y top' many'
     turn_again x y top' many' e f g =
-        let step : entry_at b whole a q shut ≡ said_by (Upto x y) = sym went ∙ ap said_by e in
+        let step : entry_at b whole a q shut ≡ said_by (Ok (x, y)) = sym went ∙ ap said_by e in
         record {
           same = run_go b whole a p q shut inside own x y step ∙ go.same;
           known = entry_known b whole a p q shut inside own x y step go.known;

@@ -12,8 +12,7 @@ use Rattle.base.specs.Check.{Check, ok, no, bind, fault, refuse}
 use Rattle.base.specs.declared.Fault.{Fault}
 use Rattle.forest.specs.Reader.{Read, belongs, faulty, entry_then, read_run}
 use Rattle.forest.proofs.ReaderLaws.{read_keeps, run_past, run_faulty, run_entry}
-use Rattle.tree.specs.declared.walk.Walk.{Walk}
-use Rattle.tree.specs.declared.walk.Walk.TheVariants.{Bad, Upto}
+use Rattle.std.specs.Prelude.{Result, Ok, Err}
 use Rattle.tree.specs.Source.{two, past, hit, count, closed, Spot, spot, tuples_in, said_by, run_at, entry_at, remains}
 use Rattle.tree.specs.Known.{Reach, Known}
 use Rattle.tree.proofs.CountLaws.{past_above, reach_next, count_next}
@@ -25,12 +24,12 @@ no_ok e = absurd (let z : ◌≡◌ {A = ℕ} 0 1 = cc in omega arith)
 
 -- ---- what an answer says: no two say the same
 
-pub walk_once : (a b : Walk) → said_by a ≡ said_by b → a ≡ b
+pub walk_once : (a b : Result (ℕ × ℕ) ℕ) → said_by a ≡ said_by b → a ≡ b
 unfolding said_by remains
-walk_once (Bad j) (Bad k) e = ap Bad (ap (remains 0) e)
-walk_once (Bad j) (Upto x y) e = no_ok e
-walk_once (Upto x y) (Bad k) e = no_ok (sym e)
-walk_once (Upto x y) (Upto v w) e = let s : spot x y ≡ spot v w = cc in ap (λ (t : Spot). Upto t.offset t.place) s
+walk_once (Err j) (Err k) e = ap (λ (n : ℕ). Err n) (ap (remains 0) e)
+walk_once (Err j) (Ok v) e = no_ok e
+walk_once (Ok v) (Err k) e = no_ok (sym e)
+walk_once (Ok v) (Ok w) e = let s : spot v.0 v.1 ≡ spot w.0 w.1 = cc in ap (λ (t : Spot). Ok (t.offset, t.place)) s
 
 -- ---- the run
 
@@ -39,12 +38,12 @@ abbrev ended : Check (Read Spot (Unit {0})) → Check Spot
 ended c = bind c (λ r. ok r.end)
 
 -- the end of the bytes
-pub run_end : (b : List ℕ) (whole : Bool) (at p k : ℕ) (shut : Bool) → length b ≤ at → run_at b whole at p k shut ≡ said_by (Upto at k)
+pub run_end : (b : List ℕ) (whole : Bool) (at p k : ℕ) (shut : Bool) → length b ≤ at → run_at b whole at p k shut ≡ said_by (Ok (at, k))
 unfolding said_by run_at bind
 run_end b whole at p k shut h = ap ended (run_past (tuples_in b whole) (tuples_fall b whole) p shut (spot at k) (rw (le-ltb at (length b) h)))
 
 -- a tuple of another parent
-pub run_other : (b : List ℕ) (whole : Bool) (at p k : ℕ) (shut : Bool) → (two b (at + 4) ≡ p → ⊥) → run_at b whole at p k shut ≡ said_by (Upto at k)
+pub run_other : (b : List ℕ) (whole : Bool) (at p k : ℕ) (shut : Bool) → (two b (at + 4) ≡ p → ⊥) → run_at b whole at p k shut ≡ said_by (Ok (at, k))
 unfolding said_by run_at bind
 run_other b whole at p k shut n = ap ended (run_past (tuples_in b whole) (tuples_fall b whole) p shut (spot at k) (rw (ne_eqb (two b (at + 4)) p n) (neither (ltb at (length b)))))
   where
@@ -106,7 +105,7 @@ entry_case b whole at k shut w e = go (faulty (tuples_in b whole) shut (spot at 
 
 module _ (b : List ℕ) (whole : Bool) (at p k : ℕ) (shut : Bool) (h : at < length b) (e : two b (at + 4) ≡ p) where
   -- a faulty tuple in the entry is one in the run
-  pub run_bad : (j : ℕ) → entry_at b whole at k shut ≡ said_by (Bad j) → run_at b whole at p k shut ≡ said_by (Bad j)
+  pub run_bad : (j : ℕ) → entry_at b whole at k shut ≡ said_by (Err j) → run_at b whole at p k shut ≡ said_by (Err j)
   unfolding said_by run_at bind
   run_bad j x = go (entry_case b whole at k shut (refuse 6 j) x)
     where
@@ -117,7 +116,7 @@ module _ (b : List ℕ) (whole : Bool) (at p k : ℕ) (shut : Bool) (h : at < le
           ∙ then_bad b whole (spot at k) _ (read_run (tuples_in b whole) p shut) (fault 6 0 j) (ended_no _ (fault 6 0 j) y)
 
   -- the run goes on behind the entry
-  pub run_go : (x y : ℕ) → entry_at b whole at k shut ≡ said_by (Upto x y) → run_at b whole x p y shut ≡ run_at b whole at p k shut
+  pub run_go : (x y : ℕ) → entry_at b whole at k shut ≡ said_by (Ok (x, y)) → run_at b whole x p y shut ≡ run_at b whole at p k shut
   unfolding said_by run_at
   run_go x y z = go (entry_case b whole at k shut (ok (spot x y)) z)
     where
@@ -130,7 +129,7 @@ module _ (b : List ℕ) (whole : Bool) (at p k : ℕ) (shut : Bool) (h : at < le
           ∙ ap (λ (s : Spot). ended (read_run (tuples_in b whole) p shut s)) to)
 
   -- what is known behind the entry
-  pub entry_known : (x y : ℕ) → entry_at b whole at k shut ≡ said_by (Upto x y) → Known b p at k → Known b p x y
+  pub entry_known : (x y : ℕ) → entry_at b whole at k shut ≡ said_by (Ok (x, y)) → Known b p at k → Known b p x y
   unfolding said_by run_at
   entry_known x y z i = go (entry_case b whole at k shut (ok (spot x y)) z)
     where
@@ -143,7 +142,7 @@ module _ (b : List ℕ) (whole : Bool) (at p k : ℕ) (shut : Bool) (h : at < le
           known_back b p k x y i.outer (rw (offset, place) at (known_run b whole k (past b at) (k + 1) (closed b whole at) r kids (known_into b p at k h e i)))
 
   -- the earlier entries of the run behind the entry: one more, if it has the code
-  pub entry_count : (x y : ℕ) → entry_at b whole at k shut ≡ said_by (Upto x y) → Known b p at k → (c : ℕ) → count b 0 x c p ≡ count b 0 at c p + hit b at c p
+  pub entry_count : (x y : ℕ) → entry_at b whole at k shut ≡ said_by (Ok (x, y)) → Known b p at k → (c : ℕ) → count b 0 x c p ≡ count b 0 at c p + hit b at c p
   unfolding said_by run_at
   entry_count x y z i c = go (entry_case b whole at k shut (ok (spot x y)) z)
     where
@@ -156,7 +155,7 @@ module _ (b : List ℕ) (whole : Bool) (at p k : ℕ) (shut : Bool) (h : at < le
           ∙ count_next b 0 at c p i.reached
 
   -- the entry leads forward
-  pub entry_reach : (x y : ℕ) → entry_at b whole at k shut ≡ said_by (Upto x y) → (i : ℕ) → Reach b i at → Reach b i x
+  pub entry_reach : (x y : ℕ) → entry_at b whole at k shut ≡ said_by (Ok (x, y)) → (i : ℕ) → Reach b i at → Reach b i x
   unfolding said_by run_at read_run
   entry_reach x y z i r = go (entry_case b whole at k shut (ok (spot x y)) z)
     where
@@ -168,7 +167,7 @@ module _ (b : List ℕ) (whole : Bool) (at p k : ℕ) (shut : Bool) (h : at < le
           rw offset at (read_keeps (tuples_in b whole) (λ j s. Reach b i s.offset) (λ j s t u v. reach_next b i s.offset v) (λ j s t u v m n. n) _ k (closed b whole at) (spot (past b at) (k + 1)) q kids (reach_next b i at r))
 
   -- by at least a tuple
-  pub entry_on : (x y : ℕ) → entry_at b whole at k shut ≡ said_by (Upto x y) → at + 8 ≤ x
+  pub entry_on : (x y : ℕ) → entry_at b whole at k shut ≡ said_by (Ok (x, y)) → at + 8 ≤ x
   unfolding said_by run_at read_run
   entry_on x y z = go (entry_case b whole at k shut (ok (spot x y)) z)
     where
@@ -183,7 +182,7 @@ module _ (b : List ℕ) (whole : Bool) (at p k : ℕ) (shut : Bool) (h : at < le
 -- ---- the entry
 
 -- a tuple that breaks the rule
-pub entry_bad : (b : List ℕ) (whole : Bool) (at k : ℕ) (shut : Bool) → faulty (tuples_in b whole) shut (spot at k) ≡ true → entry_at b whole at k shut ≡ said_by (Bad k)
+pub entry_bad : (b : List ℕ) (whole : Bool) (at k : ℕ) (shut : Bool) → faulty (tuples_in b whole) shut (spot at k) ≡ true → entry_at b whole at k shut ≡ said_by (Err k)
 unfolding said_by entry_at
 entry_bad b whole at k shut f = rw f
 
@@ -196,16 +195,16 @@ entry_run b whole at k shut f = rw f
 -- ---- the run at the top
 
 -- a tuple that breaks the rule
-pub remains_bad : (n k : ℕ) (w : Walk) (v : Check Spot) → w ≡ Bad k → said_by w ≡ v → k ≡ remains n v
+pub remains_bad : (n k : ℕ) (w : Result (ℕ × ℕ) ℕ) (v : Check Spot) → w ≡ Err k → said_by w ≡ v → k ≡ remains n v
 unfolding remains said_by
 remains_bad n k w v e f = ap (remains n) (ap said_by (sym e) ∙ f)
 
 -- a tuple is left
-pub remains_left : (n at k : ℕ) (w : Walk) (v : Check Spot) → w ≡ Upto at k → said_by w ≡ v → at < n → k ≡ remains n v
+pub remains_left : (n at k : ℕ) (w : Result (ℕ × ℕ) ℕ) (v : Check Spot) → w ≡ Ok (at, k) → said_by w ≡ v → at < n → k ≡ remains n v
 unfolding remains said_by
 remains_left n at k w v e f h = sym (rw (lt-ltb at n h)) ∙ ap (remains n) (ap said_by (sym e) ∙ f)
 
 -- none is
-pub remains_none : (n at k : ℕ) (w : Walk) (v : Check Spot) → w ≡ Upto at k → said_by w ≡ v → n ≤ at → 0 ≡ remains n v
+pub remains_none : (n at k : ℕ) (w : Result (ℕ × ℕ) ℕ) (v : Check Spot) → w ≡ Ok (at, k) → said_by w ≡ v → n ≤ at → 0 ≡ remains n v
 unfolding remains said_by
 remains_none n at k w v e f h = sym (rw (le-ltb at n h)) ∙ ap (remains n) (ap said_by (sym e) ∙ f)

@@ -1,11 +1,9 @@
 -- The tuples of an attribute field as a source of entries: what is seen of the tuple at an offset.
-use Rattle.std.specs.Prelude.{Bool, not, List, ℕ, zero, suc, ◌+◌, ◌-◌, length, get_or, drop, ltb, eqb}
+use Rattle.std.specs.Prelude.{Bool, not, List, ℕ, zero, suc, ◌+◌, ◌-◌, length, get_or, drop, ltb, eqb, Result, Ok, Err}
 use Rattle.base.specs.Choice.{pick, either}
 use Rattle.base.specs.Check.{Check, ok, no, bind, refuse}
 use Rattle.fields.specs.Bytes.{le, run}
 use Rattle.forest.specs.Reader.{Reader, faulty, read_run}
-use Rattle.tree.specs.declared.walk.Walk.{Walk}
-use Rattle.tree.specs.declared.walk.Walk.TheVariants.{Bad, Upto}
 
 -- the number of two bytes at an offset
 abbrev pub two : List ℕ → ℕ → ℕ
@@ -66,9 +64,9 @@ tuples_in b whole = record {
 }
 
 -- what the code answers, as a test: where the walk ended, or 6 at the faulty tuple
-unfoldable pub said_by : Walk → Check Spot
-said_by (Bad k) = refuse 6 k
-said_by (Upto at k) = ok (spot at k)
+unfoldable pub said_by : Result (ℕ × ℕ) ℕ → Check Spot
+said_by (Err k) = refuse 6 k
+said_by (Ok w) = ok (spot w.0 w.1)
 
 -- the run of parent p from offset at on, the first of place k, as the rules read it: where it ends; shut: that parent takes no child
 unfoldable pub run_at : List ℕ → Bool → ℕ → ℕ → ℕ → Bool → Check Spot

@@ -6,9 +6,9 @@ ghost use Rattle.tree.specs.Source.{two};
 ghost use Rattle.tree.specs.Known.{Whole, Reach};
 ghost use Rattle.tree.specs.Due.{AllDue, keyed, Tallied, Joins, Blocked};
 
-use crate::siblings::top_with;
 use crate::tuple::{behind, number};
-use book::book::{page, sort};
+use book::book::page;
+use book::order::sort;
 use fields::le16;
 
 // How many tuples a book took, and the offset behind them.
@@ -28,13 +28,6 @@ fn key_at(f: &[u8], at: usize) -> u64
     parent as u64 * 65536 + code as u64
 }
 
-// The same number as a usize.
-fn wide(x: u16) -> usize
-    ensures { (result ≡ x) × (result < 65536) }
-{
-    x as usize
-}
-
 // Counts the tuple, if the book has its code and parent; no where its index is not the next one, or where that is asked for and cannot be told.
 fn join(f: &[u8], at: usize, b: &[u64], t: &mut [u16], asked: bool) -> bool
     requires { (at + 8 ≤ length f.now) × (Reach f.now 0 at) × (0 < length b.now) × Tallied f.now b.now t.old at }
@@ -49,22 +42,11 @@ fn join(f: &[u8], at: usize, b: &[u64], t: &mut [u16], asked: bool) -> bool
         return false;
     }
     let index = le16(f, at + 2);
-    if wide(index) != wide(t[j]) + 1 {
+    if usize::from(index) != usize::from(t[j]) + 1 {
         return false;
     }
     t[j] = index;
     true
-}
-
-// No tuple is counted yet.
-fn clear(t: &mut [u16])
-    ensures { (j : ℕ) → get_or t.new j 0 ≡ 0 }
-{
-    let mut i = 0;
-    while i < t.len() {
-        t[i] = 0;
-        i += 1;
-    }
 }
 
 // Whether each tuple up to y has its due index, where those up to x have: all are held against the book.
@@ -72,7 +54,7 @@ fn held(f: &[u8], x: usize, y: usize, b: &[u64], t: &mut [u16]) -> bool
     requires { (Whole f.now 0) × (y ≤ length f.now) × (0 < length b.now) × AllDue f.now x }
     ensures { result ≡ true → AllDue f.now y }
 {
-    clear(t);
+    t.fill(0);
     let mut at = 0;
     while at < y {
         if !join(f, at, b, t, x <= at) {
@@ -99,22 +81,15 @@ fn gather(f: &[u8], x: usize, b: &mut [u64]) -> Block
 {
     let mut at = x;
     let mut k = 0;
-    loop {
+    // A `while`: tuples are as long as their values, and a full book ends it too.
+    while at < f.len() && k < b.len() {
         b[k] = key_at(f, at);
         at = behind(f, at);
         k += 1;
-        if f.len() <= at {
-            return Block {
-                count: k,
-                behind: at,
-            };
-        }
-        if b.len() <= k {
-            return Block {
-                count: k,
-                behind: at,
-            };
-        }
+    }
+    Block {
+        count: k,
+        behind: at,
     }
 }
 
@@ -161,7 +136,7 @@ fn many_fall(f: &[u8]) -> bool
         if 16 <= fallen {
             return true;
         }
-        top = top_with(top, code);
+        top = top.max(code);
         at = behind(f, at);
     }
     false
@@ -173,13 +148,7 @@ pub fn surely_due(f: &[u8], whole: bool) -> bool
     requires { Whole f.now 0 }
     ensures { result ≡ true → AllDue f.now (length f.now) }
 {
-    if !whole {
-        return false;
-    }
-    if f.len() < 1024 {
-        return false;
-    }
-    if !many_fall(f) {
+    if !whole || f.len() < 1024 || !many_fall(f) {
         return false;
     }
     all_due(f)

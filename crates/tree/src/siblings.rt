@@ -73,8 +73,8 @@ pub fn due_index(
     whole: bool,
     sure: bool,
 ) -> usize
-    requires whole { (Whole b.now start) × (Reach b.now 0 start) × (start ≤ at) × (at < length b.now) × (Fresh b.now start parent) × (whole ≡ true → Seen b.now parent at top many) }
-    requires whole_2 { (Whole b.now at) × (Reach b.now 0 at) × (two b.now (at + 4) ≡ parent) × (sure ≡ true → AllDue b.now (length b.now)) }
+    requires running { (Whole b.now start) × (Reach b.now 0 start) × (start ≤ at) × (at < length b.now) × (Fresh b.now start parent) × (whole ≡ true → Seen b.now parent at top many) }
+    requires standing { (Whole b.now at) × (Reach b.now 0 at) × (two b.now (at + 4) ≡ parent) × (sure ≡ true → AllDue b.now (length b.now)) }
     ensures { result ≡ due_for sure whole (count b.now 0 at (two b.now at) parent + 1) }
 {
     if sure {
@@ -84,22 +84,9 @@ pub fn due_index(
     counted_index(b, start, at, code, parent, top, many, whole)
 }
 
-// The larger code.
-pub fn top_with(top: usize, code: usize) -> usize
-    ensures { result ≡ pick (ltb top code) code top }
-{
-    if top < code {
-        return code;
-    }
-    top
-}
-
 // How many entries have the larger code, where the entry of the new code has this index.
 pub fn many_with(top: usize, many: usize, code: usize, index: usize) -> usize
     ensures { result ≡ pick (ltb code top) many index }
 {
-    if code < top {
-        return many;
-    }
-    index
+    if code < top { many } else { index }
 }

@@ -24,13 +24,7 @@ pub fn breaks(b: &[u8], at: usize, due: usize, shut: bool, whole: bool) -> bool
     requires { at + 4 ≤ length b.now }
     ensures { result ≡ either shut (not (either (not whole) (eqb (two b.now (at + 2)) due))) }
 {
-    if shut {
-        return true;
-    }
-    if !whole {
-        return false;
-    }
-    number(b, at + 2) != due
+    shut || whole && number(b, at + 2) != due
 }
 
 // It takes no child: it has a value, or, where only parents are asked for, it is a delete.
@@ -39,7 +33,8 @@ pub fn is_closed(b: &[u8], at: usize, whole: bool) -> bool
     ensures { result ≡ closed b.now whole at }
 {
     if whole {
-        return b[at + 7] != 31;
+        b[at + 7] != 31
+    } else {
+        b[at + 6] == 2
     }
-    b[at + 6] == 2
 }

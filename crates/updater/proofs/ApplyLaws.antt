@@ -5,7 +5,9 @@ use mathlib.Core.Bool.{true, false}
 use mathlib.Core.List.{List, ◌++◌}
 use native.Mathlib.Omega.{arith}
 use lib.ListN.{length}
+use Rattle.std.specs.Prelude.{Result, Ok, Err}
 use Rattle.base.specs.Check.{pass}
+use Rattle.base.specs.declared.Fault.{Fault}
 use Rattle.memory.specs.Wrote.{Wrote}
 use Rattle.skeleton.specs.Emit.{emit}
 use Rattle.rules.specs.General.{general_record, merged}
@@ -18,8 +20,6 @@ use Rattle.updater.specs.Pieces.{Cut, Lies, fields_in}
 use Rattle.updater.specs.Told.{general_by}
 use Rattle.updater.specs.Stages.{Fits, Begun, Acted, Built}
 use Rattle.updater.specs.declared.front.Piece.{Piece}
-use Rattle.updater.specs.declared.front.Follows.{Follows}
-use Rattle.updater.specs.declared.front.Follows.TheVariants.{Long, Refused}
 use Rattle.updater.proofs.StageLaws.{refusing, built_as, unlike, general_long}
 use Rattle.updater.proofs.PlacedLaws.{Placed, placed, old_passed, new_passed, first_short, third_short, told, told_short, begun}
 use Rattle.updater.proofs.ActLaws.{built_not, front_room, built_whole}
@@ -34,13 +34,13 @@ module _ (f u : List ℕ) (us : ℕ) (k : Fits f u us)
   pub general_lies : (Lies f old × Lies u new) × ((general_record InDataset (fields_in f old) ≡ pass) × (general_record InUpdate (fields_in u new) ≡ pass))
   general_lies = ((five.old_lies, five.new_lies), (old_passed f u us k first old third new five, new_passed f u us k first old third new five))
 
-  module _ (r : Follows) (er : r ≡ general_by (general (fields_in f old) (fields_in u new))) where
+  module _ (r : Result ℕ Fault) (er : r ≡ general_by (general (fields_in f old) (fields_in u new))) where
     -- 8 or 12
-    pub general_refused : (n : ℕ) → r ≡ Refused n → (room size : ℕ) → 400000 ≤ size → (o : List ℕ) (a : Answer) → a ≡ refusing n 2 2 → Built f u room size a o
-    general_refused n x room size big o a same =
-        built_as f u room size a (refusing n 2 2) o same (unlike f u us k r (told f u us k first old third new five r er) n x room size big o)
+    pub general_refused : (y : Fault) → r ≡ Err y → (room size : ℕ) → 400000 ≤ size → (o : List ℕ) (a : Answer) → a ≡ refusing y.number 2 2 → Built f u room size a o
+    general_refused y x room size big o a same =
+        built_as f u room size a (refusing y.number 2 2) o same (unlike f u us k r (told f u us k first old third new five r er) y x room size big o)
 
-    module _ (n : ℕ) (x : r ≡ Long n) where
+    module _ (n : ℕ) (x : r ≡ Ok n) where
       -- what the length of the first three stands on
       pub front_lies : (Lies f first × Lies f third × (n ≤ 99999)) × ((written_length (fields_in f first) ≤ 99999) × (written_length (fields_in f third) ≤ 99999))
       front_lies = (

@@ -4,7 +4,9 @@ use mathlib.Core.Path.{◌≡◌, refl, sym, ap, subst, ◌∙◌}
 use mathlib.Core.List.{List}
 use native.Mathlib.Omega.{arith}
 use lib.ListN.{length, replicate}
-use Rattle.base.specs.Check.{fault}
+use Rattle.std.specs.Prelude.{Result, Ok, Err}
+use Rattle.base.specs.Verdict.{refusal}
+use Rattle.base.specs.declared.Refusal.{Refusal}
 use Rattle.base.specs.Lists.{Each}
 use Rattle.rules.specs.Outcome.{Outcome, done, refused}
 use Rattle.rules.specs.declared.Answer.{Answer}
@@ -28,12 +30,9 @@ use Rattle.composing.specs.Tied.{TiedFrom}
 use Rattle.history.specs.Ready.{Ready}
 use Rattle.history.specs.Judged.{judged_by, AllJudged}
 use Rattle.history.specs.Flags.{Flags}
-use Rattle.history.specs.declared.judging.Judged.{Judged}
-use Rattle.history.specs.declared.judging.Judged.TheVariants.{Fine, Stopped}
 use Rattle.history.proofs.PlayingLaws.{rest_sound}
 use Rattle.result.specs.Composed.{said_by, composed_of, ComposedBy}
 use Rattle.result.specs.declared.Composed.{Composed}
-use Rattle.result.specs.declared.Composed.TheVariants.{Loose, Whole}
 use Rattle.result.proofs.ComposedLaws.{loose_said, whole_linked, whole_long, whole_counted}
 use Rattle.updater.specs.Stages.{sent_from, Begun, Acted, Built}
 use Rattle.updater.proofs.StageLaws.{refusing, built_as, little_work, long_dataset, long_update}
@@ -42,20 +41,17 @@ use Rattle.updater.proofs.ActLaws.{acted_as, verdict_file, behind_count, acted_w
 
 -- ---- the verdicts
 
-judged_fine : (c : Outcome (Unit {0})) → Fine ≡ judged_by c → c ≡ done tt
+judged_fine : (c : Outcome (Unit {0})) → Ok tt ≡ judged_by c → c ≡ done tt
 unfolding judged_by
 judged_fine (done tt) e = refl
 judged_fine (refused file n x) e = absurd (let y : ◌≡◌ {A = ℕ} 0 1 = cc in omega arith)
 
-judged_stopped : (c : Outcome (Unit {0})) (k n i j : ℕ) → Stopped k n i j ≡ judged_by c → (file : ℕ) × (c ≡ refused file n (fault k i j))
+judged_stopped : (c : Outcome (Unit {0})) (r : Refusal) → Err r ≡ judged_by c → (file : ℕ) × (c ≡ refused file r.rec r.fault)
 unfolding judged_by
-judged_stopped (done a) k n i j e = absurd (let y : ◌≡◌ {A = ℕ} 0 1 = cc in omega arith)
-judged_stopped (refused file m x) k n i j e =
-    let a : k ≡ x.number = cc in
-    let b : n ≡ m = cc in
-    let c : i ≡ x.field = cc in
-    let d : j ≡ x.tuple = cc in
-    (file, rw (a, b, c, d))
+judged_stopped (done a) r e = absurd (let y : ◌≡◌ {A = ℕ} 0 1 = cc in omega arith)
+judged_stopped (refused file m x) r e =
+    let a : r ≡ refusal m x = cc in
+    (file, ap (λ (y : Refusal). refused file y.rec y.fault) (sym a))
 
 module _ (f u : List ℕ) (ds us front : ℕ) (k : Begun f u ds us front) where
   -- what the verdicts stand on
@@ -98,59 +94,59 @@ module _ (f u : List ℕ) (ds us front : ℕ) (k : Begun f u ds us front) where
   pub begun_ordered : Ordered chart 1 (stock_from f ds)
   begun_ordered = subst (λ (l : List Rec). Ordered chart 1 l) k.opens.records (read_sorted f k.fits.dataset k.fits.is_read).ordered
 
-  module _ (w : List ℕ) (j : Judged) (a : AllJudged f ds u us w j) where
-    fine_verdicts : j ≡ Fine → verdicts (stock_from f ds) (sent_from u us) ≡ done tt
+  module _ (w : List ℕ) (j : Result (Unit {0}) Refusal) (a : AllJudged f ds u us w j) where
+    fine_verdicts : j ≡ Ok tt → verdicts (stock_from f ds) (sent_from u us) ≡ done tt
     fine_verdicts x = judged_fine (verdicts (stock_from f ds) (sent_from u us)) (sym x ∙ a.came)
 
     -- what `finish` stands on, in a workspace as long as it was before the verdicts
-    pub fine_finish : j ≡ Fine → (t : List ℕ) (n : ℕ) (map : List ℕ) → Laid f ds t n map → (before : List ℕ) → length w ≡ length before → 400000 ≤ length before
+    pub fine_finish : j ≡ Ok tt → (t : List ℕ) (n : ℕ) (map : List ℕ) → Laid f ds t n map → (before : List ℕ) → length w ≡ length before → 400000 ≤ length before
         → (lim : Limits) (out : List ℕ) → Indices f ds u us lim out
         → (Begun f u ds us front × Laid f ds t n map × (400000 ≤ length w)) × ((verdicts (stock_from f ds) (sent_from u us) ≡ done tt) × Flags (keys_from u us) (flag_area w) × Indices f ds u us lim out)
     fine_finish x t n map laid before same big lim out i =
         ((k, laid, subst (λ (l : ℕ). 400000 ≤ l) (sym same) big), (fine_verdicts x, a.flags x, i))
 
-    pub wrong_acted : (n m i t : ℕ) → j ≡ Stopped n m i t → (room size : ℕ) → 400000 ≤ size → (o : List ℕ) (b : Answer) → b ≡ refusing n 2 m → Acted f u ds us front room size b o
-    wrong_acted n m i t x room size big o b s =
-        let (file, e) = judged_stopped (verdicts (stock_from f ds) (sent_from u us)) n m i t (sym x ∙ a.came) in
-        let same : file ≡ 2 = verdict_file (stock_from f ds) (sent_from u us) file m (fault n i t) e in
-        acted_as f u ds us front room size b (refusing n 2 m) o s (acted_wrong f u ds us front k room size big m (fault n i t) (e ∙ ap (λ (z : ℕ). refused z m (fault n i t)) same) o)
+    pub wrong_acted : (r : Refusal) → j ≡ Err r → (room size : ℕ) → 400000 ≤ size → (o : List ℕ) (b : Answer) → b ≡ refusing r.fault.number 2 r.rec → Acted f u ds us front room size b o
+    wrong_acted r x room size big o b s =
+        let (file, e) = judged_stopped (verdicts (stock_from f ds) (sent_from u us)) r (sym x ∙ a.came) in
+        let same : file ≡ 2 = verdict_file (stock_from f ds) (sent_from u us) file r.rec r.fault e in
+        acted_as f u ds us front room size b (refusing r.fault.number 2 r.rec) o s (acted_wrong f u ds us front k room size big r.rec r.fault (e ∙ ap (λ (z : ℕ). refused z r.rec r.fault) same) o)
 
   -- ---- the result's records
 
-  module _ (size : ℕ) (big : 400000 ≤ size) (fine : verdicts (stock_from f ds) (sent_from u us) ≡ done tt) (o o' : List ℕ) (r : Composed)
+  module _ (size : ℕ) (big : 400000 ≤ size) (fine : verdicts (stock_from f ds) (sent_from u us) ≡ done tt) (o o' : List ℕ) (r : Result Composed ℕ)
       (c : ComposedBy (stock_from f ds) (sent_from u us) front o r o') where
-    pub loose_acted : (n : ℕ) → r ≡ Loose n → (a : Answer) → a ≡ refusing 11 3 n → Acted f u ds us front (length o) size a o'
+    pub loose_acted : (n : ℕ) → r ≡ Err n → (a : Answer) → a ≡ refusing 11 3 n → Acted f u ds us front (length o) size a o'
     loose_acted n x b s =
         let (y, z, e) = loose_said _ _ front n (ap said_by (sym x) ∙ c.said) in
         let a = acted_loose f u ds us front k (length o) size big fine n y e o' in
         acted_as f u ds us front (length o) size b (refusing 11 3 n) o' s (rw z at a)
 
-    module _ (len n : ℕ) (x : r ≡ Whole len n) where
-      whole : said_by (Whole len n) ≡ composed_of (stock_from f ds) (sent_from u us) front
+    module _ (made : Composed) (x : r ≡ Ok made) where
+      whole : said_by (Ok made) ≡ composed_of (stock_from f ds) (sent_from u us) front
       whole = ap said_by (sym x) ∙ c.said
 
-      pub long_acted : 16777216 < len → (a : Answer) → a ≡ refusing 14 3 0 → Acted f u ds us front (length o) size a o'
+      pub long_acted : 16777216 < made.length → (a : Answer) → a ≡ refusing 14 3 0 → Acted f u ds us front (length o) size a o'
       long_acted h b s =
-          let linked = whole_linked _ _ front len n whole in
-          let long = whole_long _ _ front len n whole in
-          acted_as f u ds us front (length o) size b (refusing 14 3 0) o' s (acted_long f u ds us front k (length o) size big fine linked len long h o')
+          let linked = whole_linked _ _ front made whole in
+          let long = whole_long _ _ front made whole in
+          acted_as f u ds us front (length o) size b (refusing 14 3 0) o' s (acted_long f u ds us front k (length o) size big fine linked made.length long h o')
 
-      pub short_acted : len ≤ 16777216 → length o < len → (a : Answer) → a ≡ refusing 13 3 0 → Acted f u ds us front (length o) size a o'
+      pub short_acted : made.length ≤ 16777216 → length o < made.length → (a : Answer) → a ≡ refusing 13 3 0 → Acted f u ds us front (length o) size a o'
       short_acted h g b s =
-          let linked = whole_linked _ _ front len n whole in
-          let long = whole_long _ _ front len n whole in
-          acted_as f u ds us front (length o) size b (refusing 13 3 0) o' s (acted_short f u ds us front k (length o) size big fine linked len long h g o')
+          let linked = whole_linked _ _ front made whole in
+          let long = whole_long _ _ front made whole in
+          acted_as f u ds us front (length o) size b (refusing 13 3 0) o' s (acted_short f u ds us front k (length o) size big fine linked made.length long h g o')
 
-      pub count_word : len ≤ 16777216 → 3 + n < 2 ^ 64
-      count_word h = omega (arith, behind_count f u ds us front k, whole_counted _ _ front len n whole, whole_long _ _ front len n whole)
+      pub count_word : made.length ≤ 16777216 → 3 + made.count < 2 ^ 64
+      count_word h = omega (arith, behind_count f u ds us front k, whole_counted _ _ front made whole, whole_long _ _ front made whole)
 
-      pub done_acted : len ≤ 16777216 → len ≤ length o
-          → Acted f u ds us front (length o) size (record { number = 0; file = 0; rec = 0; length = len; count = 3 + n }) o'
+      pub done_acted : made.length ≤ 16777216 → made.length ≤ length o
+          → Acted f u ds us front (length o) size (record { number = 0; file = 0; rec = 0; length = made.length; count = 3 + made.count }) o'
       done_acted h g =
-          let linked = whole_linked _ _ front len n whole in
-          let long = whole_long _ _ front len n whole in
-          let counted = whole_counted _ _ front len n whole in
-          acted_done f u ds us front k (length o) size big fine linked len long h o o' refl g n counted (c.stands len n x g)
+          let linked = whole_linked _ _ front made whole in
+          let long = whole_long _ _ front made whole in
+          let counted = whole_counted _ _ front made whole in
+          acted_done f u ds us front k (length o) size big fine linked made.length long h o o' refl g made.count counted (c.stands made x g)
 
 pub ruleset finish_ways = (begun_ready, begun_small, loose_acted, long_acted, short_acted, count_word, done_acted)
 

@@ -6,17 +6,19 @@ use mathlib.Core.List.{List, ◌++◌}
 use native.Mathlib.Omega.{arith}
 use borrow.Author.Tests.{lt-ltb, le-ltb}
 use lib.ListN.{length, length-take, length-drop}
+use Rattle.std.specs.Prelude.{Result, Ok, Err}
 use Rattle.base.specs.Choice.{pick}
 use Rattle.base.specs.Check.{no, bind, fault, pass}
 use Rattle.memory.specs.Wrote.{Wrote}
 use Rattle.memory.proofs.WroteLaws.{then, wrote_length}
 use Rattle.skeleton.specs.File.{Field}
 use Rattle.skeleton.specs.Emit.{emit}
+use Rattle.skeleton.specs.Leader.{good}
 use Rattle.skeleton.specs.Place.{between}
 use Rattle.skeleton.specs.Record.{record_at}
 use Rattle.skeleton.specs.Shape.{Bounded}
 use Rattle.skeleton.specs.declared.leader.Head.{Head}
-use Rattle.skeleton.specs.declared.leader.Head.TheVariants.{Good, Refused}
+use Rattle.skeleton.specs.declared.leader.Broken.{Broken}
 use Rattle.skeleton.proofs.RecordLaws.{record_word}
 use Rattle.rules.specs.General.{number8, merged}
 use Rattle.rules.specs.Written.{field_width, written_length, number12}
@@ -26,16 +28,15 @@ use Rattle.writing.proofs.HouseLaws.{house_carried}
 use Rattle.updater.specs.Pieces.{There, Cut, Lies}
 use Rattle.updater.specs.Told.{general_by}
 use Rattle.updater.specs.declared.front.Piece.{Piece}
-use Rattle.updater.specs.declared.front.Follows.TheVariants.{Long, Refused as Stopped}
 
 -- ---- a record found again
 
-module _ (f : List ℕ) (p : ℕ) (q : Head) (e : q ≡ record_at f p) where
-  pub cut_good : (len base a b : ℕ) → q ≡ Good len base a b → Cut f p (record { start = p; end = p + len; shape = record { base = base; a = a; b = b } })
-  cut_good len base a b x = record { long = len; there = sym e ∙ x; start = refl; behind = refl }
+module _ (f : List ℕ) (p : ℕ) (q : Result Head Broken) (e : q ≡ record_at f p) where
+  pub cut_good : (head : Head) → q ≡ Ok head → Cut f p (record { start = p; end = p + head.len; shape = head.shape })
+  cut_good head x = record { long = head.len; there = sym e ∙ x; start = refl; behind = refl }
 
-  pub cut_never : There f p → (n : ℕ) → q ≡ Refused n → (r : Piece) → Cut f p r
-  cut_never t n x r = absurd (let y : Refused n ≡ Good t.0 t.1.base t.1.a t.1.b = sym x ∙ e ∙ t.2 in let z : ◌≡◌ {A = ℕ} 0 1 = cc in omega arith)
+  pub cut_never : There f p → (n : Broken) → q ≡ Err n → (r : Piece) → Cut f p r
+  cut_never t n x r = absurd (let y : Err n ≡ good t.0 t.1 = sym x ∙ e ∙ t.2 in let z : ◌≡◌ {A = ℕ} 0 1 = cc in omega arith)
 
 pub ruleset found_ways = (cut_good, cut_never, record_word, arith)
 
@@ -59,11 +60,11 @@ pub ruleset lies = (lies_bounded, lies_runs, lies_in, lies_short, arith)
 -- ---- the general record: 8 and 12
 
 module _ (old new : List Field) (b : Bool) (e : number8 old new ≡ pick b pass (no (fault 8 1 0))) where
-  pub general_unlike : not b ≡ true → Stopped 8 ≡ general_by (general old new)
+  pub general_unlike : not b ≡ true → Err (fault 8 0 0) ≡ general_by (general old new)
   unfolding general_by general bind
   general_unlike x = go b e x
     where
-      go : (c : Bool) → number8 old new ≡ pick c pass (no (fault 8 1 0)) → not c ≡ true → Stopped 8 ≡ general_by (general old new)
+      go : (c : Bool) → number8 old new ≡ pick c pass (no (fault 8 1 0)) → not c ≡ true → Err (fault 8 0 0) ≡ general_by (general old new)
       go true y z = absurd (let w : ◌≡◌ {A = ℕ} 0 1 = cc in omega arith)
       go false y z = rw y
 
@@ -75,13 +76,13 @@ module _ (old new : List Field) (b : Bool) (e : number8 old new ≡ pick b pass 
         go true y z = y
         go false y z = absurd (let w : ◌≡◌ {A = ℕ} 0 1 = cc in omega arith)
 
-    pub general_too_long : 99999 < n → Stopped 12 ≡ general_by (general old new)
+    pub general_too_long : 99999 < n → Err (fault 12 0 0) ≡ general_by (general old new)
     unfolding general_by general bind number12
     general_too_long h = rw eight (rw (← en, lt-ltb 99999 n h))
 
-    pub general_stands : n ≤ 99999 → Long n ≡ general_by (general old new)
+    pub general_stands : n ≤ 99999 → Ok n ≡ general_by (general old new)
     unfolding general_by general bind number12
-    general_stands h = rw eight (rw (← en, le-ltb 99999 n h) (ap (λ (m : ℕ). Long m) en))
+    general_stands h = rw eight (rw (← en, le-ltb 99999 n h) (ap Ok en))
 
 pub ruleset general_ways = (general_unlike, general_too_long, general_stands)
 

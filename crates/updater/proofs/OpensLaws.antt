@@ -6,10 +6,11 @@ use native.Mathlib.Omega.{arith}
 use lib.ListN.{length, get_or, drop}
 use Rattle.base.specs.Walk.{Got, before}
 use Rattle.skeleton.specs.File.{Field, records_from, records_of}
+use Rattle.skeleton.specs.Leader.{good}
 use Rattle.skeleton.specs.Place.{between, fields_at}
 use Rattle.skeleton.specs.Record.{record_at}
 use Rattle.skeleton.specs.declared.directory.Shape.{Shape}
-use Rattle.skeleton.specs.declared.leader.Head.TheVariants.{Good}
+use Rattle.skeleton.specs.declared.leader.Head.{Head}
 use Rattle.skeleton.proofs.FileLaws.{records_all}
 use Rattle.skeleton.proofs.RecordLaws.{right}
 use Rattle.rules.specs.General.{general_record}
@@ -105,26 +106,25 @@ dataset_opens f d e =
 -- ---- pieces
 
 -- what the skeleton finds at a place is one record
-same_long : (l b a c l' b' a' c' : ℕ) → Good l b a c ≡ Good l' b' a' c' → l ≡ l'
-same_long l b a c l' b' a' c' e = cc
+same_head : (l l' : ℕ) (h h' : Shape) → good l h ≡ good l' h' → ◌≡◌ {A = Head} (record { len = l; shape = h }) (record { len = l'; shape = h' })
+same_head l l' h h' e = cc
 
-same_shape : (l l' : ℕ) (h h' : Shape) → Good l h.base h.a h.b ≡ Good l' h'.base h'.a h'.b → h ≡ h'
-same_shape l l' h h' e =
-    let x : h.base ≡ h'.base = cc in
-    let y : h.a ≡ h'.a = cc in
-    let z : h.b ≡ h'.b = cc in
-    λ i. record { base = x i; a = y i; b = z i }
+same_long : (l l' : ℕ) (h h' : Shape) → good l h ≡ good l' h' → l ≡ l'
+same_long l l' h h' e = ap (λ (d : Head). d.len) (same_head l l' h h' e)
+
+same_shape : (l l' : ℕ) (h h' : Shape) → good l h ≡ good l' h' → h ≡ h'
+same_shape l l' h h' e = ap (λ (d : Head). d.shape) (same_head l l' h h' e)
 
 module _ (f : List ℕ) (p e : ℕ) (fs : List Field) (run : Run f p e fs) where
   pub run_there : There f p
   run_there = (run.long, run.shape, run.there)
 
   pub run_in : p ≤ length f
-  run_in = let r = right f p (record_at f p) refl run.long _ _ _ run.there in omega (arith, r.inside)
+  run_in = let r = right f p (record_at f p) refl (record { len = run.long; shape = run.shape }) run.there in omega (arith, r.inside)
 
   module _ (r : Piece) (c : Cut f p r) where
     lengths_same : c.long ≡ run.long
-    lengths_same = same_long _ _ _ _ _ _ _ _ (sym c.there ∙ run.there)
+    lengths_same = same_long _ _ _ _ (sym c.there ∙ run.there)
 
     pub cut_end : r.end ≡ e
     cut_end = c.behind ∙ ap (λ (n : ℕ). p + n) lengths_same ∙ run.behind
@@ -136,7 +136,7 @@ module _ (f : List ℕ) (p e : ℕ) (fs : List Field) (run : Run f p e fs) where
 
     pub cut_lies : length f ≤ 16777216 → Lies f r
     cut_lies h =
-        let k = right f p (record_at f p) refl c.long r.shape.base r.shape.a r.shape.b c.there in
+        let k = right f p (record_at f p) refl (record { len = c.long; shape = r.shape }) c.there in
         record { short = h; bounded = k.bounded; runs = omega (arith, c.start, c.behind); inside = omega (arith, c.behind, k.inside) }
 
 -- ---- an update

@@ -4,7 +4,9 @@ use mathlib.Core.Path.{◌≡◌, sym, ap, ap₂, ◌∙◌, subst}
 use mathlib.Core.List.{List, [], ◌∷◌}
 use native.Mathlib.Omega.{arith}
 use lib.ListN.{length}
+use Rattle.std.specs.Prelude.{Result, Ok}
 use Rattle.base.specs.Check.{pass}
+use Rattle.base.specs.declared.Fault.{Fault}
 use Rattle.base.specs.Lists.{each, Each}
 use Rattle.skeleton.specs.File.{Field}
 use Rattle.rules.specs.General.{general_record}
@@ -25,8 +27,6 @@ use Rattle.updater.specs.Pieces.{There, Cut, Lies, fields_in, Run}
 use Rattle.updater.specs.Told.{general_by}
 use Rattle.updater.specs.Stages.{sent_general, Opens, Fits, Begun}
 use Rattle.updater.specs.declared.front.Piece.{Piece}
-use Rattle.updater.specs.declared.front.Follows.{Follows}
-use Rattle.updater.specs.declared.front.Follows.TheVariants.{Long}
 use Rattle.updater.proofs.OpensLaws.{dataset_opens, run_there, run_in, cut_end, cut_fields, cut_lies, update_first, update_second}
 use Rattle.updater.proofs.StageLaws.{general_long}
 
@@ -146,11 +146,11 @@ module _ (f u : List ℕ) (us : ℕ) (k : Fits f u us) where
     pub third_short : written_length (fields_in f third) ≤ 99999
     third_short = rw p.third_is (writable_parts k.dataset k.is_writable).1
 
-    module _ (r : Follows) (er : r ≡ general_by (general (fields_in f old) (fields_in u new))) where
+    module _ (r : Result ℕ Fault) (er : r ≡ general_by (general (fields_in f old) (fields_in u new))) where
       pub told : r ≡ general_by (general k.dataset.general (sent_general u))
       told = er ∙ ap₂ (λ (a b : List Field). general_by (general a b)) p.old_is p.new_is
 
-      module _ (n : ℕ) (x : r ≡ Long n) where
+      module _ (n : ℕ) (x : r ≡ Ok n) where
         pub told_short : n ≤ 99999
         told_short = (general_long k.dataset.general (sent_general u) n (sym x ∙ told)).2
 

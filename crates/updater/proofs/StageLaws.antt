@@ -5,8 +5,10 @@ use mathlib.Core.List.{List}
 use native.Mathlib.Omega.{arith}
 use borrow.Author.Tests.{lt-ltb, le-ltb}
 use lib.ListN.{length}
+use Rattle.std.specs.Prelude.{Result, Ok, Err}
 use Rattle.base.specs.Check.{Check, ok, no, fault}
 use Rattle.base.specs.declared.Fault.{Fault}
+use Rattle.base.specs.declared.Refusal.{Refusal}
 use Rattle.base.proofs.CheckLaws.{bind_inv, ok_inj}
 use Rattle.skeleton.specs.File.{Field, records_of}
 use Rattle.fields.specs.Valid.{Bytes}
@@ -25,18 +27,12 @@ use Rattle.updates.specs.Streamed.{streamed_to, streamed_outcome}
 use Rattle.updates.proofs.Streams.{streams}
 use Rattle.writer.specs.Forms.{forms_from}
 use Rattle.writer.specs.Measured.{said_by, measured_from}
-use Rattle.writer.specs.declared.Measured.{Measured}
-use Rattle.writer.specs.declared.Measured.TheVariants.{Total, TooLong}
 use Rattle.writer.proofs.FormsLaws.{read_forms}
 use Rattle.writer.proofs.MeasureLaws.{all_short, first_long}
 use Rattle.incoming.specs.Came.{came_by, behind_two}
-use Rattle.incoming.specs.declared.walk.Came.{Came}
-use Rattle.incoming.specs.declared.walk.Came.TheVariants.{Fit, Stopped}
 use Rattle.incoming.proofs.FittingLaws.{came_stopped, came_fit}
 use Rattle.updater.specs.Told.{general_by}
 use Rattle.updater.specs.Stages.{sent_general, Legible, Tested, Fits, Built}
-use Rattle.updater.specs.declared.front.Follows.{Follows}
-use Rattle.updater.specs.declared.front.Follows.TheVariants.{Long, Refused}
 
 -- an answer that refuses
 abbrev pub refusing : ℕ → ℕ → ℕ → Answer
@@ -106,32 +102,32 @@ module _ (f : List ℕ) (short : length f ≤ 16777216) (a : Answer) (ea : a ≡
       let r : Done (read_outcome f) = (zero_is_done.reads f).0 (sym (ap (λ (y : Answer). y.number) ea) ∙ z) in
       record { short = short; dataset = r.0; is_read = rw (le-ltb 16777216 (length f) short) at r.1 }
 
-module _ (f : List ℕ) (k : Legible f) (g : Bytes f) (m : Measured) (em : said_by m ≡ measured_from 1 0 (forms_from f 0 1)) where
+module _ (f : List ℕ) (k : Legible f) (g : Bytes f) (m : Result ℕ ℕ) (em : said_by m ≡ measured_from 1 0 (forms_from f 0 1)) where
   forms_are : said_by m ≡ measured_from 1 0 (written k.dataset)
   forms_are = em ∙ ap (measured_from 1 0) (read_forms f k.dataset g k.is_read)
 
-  pub unwritable : (n : ℕ) → m ≡ TooLong n → (u : List ℕ) (room size : ℕ) → 400000 ≤ size → length u ≤ 16777216 → (o : List ℕ) → Built f u room size (refusing 12 1 n) o
+  pub unwritable : (n : ℕ) → m ≡ Err n → (u : List ℕ) (room size : ℕ) → 400000 ≤ size → length u ≤ 16777216 → (o : List ℕ) → Built f u room size (refusing 12 1 n) o
   unfolding writable and_then
   unwritable n x u room size big new o =
       built_refused f u room size 1 n (fault 12 0 0)
       (reached f u room size big k.short new ∙ rw k.is_read (rw (first_long n (written k.dataset) (ap said_by (sym x) ∙ forms_are)))) o
 
   -- what it measures has passed all its tests
-  pub is_tested : (total : ℕ) → m ≡ Total total → Tested f
+  pub is_tested : (total : ℕ) → m ≡ Ok total → Tested f
   unfolding writable and_then
   is_tested total x =
       record { short = k.short; dataset = k.dataset; is_read = k.is_read; is_writable = rw (all_short total (written k.dataset) (ap said_by (sym x) ∙ forms_are)).0 }
 
 -- ---- the update's first pass
 
-module _ (f : List ℕ) (k : Tested f) (u : List ℕ) (new : length u ≤ 16777216) (c : Came) (ec : c ≡ came_by (behind_two u) (read_update u)) where
-  pub unsent : (n r i j : ℕ) → c ≡ Stopped n r i j → (room size : ℕ) → 400000 ≤ size → (o : List ℕ) → Built f u room size (refusing n 2 r) o
+module _ (f : List ℕ) (k : Tested f) (u : List ℕ) (new : length u ≤ 16777216) (c : Result ℕ Refusal) (ec : c ≡ came_by (behind_two u) (read_update u)) where
+  pub unsent : (r : Refusal) → c ≡ Err r → (room size : ℕ) → 400000 ≤ size → (o : List ℕ) → Built f u room size (refusing r.fault.number 2 r.rec) o
   unfolding and_then
-  unsent n r i j y room size big o =
-      built_refused f u room size 2 r (fault n i j)
-      (reached f u room size big k.short new ∙ rw k.is_read (rw k.is_writable (rw (came_stopped u n r i j (sym y ∙ ec))))) o
+  unsent r y room size big o =
+      built_refused f u room size 2 r.rec r.fault
+      (reached f u room size big k.short new ∙ rw k.is_read (rw k.is_writable (rw (came_stopped u r (sym y ∙ ec))))) o
 
-  pub is_sent_lem : (us : ℕ) → c ≡ Fit us → Fits f u us
+  pub is_sent_lem : (us : ℕ) → c ≡ Ok us → Fits f u us
   is_sent_lem us y =
       record {
         old_short = k.short;
@@ -151,15 +147,15 @@ module _ (f u : List ℕ) (us : ℕ) (k : Fits f u us) where
   fits_on room size big =
       reached f u room size big k.old_short k.new_short ∙ rw k.is_read (rw k.is_writable (rw k.fitting.read))
 
-  module _ (r : Follows) (er : r ≡ general_by (general k.dataset.general (sent_general u))) where
-    pub unlike : (n : ℕ) → r ≡ Refused n → (room size : ℕ) → 400000 ≤ size → (o : List ℕ) → Built f u room size (refusing n 2 2) o
+  module _ (r : Result ℕ Fault) (er : r ≡ general_by (general k.dataset.general (sent_general u))) where
+    pub unlike : (y : Fault) → r ≡ Err y → (room size : ℕ) → 400000 ≤ size → (o : List ℕ) → Built f u room size (refusing y.number 2 2) o
     unfolding general_by streamed_to and_then at
-    unlike n x room size big o = go (general k.dataset.general (sent_general u)) refl (sym x ∙ er)
+    unlike y x room size big o = go (general k.dataset.general (sent_general u)) refl (sym x ∙ er)
       where
-        go : (c : Check (List Field)) → general k.dataset.general (sent_general u) ≡ c → Refused n ≡ general_by c → Built f u room size (refusing n 2 2) o
-        go (ok fs) e y = absurd (let w : ◌≡◌ {A = ℕ} 0 1 = cc in omega arith)
-        go (no z) e y =
-            let same : n ≡ z.number = cc in
+        go : (c : Check (List Field)) → general k.dataset.general (sent_general u) ≡ c → Err y ≡ general_by c → Built f u room size (refusing y.number 2 2) o
+        go (ok fs) e h = absurd (let w : ◌≡◌ {A = ℕ} 0 1 = cc in omega arith)
+        go (no z) e h =
+            let same : y.number ≡ z.number = ap (λ (x : Fault). x.number) (let w : y ≡ fault z.number 0 0 = cc in w) in
             rw same (built_refused f u room size 2 2 z (fits_on room size big ∙ rw e) o)
 
 -- the result's general record, where it stands
@@ -170,12 +166,12 @@ general_inv old new g e =
     let (_, c, d) = bind_inv (number12 (merged old new)) _ g b in
     (sym (ok_inj (merged old new) g d), short_record (merged old new) c)
 
-pub general_long : (old new : List Field) (n : ℕ) → Long n ≡ general_by (general old new)
+pub general_long : (old new : List Field) (n : ℕ) → Ok n ≡ general_by (general old new)
     → (general old new ≡ ok (merged old new)) × (n ≡ written_length (merged old new)) × (n ≤ 99999)
 unfolding general_by
 general_long old new n x = go (general old new) refl x
   where
-    go : (c : Check (List Field)) → general old new ≡ c → Long n ≡ general_by c
+    go : (c : Check (List Field)) → general old new ≡ c → Ok n ≡ general_by c
         → (general old new ≡ ok (merged old new)) × (n ≡ written_length (merged old new)) × (n ≤ 99999)
     go (no z) e y = absurd (let w : ◌≡◌ {A = ℕ} 0 1 = cc in omega arith)
     go (ok g) e y =

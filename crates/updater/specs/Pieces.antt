@@ -1,21 +1,21 @@
 -- Records at the front of a file.
 use Rattle.std.specs.Prelude.{ℕ, ◌+◌, ◌≤◌, ◌≡◌, List, length}
 use Rattle.skeleton.specs.File.{Field}
+use Rattle.skeleton.specs.Leader.{good}
 use Rattle.skeleton.specs.Place.{between, fields_at}
 use Rattle.skeleton.specs.Record.{record_at}
 use Rattle.skeleton.specs.Shape.{Bounded}
 use Rattle.skeleton.specs.declared.directory.Shape.{Shape}
-use Rattle.skeleton.specs.declared.leader.Head.TheVariants.{Good}
 use Rattle.updater.specs.declared.front.Piece.{Piece}
 
 -- the skeleton finds a record at p
 abbrev pub There : List ℕ → ℕ → Type 0
-There f p = (len : ℕ) × (h : Shape) × (record_at f p ≡ Good len h.base h.a h.b)
+There f p = (len : ℕ) × (h : Shape) × (record_at f p ≡ good len h)
 
 -- r is that record
 pub record Cut (f : List ℕ) (p : ℕ) (r : Piece) : Type 0 where
   pub long : ℕ
-  pub there : record_at f p ≡ Good long r.shape.base r.shape.a r.shape.b
+  pub there : record_at f p ≡ good long r.shape
   pub start : r.start ≡ p
   pub behind : r.end ≡ p + long
 
@@ -34,6 +34,6 @@ fields_in f r = fields_at (between f r.start r.end) r.shape 24
 pub record Run (f : List ℕ) (p e : ℕ) (fs : List Field) : Type 0 where
   pub long : ℕ
   pub shape : Shape
-  pub there : record_at f p ≡ Good long shape.base shape.a shape.b
+  pub there : record_at f p ≡ good long shape
   pub behind : p + long ≡ e
   pub fields : fs ≡ fields_at (between f p (p + long)) shape 24

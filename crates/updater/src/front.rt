@@ -10,11 +10,11 @@ ghost use Rattle.rules.specs.declared.Mode.TheVariants.{InDataset, InUpdate};
 ghost use Rattle.updater.specs.Pieces.{There, Cut, Lies, fields_in};
 ghost use Rattle.updater.specs.Told.{general_by};
 
+use base::Fault;
 use following::merging::{merged_length, write_merged};
 use following::naming::follows;
 use skeleton::directory::Shape;
 use skeleton::file::record_at;
-use skeleton::leader::Head;
 use writing::measuring::written_length;
 use writing::writer::write_record;
 
@@ -26,25 +26,18 @@ pub struct Piece {
     pub shape: Shape,
 }
 
-// How long the result's general record is; or the number of its refusal.
-#[derive(Clone, Copy)]
-pub enum Follows {
-    Long(usize),
-    Refused(u8),
-}
-
 // The record at p, which was found right before.
 pub fn found(f: &[u8], p: usize) -> Piece
     requires { (p ≤ length f.now) × There f.now p }
     ensures { Cut f.now p result }
 {
     match record_at(f, p) {
-        Head::Good { len, base, a, b } => Piece {
+        Ok(head) => Piece {
             start: p,
-            end: p + len,
-            shape: Shape { base, a, b },
+            end: p + head.len,
+            shape: head.shape,
         },
-        Head::Refused(_) => Piece {
+        Err(_) => Piece {
             start: p,
             end: p,
             shape: Shape {
@@ -56,10 +49,10 @@ pub fn found(f: &[u8], p: usize) -> Piece
     }
 }
 
-// The general record of the result, by the dataset's and the update's: numbers 8 and 12.
-pub fn general(f: &[u8], old: Piece, u: &[u8], new: Piece) -> Follows
+// How long the result's general record is, by the dataset's and the update's; or its refusal, number 8 or 12, with no field.
+pub fn general(f: &[u8], old: Piece, u: &[u8], new: Piece) -> Result<usize, Fault>
     requires lies { Lies f.now old × Lies u.now new }
-    requires value { (general_record InDataset (fields_in f.now old) ≡ pass) × (general_record InUpdate (fields_in u.now new) ≡ pass) }
+    requires passed { (general_record InDataset (fields_in f.now old) ≡ pass) × (general_record InUpdate (fields_in u.now new) ≡ pass) }
     ensures { result ≡ general_by (the_general (fields_in f.now old) (fields_in u.now new)) }
 {
     let i = old.start;
@@ -67,19 +60,27 @@ pub fn general(f: &[u8], old: Piece, u: &[u8], new: Piece) -> Follows
     let k = new.start;
     let l = new.end;
     if !follows(&f[i..j], old.shape, &u[k..l], new.shape) {
-        return Follows::Refused(8);
+        return Err(Fault {
+            number: 8,
+            field: 0,
+            tuple: 0,
+        });
     }
     let n = merged_length(&f[i..j], old.shape, &u[k..l], new.shape);
     if 99999 < n {
-        return Follows::Refused(12);
+        return Err(Fault {
+            number: 12,
+            field: 0,
+            tuple: 0,
+        });
     }
-    Follows::Long(n)
+    Ok(n)
 }
 
 // How long the first three records are, where the general one has n bytes.
 pub fn front_length(f: &[u8], first: Piece, n: usize, third: Piece) -> usize
     requires lies { Lies f.now first × Lies f.now third × (n ≤ 99999) }
-    requires first_bound { (written_length (fields_in f.now first) ≤ 99999) × (written_length (fields_in f.now third) ≤ 99999) }
+    requires short { (written_length (fields_in f.now first) ≤ 99999) × (written_length (fields_in f.now third) ≤ 99999) }
     ensures { result ≡ written_length (fields_in f.now first) + (n + written_length (fields_in f.now third)) }
 {
     let i = first.start;
@@ -104,8 +105,8 @@ fn put_carried(f: &[u8], r: Piece, first: bool, out: &mut [u8], at: usize) -> us
 // The general record of the result, from `at` on; the place behind it.
 fn put_general(f: &[u8], old: Piece, u: &[u8], new: Piece, out: &mut [u8], at: usize) -> usize
     requires lies { Lies f.now old × Lies u.now new }
-    requires value { (general_record InDataset (fields_in f.now old) ≡ pass) × (general_record InUpdate (fields_in u.now new) ≡ pass) }
-    requires in_bounds { at + written_length (merged (fields_in f.now old) (fields_in u.now new)) ≤ length out.old }
+    requires passed { (general_record InDataset (fields_in f.now old) ≡ pass) × (general_record InUpdate (fields_in u.now new) ≡ pass) }
+    requires room { at + written_length (merged (fields_in f.now old) (fields_in u.now new)) ≤ length out.old }
     ensures { (result ≡ at + written_length (merged (fields_in f.now old) (fields_in u.now new))) × Wrote at (emit field_width field_width false (merged (fields_in f.now old) (fields_in u.now new))) out.old result out.new }
 {
     let i = old.start;
@@ -126,8 +127,8 @@ pub fn put_front(
     out: &mut [u8],
 ) -> usize
     requires lies { Lies f.now first × Lies f.now old × Lies f.now third × Lies u.now new }
-    requires value { (general_record InDataset (fields_in f.now old) ≡ pass) × (general_record InUpdate (fields_in u.now new) ≡ pass) }
-    requires third_in_bounds { written_length (fields_in f.now first) + (written_length (merged (fields_in f.now old) (fields_in u.now new)) + written_length (fields_in f.now third)) ≤ length out.old }
+    requires passed { (general_record InDataset (fields_in f.now old) ≡ pass) × (general_record InUpdate (fields_in u.now new) ≡ pass) }
+    requires room { written_length (fields_in f.now first) + (written_length (merged (fields_in f.now old) (fields_in u.now new)) + written_length (fields_in f.now third)) ≤ length out.old }
     ensures { Wrote 0 (emit field_width field_width true (fields_in f.now first) ++ (emit field_width field_width false (merged (fields_in f.now old) (fields_in u.now new)) ++ emit field_width field_width false (fields_in f.now third))) out.old result out.new }
 {
     let p = put_carried(f, first, true, out, 0);

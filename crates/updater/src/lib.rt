@@ -15,30 +15,17 @@ ghost use Rattle.updater.specs.Stages.{sent_from, Legible, Tested, TestedIf, Fit
 ghost use Rattle.version.specs.Areas.{flag_area};
 ghost use Rattle.history.specs.Flags.{Flags};
 
-use front::{Follows, found, front_length, general, put_front};
-use history::judging::{Judged, judge};
-use incoming::walk::{Came, check_update};
+use front::{found, front_length, general, put_front};
+use history::judging::judge;
+use incoming::walk::check_update;
 use keys::order::ordered;
 use keys::table::spread;
 use memory::clearing::{zero, zero_from};
 use reader::read;
-use result::{Composed, compose};
+use result::compose;
 use rules::Answer;
 use sorting::limits::{Limits, lay_both};
-use writer::{Measured, measure};
-
-// A refusal: its number, file and record.
-fn refuse(number: u8, file: u8, rec: usize) -> Answer
-    ensures { result ≡ record { number = number; file = file; rec = rec; length = 0; count = 0 } }
-{
-    Answer {
-        number,
-        file,
-        rec,
-        length: 0,
-        count: 0,
-    }
-}
+use writer::measure;
 
 // Numbers 11, 14 and 13 of the result, whose records behind the third are written from `front` on.
 fn finish(
@@ -55,31 +42,25 @@ fn finish(
     lim: Limits,
 ) -> Answer
     requires begun { Begun f.now u.now ds us front × Laid f.now ds t.now n map.now × (400000 ≤ length work.old) }
-    requires us_value { (verdicts (stock_from f.now ds) (sent_from u.now us) ≡ done tt) × Flags (keys_from u.now us) (flag_area work.old) × Indices f.now ds u.now us lim out.old }
+    requires accepted { (verdicts (stock_from f.now ds) (sent_from u.now us) ≡ done tt) × Flags (keys_from u.now us) (flag_area work.old) × Indices f.now ds u.now us lim out.old }
     ensures { Acted f.now u.now ds us front (length out.old) (length work.old) result out.new }
 {
-    match compose(f, ds, t, n, map, u, us, work, out, front, lim) {
-        Composed::Loose(k) => refuse(11, 3, k),
-        Composed::Whole { length, count } => {
-            if 16777216 < length {
-                return refuse(14, 3, 0);
-            }
-            if out.len() < length {
-                return refuse(13, 3, 0);
-            }
-            let records = 3 + count;
-            Answer {
-                number: 0,
-                file: 0,
-                rec: 0,
-                length,
-                count: records,
-            }
-        }
+    let made = match compose(f, ds, t, n, map, u, us, work, out, front, lim) {
+        Ok(made) => made,
+        Err(rec) => return Answer::refused(11, 3, rec),
+    };
+    if 16777216 < made.length {
+        return Answer::refused(14, 3, 0);
     }
+    if out.len() < made.length {
+        return Answer::refused(13, 3, 0);
+    }
+    let count = 3 + made.count;
+    Answer::done(made.length, count)
 }
 
-// The verdicts on the update's records, and then the result's records behind the third. Until these reach it, the output's end holds indices to find records by.
+// The verdicts on the update's records, and then the result's records behind the third. Until these reach it, the output's end holds indices to find
+// records by.
 fn act(
     f: &[u8],
     ds: usize,
@@ -99,8 +80,8 @@ fn act(
     let ascend = ordered(&map);
     let lim = lay_both(f, ds, ascend, u, us, out);
     match judge(f, ds, &table, n, &map, u, us, out, lim, work) {
-        Judged::Fine => finish(f, ds, &table, n, &map, u, us, front, out, work, lim),
-        Judged::Stopped(k, m, _, _) => refuse(k, 2, m),
+        Ok(()) => finish(f, ds, &table, n, &map, u, us, front, out, work, lim),
+        Err(r) => Answer::refused(r.fault.number, 2, r.rec),
     }
 }
 
@@ -115,7 +96,7 @@ fn apply(f: &[u8], u: &[u8], us: usize, out: &mut [u8], work: &mut [u8]) -> Answ
     let sent = found(u, 0);
     let new = found(u, sent.end);
     match general(f, old, u, new) {
-        Follows::Long(n) => {
+        Ok(n) => {
             let front = front_length(f, first, n, third);
             let ds = third.end;
             let a = act(f, ds, u, us, front, out, work);
@@ -124,7 +105,7 @@ fn apply(f: &[u8], u: &[u8], us: usize, out: &mut [u8], work: &mut [u8]) -> Answ
             }
             a
         }
-        Follows::Refused(k) => refuse(k, 2, 2),
+        Err(fault) => Answer::refused(fault.number, 2, 2),
     }
 }
 
@@ -134,8 +115,8 @@ fn proceed(f: &[u8], u: &[u8], out: &mut [u8], work: &mut [u8]) -> Answer
     ensures { Built f.now u.now (length out.old) (length work.old) result out.new }
 {
     match check_update(u) {
-        Came::Fit(us) => apply(f, u, us, out, work),
-        Came::Stopped(k, n, _, _) => refuse(k, 2, n),
+        Ok(us) => apply(f, u, us, out, work),
+        Err(r) => Answer::refused(r.fault.number, 2, r.rec),
     }
 }
 
@@ -145,8 +126,8 @@ fn prepare(f: &[u8], u: &[u8], out: &mut [u8], work: &mut [u8]) -> Answer
     ensures { Built f.now u.now (length out.old) (length work.old) result out.new }
 {
     match measure(f) {
-        Measured::Total(_) => proceed(f, u, out, work),
-        Measured::TooLong(n) => refuse(12, 1, n),
+        Ok(_) => proceed(f, u, out, work),
+        Err(rec) => Answer::refused(12, 1, rec),
     }
 }
 
@@ -156,13 +137,13 @@ fn build(tested: bool, f: &[u8], u: &[u8], out: &mut [u8], work: &mut [u8]) -> A
     ensures { Built f.now u.now (length out.old) (length work.old) result out.new }
 {
     if work.len() < 400000 {
-        return refuse(15, 0, 0);
+        return Answer::refused(15, 0, 0);
     }
     if 16777216 < f.len() {
-        return refuse(14, 1, 0);
+        return Answer::refused(14, 1, 0);
     }
     if 16777216 < u.len() {
-        return refuse(14, 2, 0);
+        return Answer::refused(14, 2, 0);
     }
     if tested {
         return proceed(f, u, out, work);

@@ -1,24 +1,22 @@
 -- What stands under a key, in the workspace w over the dataset d and the update u.
-use Rattle.std.specs.Prelude.{◌≡◌, List, ℕ, drop}
+use Rattle.std.specs.Prelude.{◌≡◌, List, ℕ, drop, Option as StdOption, Some, None, Result, Ok, Err}
 use Rattle.std.proofs.Math.Option.{Option, some, none}
-use Rattle.base.specs.Check.{Check, ok, no, fault, pass}
+use Rattle.base.specs.Check.{Check, ok, no, pass}
+use Rattle.base.specs.declared.Fault.{Fault}
 use Rattle.rules.specs.Record.{Rec}
 use Rattle.rules.specs.Written.{written_fields, number12}
 use Rattle.version.specs.Held.{Held}
-use Rattle.version.specs.declared.Present.{Present}
-use Rattle.version.specs.declared.Present.TheVariants.{Absent, Here}
-use Rattle.version.specs.declared.Changed.{Changed}
-use Rattle.version.specs.declared.Changed.TheVariants.{Refused, Now}
+use Rattle.version.specs.declared.Version.{Version}
 
 -- nothing, or a record that is held and can be written
-unfoldable pub HeldAs : List ℕ → List ℕ → List ℕ → Present → Option Rec → Type 0
-HeldAs d u w Absent o = o ≡ none
-HeldAs d u w (Here v) o = (r : Rec) × (o ≡ some r) × Held d u w v r × (number12 (written_fields r) ≡ pass)
+unfoldable pub HeldAs : List ℕ → List ℕ → List ℕ → StdOption Version → Option Rec → Type 0
+HeldAs d u w None o = o ≡ none
+HeldAs d u w (Some v) o = (r : Rec) × (o ≡ some r) × Held d u w v r × (number12 (written_fields r) ≡ pass)
 
 -- what a test comes to, and what the code made of it
-unfoldable pub ChangedTo : List ℕ → List ℕ → List ℕ → Check (Option Rec) → Changed → Type 0
-ChangedTo d u w c (Refused n i j) = c ≡ no (fault n i j)
-ChangedTo d u w c (Now p) = (o : Option Rec) × (c ≡ ok o) × HeldAs d u w p o
+unfoldable pub ChangedTo : List ℕ → List ℕ → List ℕ → Check (Option Rec) → Result (StdOption Version) Fault → Type 0
+ChangedTo d u w c (Err x) = c ≡ no x
+ChangedTo d u w c (Ok p) = (o : Option Rec) × (c ≡ ok o) × HeldAs d u w p o
 
 -- what stands behind the areas of a version is as it was
 abbrev pub FlagsKept : List ℕ → List ℕ → Type 0

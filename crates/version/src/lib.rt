@@ -23,17 +23,3 @@ pub struct Version {
     pub attrbytes: usize,
     pub inasbytes: usize,
 }
-
-// What stands under a key: nothing, or a record that the workspace holds.
-#[derive(Clone, Copy)]
-pub enum Present {
-    Absent,
-    Here(Version),
-}
-
-// What an update record makes of it: the number, field and tuple of a refusal, or what stands there then.
-#[derive(Clone, Copy)]
-pub enum Changed {
-    Refused(u8, usize, usize),
-    Now(Present),
-}

@@ -4,9 +4,10 @@ use mathlib.Core.Path.{◌≡◌, refl, sym, ap, ◌∙◌, subst}
 use mathlib.Core.Bool.{true}
 use mathlib.Core.List.{List, [], ◌∷◌, ◌++◌}
 use native.Mathlib.Omega.{arith}
-use borrow.Author.Tests.{lt-ltb, ltb-false}
+use borrow.Author.Tests.{lt-ltb, ltb-true, ltb-false}
 use lib.ListN.{length}
 use lib.Dec.{eqb, ltb}
+use Rattle.std.specs.Prelude.{Result, Ok, Err}
 use Rattle.base.specs.Choice.{pick}
 use Rattle.base.specs.Check.{ok, no, bind, fault, Passed, pass}
 use Rattle.base.specs.Lists.{each, Each}
@@ -15,8 +16,9 @@ use Rattle.base.proofs.CheckLaws.{bind_inv, ok_inj}
 use Rattle.skeleton.specs.File.{Field, records_from, records_of}
 use Rattle.skeleton.specs.Place.{between, fields_at}
 use Rattle.skeleton.specs.Record.{record_at}
+use Rattle.skeleton.specs.declared.leader.Broken.{Broken}
 use Rattle.skeleton.specs.declared.leader.Head.{Head}
-use Rattle.skeleton.specs.declared.leader.Head.TheVariants.{Good, Refused}
+use Rattle.skeleton.proofs.RecordLaws.{right}
 use Rattle.skeleton.proofs.FileLaws.{records_over, records_refused, records_more, records_none, records_all}
 use Rattle.fields.specs.Valid.{Bytes}
 use Rattle.rules.specs.Tags.{CSID}
@@ -43,21 +45,27 @@ use Rattle.writer.specs.Forms.{forms_of, forms_from}
 
 module _ (f : List ℕ) (p n : ℕ) where
   -- at the end of the file there are none
-  pub forms_over : length f ≤ p → forms_from f p n ≡ []
+  forms_over : length f ≤ p → forms_from f p n ≡ []
   unfolding forms_of
   forms_over h = rw (records_over f p h)
 
-  module _ (l : p < length f) (h : Head) (eh : h ≡ record_at f p) where
+  module _ (h : Result Head Broken) (eh : h ≡ record_at f p) where
     -- nor where the skeleton refuses
-    pub forms_refused : (k : ℕ) → h ≡ Refused k → forms_from f p n ≡ []
+    pub forms_refused : (k : Broken) → h ≡ Err k → forms_from f p n ≡ []
     unfolding forms_of
-    forms_refused k x = rw (records_refused f p l h eh k x)
+    forms_refused k x =
+        by_bool (ltb p (length f))
+        (λ l. rw (records_refused f p (ltb-true p (length f) l) h eh k x))
+        (λ l. forms_over (ltb-false p (length f) l))
 
     -- the record at hand, and then those behind it
-    pub forms_more : (len base a b : ℕ) → h ≡ Good len base a b
-        → forms_from f p n ≡ in_house_form (ltb 3 n) (fields_at (between f p (p + len)) (record { base = base; a = a; b = b }) 24) ∷ forms_from f (p + len) (n + 1)
+    pub forms_more : (d : Head) → h ≡ Ok d
+        → forms_from f p n ≡ in_house_form (ltb 3 n) (fields_at (between f p (p + d.len)) d.shape 24) ∷ forms_from f (p + d.len) (n + 1)
     unfolding forms_of
-    forms_more len base a b x = rw (records_more f p l h eh len base a b x)
+    forms_more d x =
+        let r = right f p h eh d x in
+        let l : p < length f = omega (arith, r.long, r.inside) in
+        rw (records_more f p l h eh d x)
 
 -- ---- a dataset that is read
 

@@ -7,14 +7,15 @@ use native.Mathlib.Omega.{arith}
 use borrow.Author.Tests.{lt-ltb, le-ltb}
 use lib.ListN.{length, length-take, length-drop}
 use lib.Dec.{ltb}
+use Rattle.std.specs.Prelude.{Result, Ok, Err}
 use Rattle.base.specs.Choice.{pick}
 use Rattle.base.specs.Check.{fault}
 use Rattle.skeleton.specs.File.{Field}
 use Rattle.skeleton.specs.Emit.{length_of, emits}
 use Rattle.skeleton.specs.Place.{between, fields_at}
 use Rattle.skeleton.specs.Record.{record_at}
+use Rattle.skeleton.specs.declared.leader.Broken.{Broken}
 use Rattle.skeleton.specs.declared.leader.Head.{Head}
-use Rattle.skeleton.specs.declared.leader.Head.TheVariants.{Good, Refused}
 use Rattle.skeleton.proofs.RecordLaws.{right, record_in_lem, record_falls, record_word, record_bounded}
 use Rattle.skeleton.proofs.EmitFileLaws.{length_emits}
 use Rattle.rules.specs.Written.{field_width, written_length, number12}
@@ -24,8 +25,7 @@ use Rattle.sequence.proofs.Tests.{by_bool}
 use Rattle.writing.specs.House.{in_house_form}
 use Rattle.writer.specs.Forms.{forms_from, lengths}
 use Rattle.writer.specs.Measured.{said_by, measured_from}
-use Rattle.writer.specs.declared.Measured.TheVariants.{Total, TooLong}
-use Rattle.writer.proofs.FormsLaws.{forms_over, forms_refused, forms_more}
+use Rattle.writer.proofs.FormsLaws.{forms_refused, forms_more}
 
 -- ---- the loop
 
@@ -54,30 +54,27 @@ measured_more n total fs rest =
 
 module _ (f : List ℕ) (p n total : ℕ) (inv : MeasuresAt f p n total) where
   -- no record is left
-  none_left : forms_from f p n ≡ [] → said_by (Total total) ≡ measured_from 1 0 (forms_from f 0 1)
+  none_left : forms_from f p n ≡ [] → said_by (Ok total) ≡ measured_from 1 0 (forms_from f 0 1)
   unfolding said_by measured_from every_record lengths and_then
   none_left e = let z : total ≡ total + 0 = omega arith in ap (λ (m : ℕ). done m) z ∙ rw e at inv.same
 
-  pub measure_over : length f ≤ p → said_by (Total total) ≡ measured_from 1 0 (forms_from f 0 1)
-  measure_over h = none_left (forms_over f p n h)
+  module _ (h : Result Head Broken) (eh : h ≡ record_at f p) where
+    pub measure_refused : (k : Broken) → h ≡ Err k → said_by (Ok total) ≡ measured_from 1 0 (forms_from f 0 1)
+    measure_refused k x = none_left (forms_refused f p n h eh k x)
 
-  module _ (l : p < length f) (h : Head) (eh : h ≡ record_at f p) where
-    pub measure_refused : (k : ℕ) → h ≡ Refused k → said_by (Total total) ≡ measured_from 1 0 (forms_from f 0 1)
-    measure_refused k x = none_left (forms_refused f p n l h eh k x)
+    module _ (d : Head) (x : h ≡ Ok d) (size : ℕ)
+        (es : size ≡ written_length (in_house_form (ltb 3 n) (fields_at (between f p (p + d.len)) d.shape 24))) where
+      turn : pick (ltb 99999 size) (refused 1 n (fault 12 0 0)) (measured_from (n + 1) (total + size) (forms_from f (p + d.len) (n + 1))) ≡ measured_from 1 0 (forms_from f 0 1)
+      turn = rw es (sym (measured_more n total _ _) ∙ rw (forms_more f p n h eh d x) at inv.same)
 
-    module _ (len base a b : ℕ) (x : h ≡ Good len base a b) (size : ℕ)
-        (es : size ≡ written_length (in_house_form (ltb 3 n) (fields_at (between f p (p + len)) (record { base = base; a = a; b = b }) 24))) where
-      turn : pick (ltb 99999 size) (refused 1 n (fault 12 0 0)) (measured_from (n + 1) (total + size) (forms_from f (p + len) (n + 1))) ≡ measured_from 1 0 (forms_from f 0 1)
-      turn = rw es (sym (measured_more n total _ _) ∙ rw (forms_more f p n l h eh len base a b x) at inv.same)
-
-      pub measure_long : 99999 < size → said_by (TooLong n) ≡ measured_from 1 0 (forms_from f 0 1)
+      pub measure_long : 99999 < size → said_by (Err n) ≡ measured_from 1 0 (forms_from f 0 1)
       unfolding said_by
       measure_long g = rw (lt-ltb 99999 size g) at turn
 
       module _ (g : size ≤ 99999) where
-        pub measure_more : MeasuresAt f (p + len) (n + 1) (total + size)
+        pub measure_more : MeasuresAt f (p + d.len) (n + 1) (total + size)
         measure_more =
-            let k = right f p h eh len base a b x in
+            let k = right f p h eh d x in
             let s = inv.small in
             let c = inv.few in
             record { same = rw (le-ltb 99999 size g) at turn; inside = k.inside; few = omega (arith, k.long); small = omega (arith, k.long) }
@@ -91,7 +88,6 @@ module _ (f : List ℕ) (p n total : ℕ) (inv : MeasuresAt f p n total) where
 pub ruleset measure_turn = (
   part_small,
   measure_start,
-  measure_over,
   measure_refused,
   measure_long,
   measure_more,
@@ -107,7 +103,7 @@ pub ruleset measure_turn = (
 -- ---- what the answer says
 
 -- no record is above 99,999 bytes, and this is the length of all
-pub all_short : (size : ℕ) (fss : List (List Field)) → said_by (Total size) ≡ measured_from 1 0 fss → (every_record number12 1 1 fss ≡ done tt) × (size ≡ lengths fss)
+pub all_short : (size : ℕ) (fss : List (List Field)) → said_by (Ok size) ≡ measured_from 1 0 fss → (every_record number12 1 1 fss ≡ done tt) × (size ≡ lengths fss)
 unfolding said_by measured_from and_then
 all_short size fss e =
     let (t, a, b) = and_then_inv (every_record number12 1 1 fss) (λ _. done (0 + lengths fss)) size (sym e) in
@@ -115,7 +111,7 @@ all_short size fss e =
     (a, omega arith)
 
 -- the first that is
-pub first_long : (m : ℕ) (fss : List (List Field)) → said_by (TooLong m) ≡ measured_from 1 0 fss → every_record number12 1 1 fss ≡ refused 1 m (fault 12 0 0)
+pub first_long : (m : ℕ) (fss : List (List Field)) → said_by (Err m) ≡ measured_from 1 0 fss → every_record number12 1 1 fss ≡ refused 1 m (fault 12 0 0)
 unfolding said_by measured_from and_then
 first_long m fss e = go (every_record number12 1 1 fss) refl
   where

@@ -6,6 +6,7 @@ use mathlib.Core.List.{List, ◌++◌}
 use native.Mathlib.Omega.{arith}
 use borrow.Author.Tests.{lt-ltb, le-ltb}
 use lib.ListN.{length, take}
+use Rattle.std.specs.Prelude.{Result, Ok, Err}
 use Rattle.base.specs.Check.{fault}
 use Rattle.base.specs.declared.Fault.{Fault}
 use Rattle.memory.specs.Hold.{zeros, hold}
@@ -24,8 +25,6 @@ use Rattle.numbers.proofs.Answers.{zero_is_done}
 use Rattle.writer.specs.Forms.{forms_from, lengths}
 use Rattle.writer.specs.Measured.{said_by, measured_from}
 use Rattle.writer.specs.Ready.{Ready}
-use Rattle.writer.specs.declared.Measured.{Measured}
-use Rattle.writer.specs.declared.Measured.TheVariants.{Total, TooLong}
 use Rattle.writer.proofs.FormsLaws.{read_forms, read_inv}
 use Rattle.writer.proofs.MeasureLaws.{all_short, first_long, lengths_emits}
 
@@ -130,11 +129,11 @@ module _ (f : List ℕ) (a : Answer) (ea : a ≡ read f) where
     pub answer_small : length f ≤ 16777216
     answer_small = (read_inv f is_done.0 is_done.1).0
 
-    module _ (g : Bytes f) (m : Measured) (em : said_by m ≡ measured_from 1 0 (forms_from f 0 1)) where
+    module _ (g : Bytes f) (m : Result ℕ ℕ) (em : said_by m ≡ measured_from 1 0 (forms_from f 0 1)) where
       forms_are : forms_from f 0 1 ≡ written is_done.0
       forms_are = read_forms f is_done.0 g (read_inv f is_done.0 is_done.1).1
 
-      pub answer_ready : (size : ℕ) → m ≡ Total size → Ready f size a.count
+      pub answer_ready : (size : ℕ) → m ≡ Ok size → Ready f size a.count
       unfolding writable and_then read read_answer success
       answer_ready size x =
           let (s, l) = all_short size (written is_done.0) (ap said_by (sym x) ∙ em ∙ ap (measured_from 1 0) forms_are) in
@@ -147,7 +146,7 @@ module _ (f : List ℕ) (a : Answer) (ea : a ≡ read f) where
             counted = ap (λ (y : Answer). y.count) (ea ∙ ap read_answer is_done.1);
           }
 
-      pub answer_long : (n : ℕ) → m ≡ TooLong n → (room : ℕ) (r : Answer) (o : List ℕ) → r ≡ record { number = 12; file = 1; rec = n; length = 0; count = 0 }
+      pub answer_long : (n : ℕ) → m ≡ Err n → (room : ℕ) (r : Answer) (o : List ℕ) → r ≡ record { number = 12; file = 1; rec = n; length = 0; count = 0 }
           → o ≡ zeros room → Writes f room r o
       unfolding write_outcome writable and_then
       answer_long n x room r o =

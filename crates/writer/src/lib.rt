@@ -14,47 +14,30 @@ ghost use Rattle.writer.specs.Ready.{Ready};
 use memory::clearing::{zero, zero_from};
 use reader::read;
 use rules::Answer;
-use skeleton::directory::Shape;
 use skeleton::file::record_at;
-use skeleton::leader::Head;
 use writing::measuring::written_length;
 use writing::writer::write_record;
 
-// How long a file is when it is written; or the number of the first record that is too long then (12).
-#[derive(Clone, Copy)]
-pub enum Measured {
-    Total(usize),
-    TooLong(usize),
-}
-
-// The length of a file's written form, record by record: number 12. The lists of the first three records are not joined.
-pub fn measure(f: &[u8]) -> Measured
+// The length of a file's written form, record by record; or the number of the first record that is too long then (12). The lists of the first
+// three records are not joined.
+pub fn measure(f: &[u8]) -> Result<usize, usize>
     requires { length f.now ≤ 16777216 }
     ensures { said_by result ≡ measured_from 1 0 (forms_from f.now 0 1) }
 {
     let mut p = 0;
     let mut n = 1;
     let mut total = 0;
-    loop {
-        if f.len() <= p {
-            return Measured::Total(total);
+    while let Ok(head) = record_at(f, p) {
+        let e = p + head.len;
+        let size = written_length(&f[p..e], head.shape, 3 < n);
+        if 99999 < size {
+            return Err(n);
         }
-        match record_at(f, p) {
-            Head::Good { len, base, a, b } => {
-                let e = p + len;
-                let size = written_length(&f[p..e], Shape { base, a, b }, 3 < n);
-                if 99999 < size {
-                    return Measured::TooLong(n);
-                }
-                total += size;
-                n += 1;
-                p = e;
-            }
-            Head::Refused(_) => {
-                return Measured::Total(total);
-            }
-        }
+        total += size;
+        n += 1;
+        p = e;
     }
+    Ok(total)
 }
 
 // The written form of a file at the front of out, for which there is room; the place behind it.
@@ -65,22 +48,13 @@ fn put_records(f: &[u8], out: &mut [u8]) -> usize
     let mut p = 0;
     let mut n: usize = 1;
     let mut q = 0;
-    loop {
-        if f.len() <= p {
-            return q;
-        }
-        match record_at(f, p) {
-            Head::Good { len, base, a, b } => {
-                let e = p + len;
-                q = write_record(&f[p..e], Shape { base, a, b }, 3 < n, n == 1, out, q);
-                n += 1;
-                p = e;
-            }
-            Head::Refused(_) => {
-                return q;
-            }
-        }
+    while let Ok(head) = record_at(f, p) {
+        let e = p + head.len;
+        q = write_record(&f[p..e], head.shape, 3 < n, n == 1, out, q);
+        n += 1;
+        p = e;
     }
+    q
 }
 
 // A refusal: the output is wholly zero.
@@ -88,13 +62,7 @@ fn refuse(number: u8, file: u8, rec: usize, out: &mut [u8]) -> Answer
     ensures { (result ≡ record { number = number; file = file; rec = rec; length = 0; count = 0 }) × (out.new ≡ zeros (length out.old)) }
 {
     zero(out);
-    Answer {
-        number,
-        file,
-        rec,
-        length: 0,
-        count: 0,
-    }
+    Answer::refused(number, file, rec)
 }
 
 // A file whose written form has so many bytes and records: numbers 14 and 13, then the written form and zeroes behind it.
@@ -110,13 +78,7 @@ fn put_out(f: &[u8], size: usize, records: usize, out: &mut [u8]) -> Answer
     }
     let end = put_records(f, out);
     zero_from(out, end);
-    Answer {
-        number: 0,
-        file: 0,
-        rec: 0,
-        length: end,
-        count: records,
-    }
+    Answer::done(end, records)
 }
 
 // Writes a dataset: the answer and every byte of the output are those of the rules, for any bytes and an output of any length.
@@ -128,7 +90,7 @@ pub fn write(dataset: &[u8], out: &mut [u8]) -> Answer
         return refuse(a.number, a.file, a.rec, out);
     }
     match measure(dataset) {
-        Measured::Total(size) => put_out(dataset, size, a.count, out),
-        Measured::TooLong(n) => refuse(12, 1, n, out),
+        Ok(size) => put_out(dataset, size, a.count, out),
+        Err(n) => refuse(12, 1, n, out),
     }
 }

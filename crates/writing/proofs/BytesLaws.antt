@@ -4,11 +4,11 @@ use mathlib.Core.Path.{◌≡◌, refl}
 use mathlib.Core.List.{List}
 use native.Mathlib.Omega.{arith}
 use lib.ListN.{length, drop}
+use Rattle.std.specs.Prelude.{Option, Some, None}
 use Rattle.base.specs.Lists.{Each}
 use Rattle.skeleton.specs.Place.{between, place_at, fields_at}
 use Rattle.skeleton.specs.declared.directory.Shape.{Shape}
 use Rattle.skeleton.specs.declared.place.Place.{Place}
-use Rattle.skeleton.specs.declared.place.Place.TheVariants.{At, Done}
 use Rattle.skeleton.proofs.PlaceLaws.{place_falls, fields_more, fields_done}
 use Rattle.fields.specs.Valid.{Bytes}
 use Rattle.fields.proofs.ByteLaws.{bytes_drop, bytes_take}
@@ -19,11 +19,11 @@ bytes_between r i j g = bytes_take (j - i) (drop i r) (bytes_drop r i g)
 
 -- from p on, where it is so further on
 bytes_by : (r : List ℕ) (h : Shape) → Bytes r → (p : ℕ) → ((q : ℕ) → length r - q < length r - p → BodiesBytes (fields_at r h q))
-    → (e : Place) → e ≡ place_at r h p → BodiesBytes (fields_at r h p)
+    → (e : Option Place) → e ≡ place_at r h p → BodiesBytes (fields_at r h p)
 unfolding Each
-bytes_by r h g p ih Done en = rw (fields_done r h p Done en refl) tt
-bytes_by r h g p ih (At tag start end next) en =
-    rw (fields_more r h p _ en tag start end next refl) (bytes_between r start end g, ih next (place_falls r h p _ en tag start end next refl))
+bytes_by r h g p ih None en = rw (fields_done r h p None en refl) tt
+bytes_by r h g p ih (Some d) en =
+    rw (fields_more r h p _ en d refl) (bytes_between r d.start d.end g, ih d.next (place_falls r h p _ en d refl))
 
 -- at most n bytes of the record stand behind p
 bytes_from_lem : (r : List ℕ) (h : Shape) → Bytes r → (n p : ℕ) → length r - p ≤ n → BodiesBytes (fields_at r h p)

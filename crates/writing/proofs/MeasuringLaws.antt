@@ -6,46 +6,46 @@ use mathlib.Core.List.{List, []}
 use native.Mathlib.Nat.{zero-add}
 use native.Mathlib.Omega.{arith}
 use lib.ListN.{length}
+use Rattle.std.specs.Prelude.{Option, Some, None}
 use Rattle.skeleton.specs.File.{Field}
 use Rattle.skeleton.specs.Emit.{sizes}
 use Rattle.skeleton.specs.declared.directory.Shape.{Shape}
 use Rattle.rules.specs.Written.{written_length}
 use Rattle.writing.specs.Found.{house_at, Found, Next, Summed}
 use Rattle.writing.specs.declared.joining.Written.{Written}
-use Rattle.writing.specs.declared.joining.Written.TheVariants.{At, Done}
 use Rattle.writing.specs.declared.measuring.Sum.{Sum}
 
 -- ---- a field that was found
 
-module _ (joins : Bool) (r : List ℕ) (h : Shape) (q : ℕ) (e : Written) (en : Next joins r h q e) where
+module _ (joins : Bool) (r : List ℕ) (h : Shape) (q : ℕ) (e : Option Written) (en : Next joins r h q e) where
   -- there is none
-  pub nothing : e ≡ Done → house_at joins r h q ≡ []
+  pub nothing : e ≡ None → house_at joins r h q ≡ []
   unfolding Next
   nothing x = rw x at en
 
-  module _ (tag start end size next after : ℕ) (x : e ≡ At tag start end size next after) where
-    pub found : Found joins r h q tag start end size next after
+  module _ (v : Written) (x : e ≡ Some v) where
+    pub found : Found joins r h q v
     unfolding Next
     found = rw x at en
 
-    pub found_falls : length r - after < length r - q
+    pub found_falls : length r - v.after < length r - q
     found_falls = let f = found in let i = f.inside in let k = f.further in omega arith
 
-    pub found_size : length r ≤ 16777216 → size + 1 ≤ 281474993487872
+    pub found_size : length r ≤ 16777216 → v.size + 1 ≤ 281474993487872
     found_size g = let f = found in let i = f.inside in let s = f.small in omega arith
 
     -- the word that holds its size and its 1E
-    pub found_word : length r ≤ 16777216 → size + 1 < 2 ^ 64
+    pub found_word : length r ≤ 16777216 → v.size + 1 < 2 ^ 64
     found_word g = let s = found_size g in omega arith
 
     -- it is one field more
-    pub found_count : length (house_at joins r h q) ≡ 1 + length (house_at joins r h after)
+    pub found_count : length (house_at joins r h q) ≡ 1 + length (house_at joins r h v.after)
     found_count = ap length found.fields ∙ omega arith
 
     -- of so many bytes
-    pub found_bytes : sizes (house_at joins r h q) ≡ size + 1 + sizes (house_at joins r h after)
+    pub found_bytes : sizes (house_at joins r h q) ≡ v.size + 1 + sizes (house_at joins r h v.after)
     unfolding sizes
-    found_bytes = ap sizes found.fields ∙ ap (λ (m : ℕ). m + 1 + sizes (house_at joins r h after)) (sym found.size_is)
+    found_bytes = ap sizes found.fields ∙ ap (λ (m : ℕ). m + 1 + sizes (house_at joins r h v.after)) (sym found.size_is)
 
 -- ---- `count_written`
 
@@ -60,9 +60,9 @@ pub record CountedAt (joins : Bool) (r : List ℕ) (h : Shape) (q fields bytes :
 pub counted_start : (joins : Bool) (r : List ℕ) (h : Shape) → CountedAt joins r h 24 0 0
 counted_start joins r h = record { count = zero-add _; size = zero-add _; few = omega arith; small = omega arith; inside = omega arith }
 
-module _ (joins : Bool) (r : List ℕ) (h : Shape) (q fields bytes : ℕ) (inv : CountedAt joins r h q fields bytes) (e : Written) (en : Next joins r h q e)
+module _ (joins : Bool) (r : List ℕ) (h : Shape) (q fields bytes : ℕ) (inv : CountedAt joins r h q fields bytes) (e : Option Written) (en : Next joins r h q e)
     (g : length r ≤ 16777216) where
-  pub counted_done : e ≡ Done → Summed (house_at joins r h 24) (record { fields = fields; bytes = bytes })
+  pub counted_done : e ≡ None → Summed (house_at joins r h 24) (record { fields = fields; bytes = bytes })
   unfolding sizes
   counted_done x =
       let z = nothing joins r h q e en x in
@@ -74,17 +74,17 @@ module _ (joins : Bool) (r : List ℕ) (h : Shape) (q fields bytes : ℕ) (inv :
   pub counted_word : fields + 1 < 2 ^ 64
   counted_word = let f = inv.few in let i = inv.inside in omega arith
 
-  module _ (tag start end size next after : ℕ) (x : e ≡ At tag start end size next after) where
-    pub counted_bytes : bytes + (size + 1) < 2 ^ 64
-    counted_bytes = let s = found_size joins r h q e en tag start end size next after x g in let b = inv.small in let i = inv.inside in omega arith
+  module _ (v : Written) (x : e ≡ Some v) where
+    pub counted_bytes : bytes + (v.size + 1) < 2 ^ 64
+    counted_bytes = let s = found_size joins r h q e en v x g in let b = inv.small in let i = inv.inside in omega arith
 
-    pub counted_more : CountedAt joins r h after (fields + 1) (bytes + (size + 1))
+    pub counted_more : CountedAt joins r h v.after (fields + 1) (bytes + (v.size + 1))
     counted_more =
-        let f = found joins r h q e en tag start end size next after x in
+        let f = found joins r h q e en v x in
         let k = f.further in let i = f.inside in let s = f.small in let b = inv.small in let w = inv.few in
         record {
-          count = omega (arith, inv.count, found_count joins r h q e en tag start end size next after x);
-          size = omega (arith, inv.size, found_bytes joins r h q e en tag start end size next after x);
+          count = omega (arith, inv.count, found_count joins r h q e en v x);
+          size = omega (arith, inv.size, found_bytes joins r h q e en v x);
           few = omega arith;
           small = omega arith;
           inside = omega arith;

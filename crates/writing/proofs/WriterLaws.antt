@@ -7,6 +7,7 @@ use native.Mathlib.Nat.{zero-add}
 use native.Mathlib.Omega.{arith}
 use borrow.Author.Tests.{not-true, not-false}
 use lib.ListN.{length, length-append}
+use Rattle.std.specs.Prelude.{Option, Some, None}
 use Rattle.memory.specs.Put.{part, put}
 use Rattle.memory.specs.Wrote.{Wrote}
 use Rattle.memory.proofs.PutLaws.{put_put, put_nil}
@@ -16,7 +17,6 @@ use Rattle.skeleton.specs.Emit.{sizes, length_of, base_of, leading, entries, con
 use Rattle.skeleton.specs.Place.{between, place_at, fields_at}
 use Rattle.skeleton.specs.declared.directory.Shape.{Shape}
 use Rattle.skeleton.specs.declared.place.Place.{Place}
-use Rattle.skeleton.specs.declared.place.Place.TheVariants.{At as PlaceAt, Done as NoPlace}
 use Rattle.skeleton.proofs.PlaceLaws.{held, place_falls, place_runs}
 use Rattle.skeleton.proofs.EmitDigitsLaws.{length_digits}
 use Rattle.skeleton.proofs.EmitFieldsLaws.{length_leading, length_entries, length_contents, length_emit}
@@ -27,7 +27,6 @@ use Rattle.writing.specs.Runs.{goes_on, run_body, more_body}
 use Rattle.writing.specs.Parts.{entry_bytes}
 use Rattle.writing.specs.Found.{house_at, joined_at, Found, Next, Summed}
 use Rattle.writing.specs.declared.joining.Written.{Written}
-use Rattle.writing.specs.declared.joining.Written.TheVariants.{At, Done}
 use Rattle.writing.specs.declared.measuring.Sum.{Sum}
 use Rattle.writing.proofs.JoiningLaws.{body_at, run_more, run_ends, run_none}
 use Rattle.writing.proofs.MeasuringLaws.{nothing, found, found_falls, found_word, found_count, found_bytes, length_product, length_head, length_word}
@@ -85,37 +84,37 @@ module _ (joins : Bool) (r : List ℕ) (h : Shape) (t from : ℕ) (out₀ : List
   unfolding more_body
   room g = rw inv.listed at g
 
-  module _ (e : Place) (en : e ≡ place_at r h q) where
-    pub joins_done : e ≡ NoPlace → Wrote at (joined_at joins r h t from) out₀ p out
+  module _ (e : Option Place) (en : e ≡ place_at r h q) where
+    pub joins_done : e ≡ None → Wrote at (joined_at joins r h t from) out₀ p out
     joins_done x = joined (run_none joins t r h q e en x).0
 
-    module _ (tag start end next : ℕ) (x : e ≡ PlaceAt tag start end next) (b : Bool) (eb : b ≡ goes_on joins t tag (end - start)) where
+    module _ (d : Place) (x : e ≡ Some d) (b : Bool) (eb : b ≡ goes_on joins t d.tag (d.end - d.start)) where
       pub joins_stop : not b ≡ true → Wrote at (joined_at joins r h t from) out₀ p out
-      joins_stop y = joined (run_ends r h q e en tag start end next x joins t b eb (not-true b y)).0
+      joins_stop y = joined (run_ends r h q e en d x joins t b eb (not-true b y)).0
 
       module _ (y : not b ≡ false) where
-        more : run_body joins t (fields_at r h q) ≡ between r start end ++ run_body joins t (fields_at r h next)
-        more = (run_more r h q e en tag start end next x joins t b eb (not-false b y)).0
+        more : run_body joins t (fields_at r h q) ≡ between r d.start d.end ++ run_body joins t (fields_at r h d.next)
+        more = (run_more r h q e en d x joins t b eb (not-false b y)).0
 
-        more_long : length (run_body joins t (fields_at r h q)) ≡ end - start + length (run_body joins t (fields_at r h next))
+        more_long : length (run_body joins t (fields_at r h q)) ≡ d.end - d.start + length (run_body joins t (fields_at r h d.next))
         more_long =
-            ap length more ∙ length-append (between r start end) (run_body joins t (fields_at r h next))
-            ∙ ap (λ (m : ℕ). m + length (run_body joins t (fields_at r h next))) (body_at r h q e en tag start end next x)
+            ap length more ∙ length-append (between r d.start d.end) (run_body joins t (fields_at r h d.next))
+            ∙ ap (λ (m : ℕ). m + length (run_body joins t (fields_at r h d.next))) (body_at r h q e en d x)
 
-        pub joins_room : at + length (joined_at joins r h t from) ≤ length out₀ → p + (end - start) ≤ length out
+        pub joins_room : at + length (joined_at joins r h t from) ≤ length out₀ → p + (d.end - d.start) ≤ length out
         joins_room g = omega (arith, room g, inv.count, inv.long, more_long)
 
-        pub joins_in : start + (end - start) ≤ length r
-        joins_in = let k = held r h q e en tag start end next x in omega (arith, k.body_runs, k.body_in)
+        pub joins_in : d.start + (d.end - d.start) ≤ length r
+        joins_in = let k = held r h q e en d x in omega (arith, k.body_runs, k.body_in)
 
-        pub joins_more : (p' : ℕ) (out' : List ℕ) → Wrote p (part start (end - start) r) out p' out' → JoinsAt joins r h t from out₀ at out' next p'
+        pub joins_more : (p' : ℕ) (out' : List ℕ) → Wrote p (part d.start (d.end - d.start) r) out p' out' → JoinsAt joins r h t from out₀ at out' d.next p'
         unfolding part
         joins_more p' out' w =
             record {
               listed = inv.listed;
-              count = omega (arith, inv.count, more_long, w.next, body_at r h q e en tag start end next x);
+              count = omega (arith, inv.count, more_long, w.next, body_at r h q e en d x);
               long = wrote_length w ∙ inv.long;
-              left = put_on (run_body joins t (fields_at r h next)) w ∙ ap (λ (l : List ℕ). put p l out) (sym more) ∙ inv.left;
+              left = put_on (run_body joins t (fields_at r h d.next)) w ∙ ap (λ (l : List ℕ). put p l out) (sym more) ∙ inv.left;
             }
 
 pub ruleset joins_turn = (joins_start, joins_alone, joins_done, joins_stop, joins_room, joins_in, joins_more, place_falls, place_runs)
@@ -133,38 +132,38 @@ pub directory_start : (joins : Bool) (r : List ℕ) (h : Shape) (out : List ℕ)
 directory_start joins r h out at = record { count = refl; size = zero-add _; long = refl; left = refl }
 
 module _ (joins : Bool) (r : List ℕ) (h : Shape) (out₀ : List ℕ) (at : ℕ) (out : List ℕ) (q pos p : ℕ) (inv : DirectoryAt joins r h out₀ at out q pos p)
-    (e : Written) (en : Next joins r h q e) where
-  pub directory_done : e ≡ Done → Wrote at (entries field_width field_width 0 (house_at joins r h 24)) out₀ p out
+    (e : Option Written) (en : Next joins r h q e) where
+  pub directory_done : e ≡ None → Wrote at (entries field_width field_width 0 (house_at joins r h 24)) out₀ p out
   unfolding entries
   directory_done x =
       let z = nothing joins r h q e en x in
       let n : length (house_at joins r h q) ≡ 0 = ap length z in
       put_all _ inv.left (ap (entries field_width field_width pos) z) (omega (arith, inv.count, length_entries field_width field_width 0 (house_at joins r h 24)))
 
-  module _ (tag start end size next after : ℕ) (x : e ≡ At tag start end size next after) where
+  module _ (v : Written) (x : e ≡ Some v) where
     pub directory_room : at + 14 * length (house_at joins r h 24) ≤ length out₀ → p + 14 ≤ length out
-    directory_room g = omega (arith, inv.count, inv.long, found_count joins r h q e en tag start end size next after x)
+    directory_room g = omega (arith, inv.count, inv.long, found_count joins r h q e en v x)
 
-    pub directory_word : sizes (house_at joins r h 24) ≤ 281474993487872 → pos + (size + 1) < 2 ^ 64
-    directory_word g = let b = found_bytes joins r h q e en tag start end size next after x in let s = inv.size in omega arith
+    pub directory_word : sizes (house_at joins r h 24) ≤ 281474993487872 → pos + (v.size + 1) < 2 ^ 64
+    directory_word g = let b = found_bytes joins r h q e en v x in let s = inv.size in omega arith
 
     -- the entry there, and those behind it
     entries_there : entries field_width field_width pos (house_at joins r h q)
-        ≡ entry_bytes tag (size + 1) pos ++ entries field_width field_width (pos + (size + 1)) (house_at joins r h after)
+        ≡ entry_bytes v.tag (v.size + 1) pos ++ entries field_width field_width (pos + (v.size + 1)) (house_at joins r h v.after)
     unfolding entries entry_bytes
     entries_there =
-        let f = found joins r h q e en tag start end size next after x in
+        let f = found joins r h q e en v x in
         ap (entries field_width field_width pos) f.fields
-        ∙ ap (λ (m : ℕ). entry_bytes tag (m + 1) pos ++ entries field_width field_width (pos + (m + 1)) (house_at joins r h after)) (sym f.size_is)
+        ∙ ap (λ (m : ℕ). entry_bytes v.tag (m + 1) pos ++ entries field_width field_width (pos + (m + 1)) (house_at joins r h v.after)) (sym f.size_is)
 
-    pub directory_more : (p' : ℕ) (out' : List ℕ) → Wrote p (entry_bytes tag (size + 1) pos) out p' out'
-        → DirectoryAt joins r h out₀ at out' after (pos + (size + 1)) p'
+    pub directory_more : (p' : ℕ) (out' : List ℕ) → Wrote p (entry_bytes v.tag (v.size + 1) pos) out p' out'
+        → DirectoryAt joins r h out₀ at out' v.after (pos + (v.size + 1)) p'
     directory_more p' out' w =
         record {
-          count = omega (arith, inv.count, found_count joins r h q e en tag start end size next after x, w.next, length_entry tag (size + 1) pos);
-          size = omega (arith, inv.size, found_bytes joins r h q e en tag start end size next after x);
+          count = omega (arith, inv.count, found_count joins r h q e en v x, w.next, length_entry v.tag (v.size + 1) pos);
+          size = omega (arith, inv.size, found_bytes joins r h q e en v x);
           long = wrote_length w ∙ inv.long;
-          left = put_on (entries field_width field_width (pos + (size + 1)) (house_at joins r h after)) w
+          left = put_on (entries field_width field_width (pos + (v.size + 1)) (house_at joins r h v.after)) w
               ∙ ap (λ (l : List ℕ). put p l out) (sym entries_there) ∙ inv.left;
         }
 
@@ -182,63 +181,63 @@ pub fields_start : (joins : Bool) (r : List ℕ) (h : Shape) (out : List ℕ) (a
 fields_start joins r h out at = record { count = refl; long = refl; left = refl }
 
 module _ (joins : Bool) (r : List ℕ) (h : Shape) (out₀ : List ℕ) (at : ℕ) (out : List ℕ) (q p : ℕ) (inv : FieldsAt joins r h out₀ at out q p)
-    (e : Written) (en : Next joins r h q e) where
-  pub fields_done : e ≡ Done → Wrote at (contents (house_at joins r h 24)) out₀ p out
+    (e : Option Written) (en : Next joins r h q e) where
+  pub fields_done : e ≡ None → Wrote at (contents (house_at joins r h 24)) out₀ p out
   unfolding contents sizes
   fields_done x =
       let z = nothing joins r h q e en x in
       let n : sizes (house_at joins r h q) ≡ 0 = ap sizes z in
       put_all _ inv.left (ap contents z) (omega (arith, inv.count, length_contents (house_at joins r h 24)))
 
-  module _ (tag start end size next after : ℕ) (x : e ≡ At tag start end size next after) where
-    here : Found joins r h q tag start end size next after
-    here = found joins r h q e en tag start end size next after x
+  module _ (v : Written) (x : e ≡ Some v) where
+    here : Found joins r h q v
+    here = found joins r h q e en v x
 
-    pub fields_runs : start ≤ end
+    pub fields_runs : v.start ≤ v.end
     fields_runs = here.body_runs
 
-    pub fields_in : start + (end - start) ≤ length r
+    pub fields_in : v.start + (v.end - v.start) ≤ length r
     fields_in = omega (arith, here.body_runs, here.body_in)
 
     -- how long the parts of the field are
-    part_long : length (part start (end - start) r) ≡ end - start
+    part_long : length (part v.start (v.end - v.start) r) ≡ v.end - v.start
     unfolding part
-    part_long = length_between r start end here.body_in
+    part_long = length_between r v.start v.end here.body_in
 
-    size_long : size ≡ end - start + length (joined_at joins r h tag next)
+    size_long : v.size ≡ v.end - v.start + length (joined_at joins r h v.tag v.next)
     unfolding part
     size_long =
-        here.size_is ∙ length-append (between r start end) (joined_at joins r h tag next) ∙ ap (λ (m : ℕ). m + length (joined_at joins r h tag next)) part_long
+        here.size_is ∙ length-append (between r v.start v.end) (joined_at joins r h v.tag v.next) ∙ ap (λ (m : ℕ). m + length (joined_at joins r h v.tag v.next)) part_long
 
-    room_there : at + sizes (house_at joins r h 24) ≤ length out₀ → p + (end - start) + length (joined_at joins r h tag next) + 1 ≤ length out
-    room_there g = omega (arith, inv.count, inv.long, found_bytes joins r h q e en tag start end size next after x, size_long)
+    room_there : at + sizes (house_at joins r h 24) ≤ length out₀ → p + (v.end - v.start) + length (joined_at joins r h v.tag v.next) + 1 ≤ length out
+    room_there g = omega (arith, inv.count, inv.long, found_bytes joins r h q e en v x, size_long)
 
-    pub first_room : at + sizes (house_at joins r h 24) ≤ length out₀ → p + (end - start) ≤ length out
+    pub first_room : at + sizes (house_at joins r h 24) ≤ length out₀ → p + (v.end - v.start) ≤ length out
     first_room g = omega (arith, room_there g)
 
-    module _ (p₁ : ℕ) (out₁ : List ℕ) (w₁ : Wrote p (part start (end - start) r) out p₁ out₁) where
-      pub joined_room : at + sizes (house_at joins r h 24) ≤ length out₀ → p₁ + length (joined_at joins r h tag next) ≤ length out₁
+    module _ (p₁ : ℕ) (out₁ : List ℕ) (w₁ : Wrote p (part v.start (v.end - v.start) r) out p₁ out₁) where
+      pub joined_room : at + sizes (house_at joins r h 24) ≤ length out₀ → p₁ + length (joined_at joins r h v.tag v.next) ≤ length out₁
       joined_room g = omega (arith, room_there g, w₁.next, part_long, wrote_length w₁)
 
-      module _ (p₂ : ℕ) (out₂ : List ℕ) (w₂ : Wrote p₁ (joined_at joins r h tag next) out₁ p₂ out₂) where
+      module _ (p₂ : ℕ) (out₂ : List ℕ) (w₂ : Wrote p₁ (joined_at joins r h v.tag v.next) out₁ p₂ out₂) where
         pub mark_room : at + sizes (house_at joins r h 24) ≤ length out₀ → p₂ + 1 ≤ length out₂
         mark_room g = omega (arith, room_there g, w₁.next, part_long, wrote_length w₁, w₂.next, wrote_length w₂)
 
         -- the field there, and those behind it
         contents_there : contents (house_at joins r h q)
-            ≡ ((part start (end - start) r ++ joined_at joins r h tag next) ++ (30 ∷ [])) ++ contents (house_at joins r h after)
+            ≡ ((part v.start (v.end - v.start) r ++ joined_at joins r h v.tag v.next) ++ (30 ∷ [])) ++ contents (house_at joins r h v.after)
         unfolding contents part
         contents_there =
-            ap contents here.fields ∙ sym (append_assoc (between r start end ++ joined_at joins r h tag next) (30 ∷ []) (contents (house_at joins r h after)))
+            ap contents here.fields ∙ sym (append_assoc (between r v.start v.end ++ joined_at joins r h v.tag v.next) (30 ∷ []) (contents (house_at joins r h v.after)))
 
-        pub fields_more : (p₃ : ℕ) (out₃ : List ℕ) → Wrote p₂ (30 ∷ []) out₂ p₃ out₃ → FieldsAt joins r h out₀ at out₃ after p₃
+        pub fields_more : (p₃ : ℕ) (out₃ : List ℕ) → Wrote p₂ (30 ∷ []) out₂ p₃ out₃ → FieldsAt joins r h out₀ at out₃ v.after p₃
         fields_more p₃ out₃ w₃ =
             let w = then w₃ (then w₂ w₁) in
-            let n : p₃ ≡ p + (size + 1) = omega (arith, w₁.next, part_long, w₂.next, w₃.next, size_long) in
+            let n : p₃ ≡ p + (v.size + 1) = omega (arith, w₁.next, part_long, w₂.next, w₃.next, size_long) in
             record {
-              count = omega (arith, inv.count, n, found_bytes joins r h q e en tag start end size next after x);
+              count = omega (arith, inv.count, n, found_bytes joins r h q e en v x);
               long = wrote_length w ∙ inv.long;
-              left = put_on (contents (house_at joins r h after)) w ∙ ap (λ (l : List ℕ). put p l out) (sym contents_there) ∙ inv.left;
+              left = put_on (contents (house_at joins r h v.after)) w ∙ ap (λ (l : List ℕ). put p l out) (sym contents_there) ∙ inv.left;
             }
 
 pub ruleset fields_turn = (fields_start, fields_done, fields_runs, fields_in, first_room, joined_room, mark_room, fields_more, found_falls)

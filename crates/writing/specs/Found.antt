@@ -1,5 +1,5 @@
 -- What code finds of the fields as they are written, from a place in the directory on.
-use Rattle.std.specs.Prelude.{ℕ, ◌+◌, ◌*◌, ◌≤◌, ◌<◌, ◌≡◌, Bool, List, [], ◌∷◌, ◌++◌, length}
+use Rattle.std.specs.Prelude.{ℕ, ◌+◌, ◌*◌, ◌≤◌, ◌<◌, ◌≡◌, Bool, List, [], ◌∷◌, ◌++◌, length, Option, Some, None}
 use Rattle.skeleton.specs.File.{Field}
 use Rattle.skeleton.specs.Emit.{sizes}
 use Rattle.skeleton.specs.Place.{between, fields_at}
@@ -9,7 +9,6 @@ use Rattle.writing.specs.House.{in_house_form}
 use Rattle.writing.specs.Runs.{more_body, more_rest}
 use Rattle.writing.specs.declared.joining.Run.{Run}
 use Rattle.writing.specs.declared.joining.Written.{Written}
-use Rattle.writing.specs.declared.joining.Written.TheVariants.{At, Done}
 use Rattle.writing.specs.declared.measuring.Sum.{Sum}
 
 -- the fields as they are written, from the entry at p on
@@ -28,20 +27,20 @@ pub record Ran (joins : Bool) (r : List ℕ) (h : Shape) (t p : ℕ) (e : Run) :
   pub inside : e.after ≤ length r
   pub small : e.size + 16777217 * p ≤ 16777217 * e.after
 
--- a field that is written is found at p: its first body, those that join it, and those behind it
-pub record Found (joins : Bool) (r : List ℕ) (h : Shape) (p tag start end size next after : ℕ) : Type 0 where
-  pub fields : house_at joins r h p ≡ field_as tag (between r start end ++ joined_at joins r h tag next) ∷ house_at joins r h after
-  pub size_is : size ≡ length (between r start end ++ joined_at joins r h tag next)
-  pub body_runs : start ≤ end
-  pub body_in : end ≤ length r
-  pub further : p < after
-  pub inside : after ≤ length r
-  pub small : size + 1 + 16777217 * p ≤ 16777217 * after
+-- the field w that is written is found at p: its first body, those that join it, and those behind it
+pub record Found (joins : Bool) (r : List ℕ) (h : Shape) (p : ℕ) (w : Written) : Type 0 where
+  pub fields : house_at joins r h p ≡ field_as w.tag (between r w.start w.end ++ joined_at joins r h w.tag w.next) ∷ house_at joins r h w.after
+  pub size_is : w.size ≡ length (between r w.start w.end ++ joined_at joins r h w.tag w.next)
+  pub body_runs : w.start ≤ w.end
+  pub body_in : w.end ≤ length r
+  pub further : p < w.after
+  pub inside : w.after ≤ length r
+  pub small : w.size + 1 + 16777217 * p ≤ 16777217 * w.after
 
 -- e is the next field that is written, or that there is none
-unfoldable pub Next : Bool → List ℕ → Shape → ℕ → Written → Type 0
-Next joins r h p (At tag start end size next after) = Found joins r h p tag start end size next after
-Next joins r h p Done = house_at joins r h p ≡ []
+unfoldable pub Next : Bool → List ℕ → Shape → ℕ → Option Written → Type 0
+Next joins r h p (Some w) = Found joins r h p w
+Next joins r h p None = house_at joins r h p ≡ []
 
 -- e is the number of the fields that are written, and of their bytes
 pub record Summed (fs : List Field) (e : Sum) : Type 0 where

@@ -6,7 +6,7 @@ ghost use Rattle.rules.specs.Written.{written_length};
 ghost use Rattle.writing.specs.House.{in_house_form};
 ghost use Rattle.writing.specs.Found.{house_at, Summed};
 
-use crate::joining::{Written, next_written};
+use crate::joining::next_written;
 use skeleton::directory::Shape;
 
 // How many fields are written, and how many bytes they have, the 1E of each included.
@@ -24,25 +24,12 @@ pub fn count_written(r: &[u8], h: Shape, joins: bool) -> Sum
     let mut q = 24;
     let mut fields = 0;
     let mut bytes = 0;
-    loop {
-        match next_written(r, h, joins, q) {
-            Written::At {
-                tag: _,
-                start: _,
-                end: _,
-                size,
-                next: _,
-                after,
-            } => {
-                fields += 1;
-                bytes += size + 1;
-                q = after;
-            }
-            Written::Done => {
-                return Sum { fields, bytes };
-            }
-        }
+    while let Some(field) = next_written(r, h, joins, q) {
+        fields += 1;
+        bytes += field.size + 1;
+        q = field.after;
     }
+    Sum { fields, bytes }
 }
 
 // The length of a record with so many fields and bytes.

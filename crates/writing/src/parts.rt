@@ -35,9 +35,10 @@ fn put_middle(out: &mut [u8], at: usize, first: bool) -> usize
     ensures { (result ≡ at + 7) × Wrote at (middle first) out.old result out.new }
 {
     if first {
-        return put_part(out, at, b"3LE1 09", 0, 7);
+        put_part(out, at, b"3LE1 09", 0, 7)
+    } else {
+        put_part(out, at, b" D     ", 0, 7)
     }
-    put_part(out, at, b" D     ", 0, 7)
 }
 
 // Bytes 17 to 23 of the leader, of the first record and of the others.
@@ -46,9 +47,10 @@ fn put_last(out: &mut [u8], at: usize, first: bool) -> usize
     ensures { (result ≡ at + 7) × Wrote at (last_of_leader first) out.old result out.new }
 {
     if first {
-        return put_part(out, at, b" ! 5504", 0, 7);
+        put_part(out, at, b" ! 5504", 0, 7)
+    } else {
+        put_part(out, at, b"   5504", 0, 7)
     }
-    put_part(out, at, b"   5504", 0, 7)
 }
 
 // The leader of a record of so many bytes, whose fields begin at base.

@@ -8,12 +8,12 @@ ghost use Rattle.rules.specs.Written.{field_width, written_length};
 ghost use Rattle.writing.specs.House.{in_house_form};
 ghost use Rattle.writing.specs.Found.{house_at, joined_at, Summed};
 
-use crate::joining::{Written, goes_on, is_list, next_written};
+use crate::joining::{goes_on, is_list, next_written};
 use crate::measuring::{Sum, count_written};
 use crate::parts::{put_entry, put_leader};
 use memory::writing::{put_byte, put_part};
 use skeleton::directory::Shape;
-use skeleton::place::{Place, place_at};
+use skeleton::place::place_at;
 
 // The directory, without the 1E that ends it.
 fn put_directory(r: &[u8], h: Shape, joins: bool, out: &mut [u8], at: usize) -> usize
@@ -24,25 +24,12 @@ fn put_directory(r: &[u8], h: Shape, joins: bool, out: &mut [u8], at: usize) -> 
     let mut q = 24;
     let mut pos = 0;
     let mut p = at;
-    loop {
-        match next_written(r, h, joins, q) {
-            Written::At {
-                tag,
-                start: _,
-                end: _,
-                size,
-                next: _,
-                after,
-            } => {
-                p = put_entry(out, p, tag, size + 1, pos);
-                pos += size + 1;
-                q = after;
-            }
-            Written::Done => {
-                return p;
-            }
-        }
+    while let Some(field) = next_written(r, h, joins, q) {
+        p = put_entry(out, p, field.tag, field.size + 1, pos);
+        pos += field.size + 1;
+        q = field.after;
     }
+    p
 }
 
 // The bodies that join a field with this tag, from the entry at `from` on.
@@ -63,26 +50,15 @@ fn put_joined(
     }
     let mut q = from;
     let mut p = at;
-    loop {
-        match place_at(r, h, q) {
-            Place::At {
-                tag,
-                start,
-                end,
-                next,
-            } => {
-                let n = end - start;
-                if !goes_on(joins, list, tag, n) {
-                    return p;
-                }
-                p = put_part(out, p, r, start, n);
-                q = next;
-            }
-            Place::Done => {
-                return p;
-            }
+    while let Some(field) = place_at(r, h, q) {
+        let n = field.end - field.start;
+        if !goes_on(joins, list, field.tag, n) {
+            return p;
         }
+        p = put_part(out, p, r, field.start, n);
+        q = field.next;
     }
+    p
 }
 
 // The fields, each with its 1E.
@@ -93,26 +69,13 @@ fn put_fields(r: &[u8], h: Shape, joins: bool, out: &mut [u8], at: usize) -> usi
 {
     let mut q = 24;
     let mut p = at;
-    loop {
-        match next_written(r, h, joins, q) {
-            Written::At {
-                tag,
-                start,
-                end,
-                size: _,
-                next,
-                after,
-            } => {
-                let p1 = put_part(out, p, r, start, end - start);
-                let p2 = put_joined(r, h, joins, tag, next, out, p1);
-                p = put_byte(out, p2, 30);
-                q = after;
-            }
-            Written::Done => {
-                return p;
-            }
-        }
+    while let Some(field) = next_written(r, h, joins, q) {
+        let p1 = put_part(out, p, r, field.start, field.end - field.start);
+        let p2 = put_joined(r, h, joins, field.tag, field.next, out, p1);
+        p = put_byte(out, p2, 30);
+        q = field.after;
     }
+    p
 }
 
 // A record of the slice r, its written fields counted before; joins: its lists are joined, else its fields are carried as they are; first: it

@@ -2,8 +2,8 @@
 use Rattle.console.proofs.FieldLaws.{field_found, field_none}
 use Rattle.console.proofs.ezdurvash_field.Goals as goal
 
-pub returns-in-Field : goal.returns-in-Field
-returns-in-Field c = search field_found
+pub returns-in-Some : goal.returns-in-Some
+returns-in-Some c = search field_found
 
-pub returns-in-Nothing : goal.returns-in-Nothing
-returns-in-Nothing c = search field_none
+pub returns-in-None : goal.returns-in-None
+returns-in-None c = search field_none

@@ -3,4 +3,4 @@ use mathlib.Core.Path.{sym, ◌∙◌}
 use Rattle.deep.proofs.acts_of.Goals as goal
 
 pub attr_acts-requires : goal.attr_acts-requires
-attr_acts-requires c = count_fill _ _ _ _ (sym c.tally_of-t.ensures ∙ c.in-Whole.is)
+attr_acts-requires c = count_fill _ _ _ _ (sym c.tally_of.ensures ∙ c.in-Ok.is)

@@ -1,5 +1,6 @@
 use Rattle.tree.proofs.FieldLaws.{inas_long, inas_whole, inas_tree_lem}
-use mathlib.Core.Path.{◌∙◌}
+use mathlib.Core.Path.{ap, ◌∙◌}
+use Rattle.base.specs.Verdict.{first_fault}
 use Rattle.tree.proofs.inas_tree.Goals as goal
 
 pub slice_bounds-check-count : goal.slice_bounds-check-count
@@ -12,4 +13,4 @@ pub check-requires : goal.check-requires
 check-requires c = inas_whole _ c.requires
 
 pub returns : goal.returns
-returns c = c.check.ensures ∙ inas_tree_lem _ c.requires
+returns c = c.check.ensures ∙ ap first_fault (inas_tree_lem _ c.requires)

@@ -14,10 +14,10 @@ pub judge-requires : goal.judge-requires
 judge-requires c = (begun_ready c.args.f.now c.args.u.now c.args.ds c.args.us c.args.front c.requires.0, c.spread-n.ensures, c.requires.1, c.lay_both-lim.ensures)
 
 pub finish-requires : goal.finish-requires
-finish-requires c = let p = c.spread-n in let y = c.lay_both-lim in let j = c.judge in let k = fine_finish c.args.f.now c.args.u.now c.args.ds c.args.us c.args.front c.requires.0 j.new.work j.result j.ensures c.in-Fine.is p.new.t p.result p.new.map p.ensures c.args.work.now j.auto.work c.requires.1 y.result y.new.out y.ensures in record { begun = k.0; us_value = k.1 }
+finish-requires c = let p = c.spread-n in let y = c.lay_both-lim in let j = c.judge in let k = fine_finish c.args.f.now c.args.u.now c.args.ds c.args.us c.args.front c.requires.0 j.new.work j.result j.ensures c.in-Ok.is p.new.t p.result p.new.map p.ensures c.args.work.now j.auto.work c.requires.1 y.result y.new.out y.ensures in record { begun = k.0; accepted = k.1 }
 
-pub returns-in-Fine : goal.returns-in-Fine
-returns-in-Fine c = let y = c.lay_both-lim in let j = c.judge in let l = c.finish in acted_sizes c.args.f.now c.args.u.now c.args.ds c.args.us c.args.front (length y.new.out) (length j.new.work) (length c.args.out.now) (length c.args.work.now) l.result l.new.out l.ensures y.auto.out j.auto.work
+pub returns-in-Ok : goal.returns-in-Ok
+returns-in-Ok c = let y = c.lay_both-lim in let j = c.judge in let l = c.finish in acted_sizes c.args.f.now c.args.u.now c.args.ds c.args.us c.args.front (length y.new.out) (length j.new.work) (length c.args.out.now) (length c.args.work.now) l.result l.new.out l.ensures y.auto.out j.auto.work
 
-pub returns-in-Stopped : goal.returns-in-Stopped
-returns-in-Stopped c = let y = c.lay_both-lim in let j = c.judge in wrong_acted c.args.f.now c.args.u.now c.args.ds c.args.us c.args.front c.requires.0 j.new.work j.result j.ensures _ _ _ _ c.in-Stopped.is (length c.args.out.now) (length c.args.work.now) c.requires.1 y.new.out c.refuse.result c.refuse.ensures
+pub returns-in-Err : goal.returns-in-Err
+returns-in-Err c = let y = c.lay_both-lim in let j = c.judge in wrong_acted c.args.f.now c.args.u.now c.args.ds c.args.us c.args.front c.requires.0 j.new.work j.result j.ensures _ c.in-Err.is (length c.args.out.now) (length c.args.work.now) c.requires.1 y.new.out c.refused.result c.refused.ensures

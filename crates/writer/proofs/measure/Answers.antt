@@ -1,11 +1,11 @@
 use Rattle.writer.proofs.MeasureLaws.{measure_turn}
 use Rattle.writer.proofs.measure.Goals as goal
 
-pub loop-p-init : goal.loop-p-init
-loop-p-init c = search measure_turn
+pub loop-head-init : goal.loop-head-init
+loop-head-init c = search measure_turn
 
-pub returns-then-f-p : goal.returns-then-f-p
-returns-then-f-p c = search measure_turn
+pub returns : goal.returns
+returns c = search measure_turn
 
 pub overflow_add-e : goal.overflow_add-e
 overflow_add-e c = search measure_turn
@@ -31,11 +31,8 @@ overflow_add-total c = search measure_turn
 pub overflow_add-n : goal.overflow_add-n
 overflow_add-n c = search measure_turn
 
-pub loop-p-smaller : goal.loop-p-smaller
-loop-p-smaller c = search measure_turn
+pub loop-head-smaller : goal.loop-head-smaller
+loop-head-smaller c = search measure_turn
 
-pub loop-p-preserved : goal.loop-p-preserved
-loop-p-preserved c = search measure_turn
-
-pub returns-in-Refused : goal.returns-in-Refused
-returns-in-Refused c = search measure_turn
+pub loop-head-preserved : goal.loop-head-preserved
+loop-head-preserved c = search measure_turn

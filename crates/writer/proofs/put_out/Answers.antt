@@ -14,4 +14,4 @@ pub zero_from-requires : goal.zero_from-requires
 zero_from-requires c = search out_ways
 
 pub returns : goal.returns
-returns c = out_done _ _ _ c.requires.1 c.if-size-gt16777216.false _ c.if-out-size.false _ _ c.put_records-end.ensures _ c.zero_from.ensures
+returns c = rw c.done.ensures (out_done _ _ _ c.requires.1 c.if-size-gt16777216.false _ c.if-out-size.false _ _ c.put_records-end.ensures _ c.zero_from.ensures)

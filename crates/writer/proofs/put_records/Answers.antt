@@ -1,11 +1,11 @@
 use Rattle.writer.proofs.PutLaws.{put_turn}
 use Rattle.writer.proofs.put_records.Goals as goal
 
-pub loop-p-init : goal.loop-p-init
-loop-p-init c = search put_turn
+pub loop-head-init : goal.loop-head-init
+loop-head-init c = search put_turn
 
-pub returns-then-f-p : goal.returns-then-f-p
-returns-then-f-p c = search put_turn
+pub returns : goal.returns
+returns c = search put_turn
 
 pub overflow_add-e : goal.overflow_add-e
 overflow_add-e c = search put_turn
@@ -25,11 +25,8 @@ write_record-q-requires c = record { bounded = search put_turn; h_in_bounds = se
 pub overflow_add-n : goal.overflow_add-n
 overflow_add-n c = search put_turn
 
-pub loop-p-smaller : goal.loop-p-smaller
-loop-p-smaller c = search put_turn
+pub loop-head-smaller : goal.loop-head-smaller
+loop-head-smaller c = search put_turn
 
-pub loop-p-preserved : goal.loop-p-preserved
-loop-p-preserved c = search put_turn
-
-pub returns-in-Refused : goal.returns-in-Refused
-returns-in-Refused c = search put_turn
+pub loop-head-preserved : goal.loop-head-preserved
+loop-head-preserved c = search put_turn

@@ -12,6 +12,6 @@ measure-requires c = search answer_small
 pub put_out-requires : goal.put_out-requires
 put_out-requires c = (search answer_small, answer_ready _ _ c.read-a.ensures.answers c.if-a-ne0.false (λ k. omega (arith, c.type_inv.dataset k)) _ c.measure.ensures _ (search rules))
 
-pub returns-in-TooLong : goal.returns-in-TooLong
-returns-in-TooLong c = answer_long _ _ c.read-a.ensures.answers c.if-a-ne0.false (λ k. omega (arith, c.type_inv.dataset k)) _ c.measure.ensures _ c.in-TooLong.is _ _ _ c.refuse-in-TooLong.ensures.0
-    c.refuse-in-TooLong.ensures.1
+pub returns-in-Err : goal.returns-in-Err
+returns-in-Err c = answer_long _ _ c.read-a.ensures.answers c.if-a-ne0.false (λ k. omega (arith, c.type_inv.dataset k)) _ c.measure.ensures _ c.in-Err.is _ _ _ c.refuse-in-Err.ensures.0
+    c.refuse-in-Err.ensures.1

@@ -10,8 +10,8 @@ slice_bounds-key_at-start c = search first_key_ways
 pub slice_bounds-key_at-end : goal.slice_bounds-key_at-end
 slice_bounds-key_at-end c = search first_key_ways
 
-pub returns-in-At : goal.returns-in-At
-returns-in-At c = search first_key_ways
+pub returns-in-Some : goal.returns-in-Some
+returns-in-Some c = search first_key_ways
 
-pub returns-in-Done : goal.returns-in-Done
-returns-in-Done c = search first_key_ways
+pub returns-in-None : goal.returns-in-None
+returns-in-None c = search first_key_ways

@@ -10,14 +10,11 @@ loop-y-init c = (refl, refl, omega arith, search rules, search rules, search gat
 pub overflow_add-q : goal.overflow_add-q
 overflow_add-q c = search gather_turn
 
-pub overflow_add-y : goal.overflow_add-y
-overflow_add-y c = search gather_turn
-
 pub loop-y-preserved : goal.loop-y-preserved
 loop-y-preserved c = (search rules, search rules, omega arith, omega arith, search gather_turn, search gather_turn)
 
-pub returns-in-Nothing : goal.returns-in-Nothing
-returns-in-Nothing c = (search gather_turn, search gather_turn)
+pub returns-in_default : goal.returns-in_default
+returns-in_default c = (search gather_turn, search gather_turn)
 
 pub returns : goal.returns
 returns c = (search gather_turn, search gather_turn)

@@ -1,4 +1,4 @@
-use Prim.Native.Nat.{◌-◌, ◌≤◌}
+use Prim.Native.Nat.{◌≤◌}
 use mathlib.Core.Path.{◌≡◌}
 use lib.ListN.{length}
 use Rattle.book.specs.First.{Going}
@@ -7,6 +7,3 @@ use Rattle.book.proofs.first.gather.Given as goal
 
 abbrev pub invariant-loop-y : goal.invariant-loop-y
 invariant-loop-y l = (length l.b ≡ length l.initial.b) × (length l.t ≡ length l.initial.t) × (l.x ≤ l.y) × (l.y ≤ l.e) × Going l.f l.start l.m l.q l.y × Unmet l.t
-
-abbrev pub decreases-loop-y : goal.decreases-loop-y
-decreases-loop-y l = l.e - l.y

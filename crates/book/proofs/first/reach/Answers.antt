@@ -2,14 +2,11 @@ use Rattle.book.proofs.FirstLaws.{reach_start, reach_turn}
 use borrow.Author.Rules.{rules}
 use Rattle.book.proofs.first.reach.Goals as goal
 
-pub loop-p-init : goal.loop-p-init
-loop-p-init c = reach_start _ _ (search rules) (search rules)
+pub loop-head-init : goal.loop-head-init
+loop-head-init c = reach_start _ _ (search rules) (search rules)
 
 pub record_at-requires : goal.record_at-requires
 record_at-requires c = search reach_turn
-
-pub enum_known-len : goal.enum_known-len
-enum_known-len c = search reach_turn
 
 pub overflow_add-e : goal.overflow_add-e
 overflow_add-e c = search reach_turn
@@ -32,17 +29,11 @@ returns-then-first_key-eq0 c = search reach_turn
 pub overflow_add-m : goal.overflow_add-m
 overflow_add-m c = search reach_turn
 
-pub loop-p-smaller : goal.loop-p-smaller
-loop-p-smaller c = search reach_turn
+pub loop-head-smaller : goal.loop-head-smaller
+loop-head-smaller c = search reach_turn
 
-pub loop-p-preserved : goal.loop-p-preserved
-loop-p-preserved c = search reach_turn
-
-pub enum_told-1 : goal.enum_told-1
-enum_told-1 c = search reach_turn
-
-pub returns-in-Refused : goal.returns-in-Refused
-returns-in-Refused c = search reach_turn
+pub loop-head-preserved : goal.loop-head-preserved
+loop-head-preserved c = search reach_turn
 
 pub returns : goal.returns
 returns c = search reach_turn

@@ -1,12 +1,9 @@
-use Rattle.book.proofs.BookLaws.{bit_ways}
-use native.Mathlib.Omega.{arith}
+use Rattle.book.proofs.BookLaws.{bit_there, bit_past}
+use Rattle.book.proofs.rcids.bit.Goals.{then-j-b, else-j-b}
 use Rattle.book.proofs.rcids.bit.Goals as goal
 
-pub returns-then-b-j : goal.returns-then-b-j
-returns-then-b-j c = (search bit_ways, omega arith)
-
-pub returns-then-j-b : goal.returns-then-j-b
-returns-then-j-b c = (search bit_ways, omega arith)
-
 pub returns : goal.returns
-returns c = (search bit_ways, omega arith)
+returns c = elim c.if-j-b.branch [
+  | then-j-b w ↦ bit_there _ _ _ _ _ c.from.ensures w.if-j-b.true w.from-is
+  | else-j-b w ↦ bit_past _ _ _ _ _ c.from.ensures w.if-j-b.false w.from-is
+]

@@ -5,8 +5,8 @@ use Rattle.cable.proofs.glance.glanced.Goals as goal
 pub second-requires : goal.second-requires
 second-requires c = search glance_ways
 
-pub returns-in-Good : goal.returns-in-Good
-returns-in-Good c = search glance_ways
+pub returns-in-Ok : goal.returns-in-Ok
+returns-in-Ok c = search glance_ways
 
-pub returns-in-Refused : goal.returns-in-Refused
-returns-in-Refused c = search glance_ways
+pub returns-in-Err : goal.returns-in-Err
+returns-in-Err c = search glance_ways

@@ -17,8 +17,8 @@ slice_bounds-dsid_follows-end c = search follows_ways
 pub dsid_follows-requires : goal.dsid_follows-requires
 dsid_follows-requires c = search follows_ways
 
-pub returns-in-At : goal.returns-in-At
-returns-in-At c = search follows_ways
+pub returns-in-Ok : goal.returns-in-Ok
+returns-in-Ok c = search follows_ways
 
-pub returns-in-Stopped : goal.returns-in-Stopped
-returns-in-Stopped c = search follows_ways
+pub returns-in-Err : goal.returns-in-Err
+returns-in-Err c = search follows_ways

@@ -11,8 +11,8 @@ slice_bounds-ends_next-start c = search may_ways
 pub slice_bounds-ends_next-end : goal.slice_bounds-ends_next-end
 slice_bounds-ends_next-end c = search may_ways
 
-pub returns-in-At : goal.returns-in-At
-returns-in-At c = search may_ways
+pub returns-in-Some : goal.returns-in-Some
+returns-in-Some c = search may_ways
 
-pub returns-in-Nothing : goal.returns-in-Nothing
-returns-in-Nothing c = search may_ways
+pub returns-in-None : goal.returns-in-None
+returns-in-None c = search may_ways

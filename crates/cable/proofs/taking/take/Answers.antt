@@ -16,7 +16,7 @@ pub returns-then-carries_file : goal.returns-then-carries_file
 returns-then-carries_file c = taken_right _ _ c.carries_file.ensures _ _ _ c.if-carries_file.true _ _ _ _ _ c.hand.ensures
 
 pub returns-then-chart : goal.returns-then-chart
-returns-then-chart c = taken_second _ _ c.carries_file.ensures _ _ _ _ c.if-carries_file.false _ c.zero.ensures c.if-chart.true _ c.zero-then-chart.ensures
+returns-then-chart c = rw c.refused-answer.ensures (taken_second _ _ c.carries_file.ensures _ _ _ _ c.if-carries_file.false _ c.zero.ensures c.if-chart.true _ c.zero-then-chart.ensures)
 
 pub returns : goal.returns
-returns c = taken_first _ _ c.carries_file.ensures _ _ _ _ c.if-carries_file.false _ c.zero.ensures c.if-chart.false _ c.zero-2.ensures
+returns c = rw c.refused-answer.ensures (taken_first _ _ c.carries_file.ensures _ _ _ _ c.if-carries_file.false _ c.zero.ensures c.if-chart.false _ c.zero-2.ensures)

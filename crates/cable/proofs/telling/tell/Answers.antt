@@ -14,8 +14,8 @@ slice_bounds-tell_dsid-end c = search tell_ways
 pub tell_dsid-requires : goal.tell_dsid-requires
 tell_dsid-requires c = search tell_ways
 
-pub returns-in-At : goal.returns-in-At
-returns-in-At c = search tell_ways
+pub returns-in-Ok : goal.returns-in-Ok
+returns-in-Ok c = search tell_ways
 
-pub returns-in-Stopped : goal.returns-in-Stopped
-returns-in-Stopped c = search tell_ways
+pub returns-in-Err : goal.returns-in-Err
+returns-in-Err c = search tell_ways

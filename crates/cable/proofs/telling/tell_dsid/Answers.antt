@@ -15,4 +15,4 @@ pub returns-then-out-e : goal.returns-then-out-e
 returns-then-out-e c = search dsid_ways
 
 pub returns : goal.returns
-returns c = search dsid_ways
+returns c = rw c.done.ensures (search dsid_ways)

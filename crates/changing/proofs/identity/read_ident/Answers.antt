@@ -13,16 +13,16 @@ pub place_at-requires : goal.place_at-requires
 place_at-requires c = ident_bounded _ _ _ _ _ c.requires
 
 pub code-requires : goal.code-requires
-code-requires c = ident_ready _ _ _ _ _ c.requires _ c.place_at.ensures _ _ _ _ c.in-At.is
+code-requires c = ident_ready _ _ _ _ _ c.requires _ c.place_at.ensures _ c.in-Some.is
 
 pub rver-requires : goal.rver-requires
-rver-requires c = ident_ready _ _ _ _ _ c.requires _ c.place_at.ensures _ _ _ _ c.in-At.is
+rver-requires c = ident_ready _ _ _ _ _ c.requires _ c.place_at.ensures _ c.in-Some.is
 
 pub ruin-requires : goal.ruin-requires
-ruin-requires c = ident_ready _ _ _ _ _ c.requires _ c.place_at.ensures _ _ _ _ c.in-At.is
+ruin-requires c = ident_ready _ _ _ _ _ c.requires _ c.place_at.ensures _ c.in-Some.is
 
-pub returns-in-At : goal.returns-in-At
-returns-in-At c = ident_says _ _ _ _ _ c.requires _ c.place_at.ensures _ _ _ _ c.in-At.is _ _ _ c.code.ensures c.rver.ensures c.ruin.ensures
+pub returns : goal.returns
+returns c = ident_says _ _ _ _ _ c.requires _ c.place_at.ensures _ c.in-Some.is _ _ _ c.code.ensures c.rver.ensures c.ruin.ensures
 
-pub returns-in-Done : goal.returns-in-Done
-returns-in-Done c = ident_some _ _ _ _ _ c.requires _ c.place_at.ensures c.in-Done.is
+pub unreachable-requires : goal.unreachable-requires
+unreachable-requires c = ident_some _ _ _ _ _ c.requires _ c.place_at.ensures c.in_default.is

@@ -14,8 +14,8 @@ overflow_add-p c = search acts_turn
 pub key_at-found-requires : goal.key_at-found-requires
 key_at-found-requires c = search acts_turn
 
-pub overflow_add-p-in-Good : goal.overflow_add-p-in-Good
-overflow_add-p-in-Good c = search acts_turn
+pub overflow_add-p-in-loop-p : goal.overflow_add-p-in-loop-p
+overflow_add-p-in-loop-p c = search acts_turn
 
 pub slice_bounds-deletes-count : goal.slice_bounds-deletes-count
 slice_bounds-deletes-count c = search acts_turn
@@ -30,22 +30,22 @@ pub deletes-gone-requires : goal.deletes-gone-requires
 deletes-gone-requires c = search acts_turn
 
 pub returns-then-gone : goal.returns-then-gone
-returns-then-gone c = seeking_found _ _ _ _ _ _ c.loop-p.invariant c.loop-p-test.true _ c.stated_at.ensures _ _ _ _ c.in-Good.is _ c.key_at-found.ensures.0 _ c.deletes-gone.ensures c.if-gone.true
+returns-then-gone c = seeking_found _ _ _ _ _ _ c.loop-p.invariant c.loop-p-test.true _ c.stated_at.ensures _ c.in-Ok.is _ c.key_at-found.ensures.0 _ c.deletes-gone.ensures c.if-gone.true
 
-pub overflow_add-p-in-Good-2 : goal.overflow_add-p-in-Good-2
-overflow_add-p-in-Good-2 c = search acts_turn
+pub overflow_add-p-in-loop-p-2 : goal.overflow_add-p-in-loop-p-2
+overflow_add-p-in-loop-p-2 c = search acts_turn
 
-pub next-p-requires-in-Good : goal.next-p-requires-in-Good
-next-p-requires-in-Good c = (c.requires.0, seeking_leads _ _ _ _ _ _ c.loop-p.invariant c.loop-p-test.true _ c.stated_at.ensures _ _ _ _ c.in-Good.is, c.requires.2)
+pub next-p-requires-in-loop-p : goal.next-p-requires-in-loop-p
+next-p-requires-in-loop-p c = (c.requires.0, seeking_leads _ _ _ _ _ _ c.loop-p.invariant c.loop-p-test.true _ c.stated_at.ensures _ c.in-Ok.is, c.requires.2)
 
 pub loop-p-smaller : goal.loop-p-smaller
-loop-p-smaller c = seeking_falls _ _ _ _ _ _ c.loop-p.invariant c.loop-p-test.true _ c.stated_at.ensures _ _ _ _ c.in-Good.is _ c.next-p-in-Good.ensures
+loop-p-smaller c = seeking_falls _ _ _ _ _ _ c.loop-p.invariant c.loop-p-test.true _ c.stated_at.ensures _ c.in-Ok.is _ c.next-p-in-loop-p.ensures
 
 pub loop-p-preserved : goal.loop-p-preserved
-loop-p-preserved c = seeking_more _ _ _ _ _ _ c.loop-p.invariant c.loop-p-test.true _ c.stated_at.ensures _ _ _ _ c.in-Good.is _ c.key_at-found.ensures.0 _ c.deletes-gone.ensures _ c.next-p-in-Good.ensures
+loop-p-preserved c = seeking_more _ _ _ _ _ _ c.loop-p.invariant c.loop-p-test.true _ c.stated_at.ensures _ c.in-Ok.is _ c.key_at-found.ensures.0 _ c.deletes-gone.ensures _ c.next-p-in-loop-p.ensures
 
-pub returns-in-Refused : goal.returns-in-Refused
-returns-in-Refused c = search acts_turn
+pub returns-in_default : goal.returns-in_default
+returns-in_default c = search acts_turn
 
 pub returns : goal.returns
 returns c = deleted_over _ _ _ c.loop-p-test.false _ _ c.loop-p.invariant.answer

@@ -9,8 +9,8 @@ use mathlib.Core.Path.{◌≡◌}
 use Prim.Native.Nat.{◌-◌}
 use Rattle.composing.proofs.naming.fields_stand.Given as goal
 
-abbrev pub invariant-loop-tag : goal.invariant-loop-tag
-invariant-loop-tag l = (all_readable (fields_at l.r l.h l.q) ≡ true) × Remain l.u l.us l.flags (gather field_keys (fields_at l.r l.h l.q)) (gather field_keys (fields_at l.r l.h 24))
+abbrev pub invariant-loop-field : goal.invariant-loop-field
+invariant-loop-field l = (all_readable (fields_at l.r l.h l.q) ≡ true) × Remain l.u l.us l.flags (gather field_keys (fields_at l.r l.h l.q)) (gather field_keys (fields_at l.r l.h 24))
 
-abbrev pub decreases-loop-tag : goal.decreases-loop-tag
-decreases-loop-tag l = length l.r - l.q
+abbrev pub decreases-loop-field : goal.decreases-loop-field
+decreases-loop-field l = length l.r - l.q

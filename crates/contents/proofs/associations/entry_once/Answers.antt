@@ -2,8 +2,8 @@ use Rattle.contents.proofs.OnceLaws.{entry_ways}
 use borrow.Author.Rules.{rules}
 use Rattle.contents.proofs.associations.entry_once.Goals as goal
 
-pub returns-then-tag-ne1397768531 : goal.returns-then-tag-ne1397768531
-returns-then-tag-ne1397768531 c = search entry_ways
+pub returns-then-tag-ne-SPAS : goal.returns-then-tag-ne-SPAS
+returns-then-tag-ne-SPAS c = search entry_ways
 
 pub slice_bounds-field_once-count : goal.slice_bounds-field_once-count
 slice_bounds-field_once-count c = search entry_ways
@@ -17,8 +17,8 @@ slice_bounds-field_once-end c = search entry_ways
 pub field_once-requires : goal.field_once-requires
 field_once-requires c = (search rules, search rules, search entry_ways, search entry_ways, search rules)
 
-pub returns-in-At : goal.returns-in-At
-returns-in-At c = search entry_ways
+pub returns-in-Some : goal.returns-in-Some
+returns-in-Some c = search entry_ways
 
-pub returns-in-Done : goal.returns-in-Done
-returns-in-Done c = search entry_ways
+pub returns-in-None : goal.returns-in-None
+returns-in-None c = search entry_ways

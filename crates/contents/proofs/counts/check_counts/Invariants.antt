@@ -7,8 +7,8 @@ use Prim.Native.Nat.{◌-◌, ◌≤◌}
 use lib.ListN.{length}
 use Rattle.contents.proofs.counts.check_counts.Given as goal
 
-abbrev pub invariant-loop-tag : goal.invariant-loop-tag
-invariant-loop-tag l = (l.i ≤ l.q) × (all_fit false (fields_at l.r l.h l.q) ≡ true) × (counted_from l.r l.h l.p l.q l.i ≡ counted_from l.r l.h l.p l.p 2)
+abbrev pub invariant-loop-field : goal.invariant-loop-field
+invariant-loop-field l = (l.i ≤ l.q) × (all_fit false (fields_at l.r l.h l.q) ≡ true) × (counted_from l.r l.h l.p l.q l.i ≡ counted_from l.r l.h l.p l.p 2)
 
-abbrev pub decreases-loop-tag : goal.decreases-loop-tag
-decreases-loop-tag l = length l.r - l.q
+abbrev pub decreases-loop-field : goal.decreases-loop-field
+decreases-loop-field l = length l.r - l.q

@@ -1,9 +1,6 @@
 use Rattle.contents.proofs.CountLaws.{miscount_ways}
 use Rattle.contents.proofs.counts.is_miscount.Goals as goal
 
-pub returns-then-tag-ne1129268035 : goal.returns-then-tag-ne1129268035
-returns-then-tag-ne1129268035 c = search miscount_ways
-
 pub le8-requires : goal.le8-requires
 le8-requires c = search miscount_ways
 

@@ -12,6 +12,3 @@ le16-requires c = search inas_key_ways
 
 pub le16-requires-2 : goal.le16-requires-2
 le16-requires-2 c = search inas_key_ways
-
-pub returns : goal.returns
-returns c = search inas_key_ways

@@ -1,14 +1,9 @@
 use Rattle.contents.proofs.FormatLaws.{inas_format_ways}
 use Rattle.contents.proofs.formats.inas_format.Goals as goal
-
-pub returns-then-new : goal.returns-then-new
-returns-then-new c = search inas_format_ways
-
-pub returns-then-b-le9 : goal.returns-then-b-le9
-returns-then-b-le9 c = search inas_format_ways
+use Rattle.contents.proofs.formats.inas_format.Goals.{else-not-new-via-then-not-new+then-b-gt9+else-b-eq2, else-not-new-via-then-not-new+else-b-gt9, else-not-new-via-else-not-new}
 
 pub returns-then-b-eq2 : goal.returns-then-b-eq2
 returns-then-b-eq2 c = search inas_format_ways
 
-pub returns : goal.returns
-returns c = search inas_format_ways
+pub returns-else-not-new : goal.returns-else-not-new
+returns-else-not-new c = elim c.else-not-new.branch [ else-not-new-via-then-not-new+then-b-gt9+else-b-eq2 w ↦ search inas_format_ways | else-not-new-via-then-not-new+else-b-gt9 w ↦ search inas_format_ways | else-not-new-via-else-not-new w ↦ search inas_format_ways ]

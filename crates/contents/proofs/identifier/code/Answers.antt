@@ -7,5 +7,5 @@ le16-requires c = search reader_ways
 pub returns-then-is_coded : goal.returns-then-is_coded
 returns-then-is_coded c = search reader_ways
 
-pub returns : goal.returns
-returns c = search reader_ways
+pub returns-else-is_coded : goal.returns-else-is_coded
+returns-else-is_coded c = search reader_ways

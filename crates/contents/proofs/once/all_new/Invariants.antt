@@ -1,4 +1,3 @@
-use Prim.Native.Nat.{◌-◌, ◌≤◌}
 use mathlib.Core.Path.{◌≡◌}
 use lib.ListN.{length, take}
 use Rattle.skeleton.specs.Place.{fields_at}
@@ -7,7 +6,4 @@ use Rattle.contents.specs.Codes.{codes_in, Apart, Behind}
 use Rattle.contents.proofs.once.all_new.Given as goal
 
 abbrev pub invariant-loop-y : goal.invariant-loop-y
-invariant-loop-y l = (length l.t ≡ length l.initial.t) × (l.y ≤ l.e) × Behind l.r l.h l.p l.y l.w × Met l.b (take l.y (codes_in (fields_at l.r l.h l.p))) l.t × Apart (codes_in (fields_at l.r l.h l.p)) l.y
-
-abbrev pub decreases-loop-y : goal.decreases-loop-y
-decreases-loop-y l = l.e - l.y
+invariant-loop-y l = (length l.t ≡ length l.initial.t) × Behind l.r l.h l.p l.y l.w × Met l.b (take l.y (codes_in (fields_at l.r l.h l.p))) l.t × Apart (codes_in (fields_at l.r l.h l.p)) l.y

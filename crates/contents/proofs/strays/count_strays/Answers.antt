@@ -10,17 +10,14 @@ loop-q-init c = (omega arith, refl, search rules, search level_turn, search rule
 pub bounds-r-q : goal.bounds-r-q
 bounds-r-q c = search level_turn
 
-pub returns-then-r-q-eq30 : goal.returns-then-r-q-eq30
-returns-then-r-q-eq30 c = λ z. search (level_end, arith)
+pub returns : goal.returns
+returns c = λ z. search (level_end, arith)
 
 pub tag_at-tag-requires : goal.tag_at-tag-requires
 tag_at-tag-requires c = search level_turn
 
 pub overflow_add-q-in-loop-q-2 : goal.overflow_add-q-in-loop-q-2
 overflow_add-q-in-loop-q-2 c = search level_turn
-
-pub overflow_add-n : goal.overflow_add-n
-overflow_add-n c = search level_turn
 
 pub loop-q-smaller : goal.loop-q-smaller
 loop-q-smaller c = search level_turn

@@ -4,11 +4,11 @@ use Rattle.contents.proofs.strays.in_field.Goals as goal
 pub returns-then-informed : goal.returns-then-informed
 returns-then-informed c = search field_rises
 
-pub returns-then-tag-eq1229865299 : goal.returns-then-tag-eq1229865299
-returns-then-tag-eq1229865299 c = search field_rises
+pub returns-then-tag-eq-INAS : goal.returns-then-tag-eq-INAS
+returns-then-tag-eq-INAS c = search field_rises
 
-pub returns-then-tag-ne1397768531 : goal.returns-then-tag-ne1397768531
-returns-then-tag-ne1397768531 c = search field_rises
+pub returns-then-tag-ne-SPAS : goal.returns-then-tag-ne-SPAS
+returns-then-tag-ne-SPAS c = search field_rises
 
 pub slice_bounds-in_spas-count : goal.slice_bounds-in_spas-count
 slice_bounds-in_spas-count c = search field_rises
@@ -22,8 +22,8 @@ slice_bounds-in_spas-end c = search field_rises
 pub in_spas-requires : goal.in_spas-requires
 in_spas-requires c = search field_rises
 
-pub returns-in-At : goal.returns-in-At
-returns-in-At c = search field_rises
+pub returns-in-Some : goal.returns-in-Some
+returns-in-Some c = search field_rises
 
-pub returns-in-Done : goal.returns-in-Done
-returns-in-Done c = search field_rises
+pub returns-in-None : goal.returns-in-None
+returns-in-None c = search field_rises

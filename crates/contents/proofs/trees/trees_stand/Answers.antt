@@ -1,26 +1,20 @@
-use mathlib.Core.Path.{refl}
 use Rattle.contents.proofs.TreeLaws.{trees_turn}
-use borrow.Author.Rules.{rules}
-use native.Mathlib.Omega.{arith}
 use Rattle.contents.proofs.trees.trees_stand.Goals as goal
 
-pub loop-tag-init : goal.loop-tag-init
-loop-tag-init c = (omega arith, search rules, refl)
+pub tree_stands-requires : goal.tree_stands-requires
+tree_stands-requires c = search trees_turn
 
-pub faulty_tuple-j-requires : goal.faulty_tuple-j-requires
-faulty_tuple-j-requires c = search trees_turn
-
-pub returns-then-j-ne0 : goal.returns-then-j-ne0
-returns-then-j-ne0 c = search trees_turn
+pub returns-in-Err : goal.returns-in-Err
+returns-in-Err c = search trees_turn
 
 pub overflow_add-i : goal.overflow_add-i
 overflow_add-i c = search trees_turn
 
-pub loop-tag-smaller : goal.loop-tag-smaller
-loop-tag-smaller c = search trees_turn
+pub loop-field-smaller : goal.loop-field-smaller
+loop-field-smaller c = search trees_turn
 
-pub loop-tag-preserved : goal.loop-tag-preserved
-loop-tag-preserved c = search trees_turn
+pub loop-field-preserved : goal.loop-field-preserved
+loop-field-preserved c = search trees_turn
 
-pub returns-in-Done : goal.returns-in-Done
-returns-in-Done c = search trees_turn
+pub returns : goal.returns
+returns c = search trees_turn

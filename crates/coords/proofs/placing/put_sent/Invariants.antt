@@ -8,8 +8,8 @@ use Rattle.coords.specs.Tuples.{tuples_of}
 use Rattle.coords.specs.Placing.{Putting}
 use Rattle.coords.proofs.placing.put_sent.Given as goal
 
-abbrev pub invariant-loop-tag : goal.invariant-loop-tag
-invariant-loop-tag l = Putting (fields_at l.r l.h l.q) l.l l.m l.j (take l.i (tuples_of l.initial.l l.n) ++ (sent (fields_at l.r l.h 24) ++ drop l.i (tuples_of l.initial.l l.n))) × (length l.l ≡ length l.initial.l)
+abbrev pub invariant-loop-field : goal.invariant-loop-field
+invariant-loop-field l = Putting (fields_at l.r l.h l.q) l.l l.m l.j (take l.i (tuples_of l.initial.l l.n) ++ (sent (fields_at l.r l.h 24) ++ drop l.i (tuples_of l.initial.l l.n))) × (length l.l ≡ length l.initial.l)
 
-abbrev pub decreases-loop-tag : goal.decreases-loop-tag
-decreases-loop-tag l = length l.r - l.q
+abbrev pub decreases-loop-field : goal.decreases-loop-field
+decreases-loop-field l = length l.r - l.q

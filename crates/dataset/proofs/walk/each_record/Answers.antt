@@ -8,12 +8,6 @@ use Rattle.dataset.proofs.walk.each_record.Goals as goal
 pub loop-p-init : goal.loop-p-init
 loop-p-init c = (omega arith, omega arith, refl, walk_start _ _, search rules, ahead_start _ _)
 
-pub returns-then-f-p : goal.returns-then-f-p
-returns-then-f-p c = search walk_turn
-
-pub admit-requires : goal.admit-requires
-admit-requires c = record { f_len_bound = search walk_turn; standing = search walk_turn }
-
 pub overflow_add-p : goal.overflow_add-p
 overflow_add-p c = search walk_turn
 
@@ -29,11 +23,8 @@ loop-p-preserved c = (search walk_turn, search walk_turn, search rules, search w
 pub overflow_add-result : goal.overflow_add-result
 overflow_add-result c = search walk_turn
 
-pub returns-in-Stop : goal.returns-in-Stop
-returns-in-Stop c = search walk_turn
+pub returns-in-Err : goal.returns-in-Err
+returns-in-Err c = search walk_turn
 
-pub overflow_add-result-in-Refused : goal.overflow_add-result-in-Refused
-overflow_add-result-in-Refused c = search walk_turn
-
-pub returns-in-Refused : goal.returns-in-Refused
-returns-in-Refused c = search walk_turn
+pub returns : goal.returns
+returns c = search walk_turn

@@ -1,5 +1,6 @@
 use mathlib.Core.Path.{refl, sym, ◌∙◌}
 use mathlib.Core.List.{[]}
+use Rattle.std.proofs.lemmas.Result.{err_from_is_err_and}
 use Rattle.tree.proofs.CountLaws.{past_above}
 use Rattle.items.proofs.TupleLaws.{tuples_past, tuples_next}
 use Rattle.edits.proofs.ReadLaws.{valued_text}
@@ -76,23 +77,25 @@ acts-shape_of-w-then-number-parent t c = c.loop-a.invariant.long
 pub acts-returns-then-number-parent : goal.acts-returns-then-number-parent
 acts-returns-then-number-parent t c = λ s. acts_other _ _ _ _ _ _ _ _ _ _ _ _ _ _ c.loop-a.invariant s c.loop-a-test.true (λ e. c.if-number-parent.true (c.number.ensures.0 ∙ e))
 
-pub acts-act-one-requires : goal.acts-act-one-requires
-acts-act-one-requires t c = let p = c.requires in
+pub acts-act-requires : goal.acts-act-requires
+acts-act-requires t c = let p = c.requires in
     let i = c.loop-a.invariant in
     let t = c.loop-a-test.true in
     (omega arith, (i.whole, t, p.1, p.2, i.slow, i.room, p.5, omega arith, omega arith))
 
-pub acts-shape_of-w-in-No : goal.acts-shape_of-w-in-No
-acts-shape_of-w-in-No t c = c.act-one.auto.w ∙ c.loop-a.invariant.long
+pub acts-shape_of-w-in_err-a : goal.acts-shape_of-w-in_err-a
+acts-shape_of-w-in_err-a t c = c.act.auto.w ∙ c.loop-a.invariant.long
 
-pub acts-returns-in-No : goal.acts-returns-in-No
-acts-returns-in-No t c = λ s. acts_no _ _ _ _ _ _ _ _ _ _ _ _ _ _ c.loop-a.invariant c.loop-a-test.true (sym c.number.ensures.0 ∙ c.if-number-parent.false) _ _ c.act-one.ensures s _ _ c.in-No.is
+pub acts-returns-in_err-a : goal.acts-returns-in_err-a
+acts-returns-in_err-a t c =
+    let p = err_from_is_err_and c.from_residual.result c.from_residual.ensures.1 in
+    rw (p.1, p.2) (λ s. acts_no _ _ _ _ _ _ _ _ _ _ _ _ _ _ c.loop-a.invariant c.loop-a-test.true (sym c.number.ensures.0 ∙ c.if-number-parent.false) _ _ c.act.ensures s _ c.in_err-a.was)
 
 pub acts-loop-a-smaller : goal.acts-loop-a-smaller
-acts-loop-a-smaller t c = omega (arith, acts_past _ _ _ _ _ _ _ _ _ _ _ _ _ _ c.loop-a.invariant c.loop-a-test.true (sym c.number.ensures.0 ∙ c.if-number-parent.false) _ _ c.act-one.ensures _ _ _ c.in-Upto.is)
+acts-loop-a-smaller t c = omega (arith, acts_past _ _ _ _ _ _ _ _ _ _ _ _ _ _ c.loop-a.invariant c.loop-a-test.true (sym c.number.ensures.0 ∙ c.if-number-parent.false) _ _ c.act.ensures _ c.in_ok-a.was)
 
 pub acts-loop-a-preserved : goal.acts-loop-a-preserved
-acts-loop-a-preserved t c = acts_turn _ _ _ _ _ _ _ _ _ _ _ _ _ _ c.loop-a.invariant c.loop-a-test.true (sym c.number.ensures.0 ∙ c.if-number-parent.false) _ _ c.act-one.ensures _ _ _ c.in-Upto.is c.act-one.auto.w
+acts-loop-a-preserved t c = acts_turn _ _ _ _ _ _ _ _ _ _ _ _ _ _ c.loop-a.invariant c.loop-a-test.true (sym c.number.ensures.0 ∙ c.if-number-parent.false) _ _ c.act.ensures _ c.in_ok-a.was c.act.auto.w
 
 pub acts-shape_of-w : goal.acts-shape_of-w
 acts-shape_of-w t c = c.loop-a.invariant.long

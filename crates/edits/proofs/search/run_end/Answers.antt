@@ -24,21 +24,15 @@ pub returns-then-number-depth : goal.returns-then-number-depth
 returns-then-number-depth c = let a = c.args in
     let l = c.loop-i in
     let out : depth_of a.w.now l.i < a.depth = omega (arith, c.number.ensures.0) in
-    sym (end_here a.w.now l.i a.n a.depth c.loop-i-test.true out) ∙ l.invariant
-
-pub overflow_add-i : goal.overflow_add-i
-overflow_add-i c = omega arith
-
-pub loop-i-smaller : goal.loop-i-smaller
-loop-i-smaller c = omega arith
+    sym (end_here a.w.now l.i a.n a.depth (omega arith) out) ∙ l.invariant
 
 pub loop-i-preserved : goal.loop-i-preserved
 loop-i-preserved c = let a = c.args in
     let l = c.loop-i in
     let in-run : a.depth ≤ depth_of a.w.now l.i = omega (arith, c.number.ensures.0) in
-    sym (end_on a.w.now l.i a.n a.depth c.loop-i-test.true in-run) ∙ l.invariant
+    sym (end_on a.w.now l.i a.n a.depth (omega arith) in-run) ∙ l.invariant
 
 pub returns : goal.returns
 returns c = let a = c.args in
     let l = c.loop-i in
-    sym (end_end a.w.now l.i a.n a.depth c.loop-i-test.false) ∙ l.invariant
+    sym (end_end a.w.now l.i a.n a.depth (omega arith)) ∙ l.invariant

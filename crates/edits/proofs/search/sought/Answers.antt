@@ -4,5 +4,5 @@ use Rattle.edits.proofs.search.sought.Goals as goal
 pub returns-then-k-eq0 : goal.returns-then-k-eq0
 returns-then-k-eq0 c = rw (eq-eqb c.args.k 0 c.if-k-eq0.true)
 
-pub returns : goal.returns
-returns c = rw (ne_eqb c.args.k 0 c.if-k-eq0.false)
+pub returns-else-k-eq0 : goal.returns-else-k-eq0
+returns-else-k-eq0 c = rw (ne_eqb c.args.k 0 c.if-k-eq0.false)

@@ -1,5 +1,4 @@
 use Rattle.emission.proofs.BodiesLaws.{bodies_ways}
-use native.Mathlib.Omega.{arith}
 use Rattle.emission.proofs.bodies.put_bodies.Goals as goal
 
 pub loop-i-init : goal.loop-i-init
@@ -7,12 +6,6 @@ loop-i-init c = search bodies_ways
 
 pub put_body-p-requires : goal.put_body-p-requires
 put_body-p-requires c = search bodies_ways
-
-pub overflow_add-i : goal.overflow_add-i
-overflow_add-i c = omega arith
-
-pub loop-i-smaller : goal.loop-i-smaller
-loop-i-smaller c = omega arith
 
 pub loop-i-preserved : goal.loop-i-preserved
 loop-i-preserved c = search bodies_ways

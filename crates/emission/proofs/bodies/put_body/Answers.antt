@@ -7,8 +7,8 @@ put_inside-requires c = search body_ways
 pub returns-then-c-i-eq0 : goal.returns-then-c-i-eq0
 returns-then-c-i-eq0 c = search body_ways
 
-pub put_inside-requires-2 : goal.put_inside-requires-2
-put_inside-requires-2 c = search body_ways
+pub put_inside-requires-else-c-i-eq0 : goal.put_inside-requires-else-c-i-eq0
+put_inside-requires-else-c-i-eq0 c = search body_ways
 
-pub returns : goal.returns
-returns c = search body_ways
+pub returns-else-c-i-eq0 : goal.returns-else-c-i-eq0
+returns-else-c-i-eq0 c = search body_ways

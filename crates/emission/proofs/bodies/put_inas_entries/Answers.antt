@@ -1,6 +1,5 @@
 use Rattle.emission.proofs.BodiesLaws.{entries_end}
 use Rattle.emission.proofs.BodiesLaws.{entries_ways}
-use native.Mathlib.Omega.{arith}
 use Rattle.emission.proofs.bodies.put_inas_entries.Goals as goal
 
 pub loop-i-init : goal.loop-i-init
@@ -17,12 +16,6 @@ put_entry-p-requires c = search entries_ways
 
 pub overflow_add-pos : goal.overflow_add-pos
 overflow_add-pos c = search entries_ways
-
-pub overflow_add-i : goal.overflow_add-i
-overflow_add-i c = omega arith
-
-pub loop-i-smaller : goal.loop-i-smaller
-loop-i-smaller c = omega arith
 
 pub loop-i-preserved : goal.loop-i-preserved
 loop-i-preserved c = search entries_ways

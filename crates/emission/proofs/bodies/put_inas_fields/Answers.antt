@@ -1,5 +1,4 @@
 use Rattle.emission.proofs.BodiesLaws.{fields_ways}
-use native.Mathlib.Omega.{arith}
 use Rattle.emission.proofs.bodies.put_inas_fields.Goals as goal
 
 pub loop-i-init : goal.loop-i-init
@@ -10,12 +9,6 @@ put_body-q-requires c = search fields_ways
 
 pub put_byte-p-requires : goal.put_byte-p-requires
 put_byte-p-requires c = search fields_ways
-
-pub overflow_add-i : goal.overflow_add-i
-overflow_add-i c = omega arith
-
-pub loop-i-smaller : goal.loop-i-smaller
-loop-i-smaller c = omega arith
 
 pub loop-i-preserved : goal.loop-i-preserved
 loop-i-preserved c = search fields_ways

@@ -1,19 +1,12 @@
+use mathlib.Core.Logic.{inl, inr}
 use mathlib.Core.Path.{sym, ap}
 use Rattle.rules.specs.Kind.{coded}
 use Rattle.emission.proofs.identifier.has_code.Goals as goal
 
 pub returns-in-Info : goal.returns-in-Info
 unfolding coded
-returns-in-Info c = ap coded (sym c.in-Info.is)
+returns-in-Info c = elim c.in-Info.is [ inl e ↦ ap coded (sym e) | inr e ↦ ap coded (sym e) ]
 
 pub returns-in-Point : goal.returns-in-Point
 unfolding coded
-returns-in-Point c = ap coded (sym c.in-Point.is)
-
-pub returns-in-Multi : goal.returns-in-Multi
-unfolding coded
-returns-in-Multi c = ap coded (sym c.in-Multi.is)
-
-pub returns-in-Feature : goal.returns-in-Feature
-unfolding coded
-returns-in-Feature c = ap coded (sym c.in-Feature.is)
+returns-in-Point c = elim c.in-Point.is [ inl e ↦ ap coded (sym e) | inr e ↦ ap coded (sym e) ]

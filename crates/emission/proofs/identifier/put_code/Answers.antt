@@ -7,5 +7,5 @@ put_little_endian-requires c = search code_ways
 pub returns-then-has_code : goal.returns-then-has_code
 returns-then-has_code c = search code_ways
 
-pub returns : goal.returns
-returns c = search code_ways
+pub returns-else-has_code : goal.returns-else-has_code
+returns-else-has_code c = search code_ways

@@ -5,5 +5,5 @@ use Rattle.emission.proofs.lists.list_count.Goals as goal
 pub returns-then-n-eq0 : goal.returns-then-n-eq0
 returns-then-n-eq0 c = (no_count _ c.if-n-eq0.true, omega arith)
 
-pub returns : goal.returns
-returns c = (some_count _ c.if-n-eq0.false, omega arith)
+pub returns-else-n-eq0 : goal.returns-else-n-eq0
+returns-else-n-eq0 c = (some_count _ c.if-n-eq0.false, omega arith)

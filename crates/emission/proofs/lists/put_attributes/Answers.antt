@@ -6,7 +6,7 @@ pub returns-then-size-eq0 : goal.returns-then-size-eq0
 returns-then-size-eq0 c = attributes_none _ _ _ _ _ _ _ c.requires.sized.0 c.if-size-eq0.true
 
 pub emit-p-requires : goal.emit-p-requires
-emit-p-requires c = record { n_in_bounds = search attributes_ways; n_in_bounds_2 = search attributes_ways }
+emit-p-requires c = record { n_in_bounds = search attributes_ways; room = search attributes_ways }
 
 pub put_byte-requires : goal.put_byte-requires
 put_byte-requires c = search attributes_ways

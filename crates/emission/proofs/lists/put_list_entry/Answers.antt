@@ -7,5 +7,5 @@ returns-then-n-eq0 c = search entry_ways
 pub put_entry-requires : goal.put_entry-requires
 put_entry-requires c = search entry_ways
 
-pub returns : goal.returns
-returns c = search entry_ways
+pub returns-else-n-eq0 : goal.returns-else-n-eq0
+returns-else-n-eq0 c = search entry_ways

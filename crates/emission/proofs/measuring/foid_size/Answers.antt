@@ -7,6 +7,6 @@ pub returns-then-foids-eq0 : goal.returns-then-foids-eq0
 unfolding foid_size
 returns-then-foids-eq0 c = let e = eq-eqb c.args.foids 0 c.if-foids-eq0.true in (rw e, omega arith)
 
-pub returns : goal.returns
+pub returns-else-foids-eq0 : goal.returns-else-foids-eq0
 unfolding foid_size
-returns c = let e = ne_eqb c.args.foids 0 c.if-foids-eq0.false in (rw e, omega arith)
+returns-else-foids-eq0 c = let e = ne_eqb c.args.foids 0 c.if-foids-eq0.false in (rw e, omega arith)

@@ -24,7 +24,7 @@ pub put_byte-p3-requires : goal.put_byte-p3-requires
 put_byte-p3-requires c = record_mark c.args.d.now c.args.u.now c.args.list.now c.args.inas.now c.args.spas.now c.args.v c.args.m c.args.at c.args.out.now c.requires _ c.sum_up-s.ensures _ _ c.put_leader-p1.ensures _ _ c.put_directory-p2.ensures c.put_directory-p2.auto.out
 
 pub put_contents-requires : goal.put_contents-requires
-put_contents-requires c = let g = record_contents c.args.d.now c.args.u.now c.args.list.now c.args.inas.now c.args.spas.now c.args.v c.args.m c.args.at c.args.out.now c.requires _ c.sum_up-s.ensures _ _ c.put_leader-p1.ensures _ _ c.put_directory-p2.ensures c.put_directory-p2.auto.out _ _ c.put_byte-p3.ensures in record { indexed = g.0; m_in_bounds = g.1 }
+put_contents-requires c = let g = record_contents c.args.d.now c.args.u.now c.args.list.now c.args.inas.now c.args.spas.now c.args.v c.args.m c.args.at c.args.out.now c.requires _ c.sum_up-s.ensures _ _ c.put_leader-p1.ensures _ _ c.put_directory-p2.ensures c.put_directory-p2.auto.out _ _ c.put_byte-p3.ensures in record { indexed = g.0; room = g.1 }
 
 pub returns : goal.returns
 returns c = record_written c.args.d.now c.args.u.now c.args.list.now c.args.inas.now c.args.spas.now c.args.v c.args.m c.args.at c.args.out.now c.requires _ c.sum_up-s.ensures _ _ c.put_leader-p1.ensures _ _ c.put_directory-p2.ensures c.put_directory-p2.auto.out _ _ c.put_byte-p3.ensures _ _ c.put_contents.ensures

@@ -1,12 +1,8 @@
 use Rattle.fields.specs.Places.{all_raw}
 use Rattle.fields.specs.Rows.{table}
 use lib.Seq.{slice}
-use Prim.Native.Nat.{◌≤◌, ◌-◌}
 use mathlib.Core.Path.{◌≡◌}
 use Rattle.fields.proofs.counting.all_raw.Given as goal
 
 abbrev pub invariant-loop-j : goal.invariant-loop-j
-invariant-loop-j l = (l.from ≤ l.j) × (l.j ≤ l.to) × (all_raw (slice l.j l.to table) ≡ all_raw (slice l.from l.to table))
-
-abbrev pub decreases-loop-j : goal.decreases-loop-j
-decreases-loop-j l = l.to - l.j
+invariant-loop-j l = all_raw (slice l.j l.to table) ≡ all_raw (slice l.from l.to table)

@@ -6,8 +6,8 @@ use Rattle.fields.proofs.counting.tally_each.Goals as goal
 pub loop-p-init : goal.loop-p-init
 loop-p-init c = (search rules, search rules, refl)
 
-pub returns-in-Bad : goal.returns-in-Bad
-returns-in-Bad c = search tally_turn
+pub returns-in_default : goal.returns-in_default
+returns-in_default c = search tally_turn
 
 pub returns-then-n-p : goal.returns-then-n-p
 returns-then-n-p c = search tally_turn

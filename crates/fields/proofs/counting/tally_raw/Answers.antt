@@ -20,7 +20,7 @@ returns-then-left-width-eq0 c = search raw_turn
 
 pub overflow_add-result : goal.overflow_add-result
 overflow_add-result c = let a = c.args in
-    let width = c.in-At.n - a.at in
+    let width = c.in-Some.n - a.at in
     omega (arith, div-le_self (length a.b.now - a.at) width)
 
 pub returns : goal.returns

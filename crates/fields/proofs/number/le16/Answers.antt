@@ -1,19 +1,6 @@
 use Rattle.fields.proofs.ByteLaws.{le2}
-use Prim.Native.Nat.{◌+◌}
 use native.Mathlib.Omega.{arith}
 use Rattle.fields.proofs.number.le16.Goals as goal
-
-pub overflow_cast-low : goal.overflow_cast-low
-overflow_cast-low c = omega (arith, c.type_inv.b c.args.at)
-
-pub overflow_cast-high : goal.overflow_cast-high
-overflow_cast-high c = omega (arith, c.type_inv.b (c.args.at + 1))
-
-pub overflow_mul-result : goal.overflow_mul-result
-overflow_mul-result c = omega (arith, c.type_inv.b (c.args.at + 1))
-
-pub overflow_add-result : goal.overflow_add-result
-overflow_add-result c = omega (arith, c.type_inv.b (c.args.at + 1), c.type_inv.b c.args.at)
 
 pub returns : goal.returns
 returns c = omega (arith, le2 c.args.b.now c.args.at c.requires)

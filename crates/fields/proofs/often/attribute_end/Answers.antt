@@ -1,29 +1,30 @@
+use mathlib.Core.Path.{◌∙◌}
 use Rattle.fields.proofs.OftenLaws.{often_turn, often_in}
 use Rattle.fields.proofs.often.attribute_end.Goals as goal
 
-pub returns-in_default : goal.returns-in_default
-returns-in_default c = search often_turn
+pub returns-in_err-p : goal.returns-in_err-p
+returns-in_err-p c = c.from_residual.ensures ∙ search (often_turn, c.in_err-p.was)
 
 pub ranged16-requires-2 : goal.ranged16-requires-2
-ranged16-requires-2 c = search often_in
+ranged16-requires-2 c = search (often_in, c.in_ok-p.was)
 
-pub returns-in_default-ranged16 : goal.returns-in_default-ranged16
-returns-in_default-ranged16 c = search often_turn
+pub returns-in_err-q : goal.returns-in_err-q
+returns-in_err-q c = c.from_residual-in_err-q.ensures ∙ search (often_turn, c.in_ok-p.was, c.in_err-q.was)
 
 pub any_bytes-requires : goal.any_bytes-requires
-any_bytes-requires c = search often_in
+any_bytes-requires c = search (often_in, c.in_ok-p.was, c.in_ok-q.was)
 
-pub returns-in_default-any_bytes : goal.returns-in_default-any_bytes
-returns-in_default-any_bytes c = search often_turn
+pub returns-in_err-s : goal.returns-in_err-s
+returns-in_err-s c = c.from_residual-in_err-s.ensures ∙ search (often_turn, c.in_ok-p.was, c.in_ok-q.was, c.in_err-s.was)
 
 pub ranged8-requires : goal.ranged8-requires
-ranged8-requires c = search often_in
+ranged8-requires c = search (often_in, c.in_ok-p.was, c.in_ok-q.was, c.in_ok-s.was)
 
-pub returns-in_default-ranged8 : goal.returns-in_default-ranged8
-returns-in_default-ranged8 c = search often_turn
+pub returns-in_err-t : goal.returns-in_err-t
+returns-in_err-t c = c.from_residual-in_err-t.ensures ∙ search (often_turn, c.in_ok-p.was, c.in_ok-q.was, c.in_ok-s.was, c.in_err-t.was)
 
 pub ended_text-requires : goal.ended_text-requires
-ended_text-requires c = search often_in
+ended_text-requires c = search (often_in, c.in_ok-p.was, c.in_ok-q.was, c.in_ok-s.was, c.in_ok-t.was)
 
 pub returns : goal.returns
-returns c = search often_turn
+returns c = search (often_turn, c.in_ok-p.was, c.in_ok-q.was, c.in_ok-s.was, c.in_ok-t.was)

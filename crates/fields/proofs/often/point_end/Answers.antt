@@ -1,23 +1,24 @@
+use mathlib.Core.Path.{◌∙◌}
 use Rattle.fields.proofs.OftenLaws.{often_turn, often_in}
 use Rattle.fields.proofs.often.point_end.Goals as goal
 
-pub returns-in_default : goal.returns-in_default
-returns-in_default c = search often_turn
+pub returns-in_err-p : goal.returns-in_err-p
+returns-in_err-p c = c.from_residual.ensures ∙ search (often_turn, c.in_err-p.was)
 
 pub ranged32-requires : goal.ranged32-requires
-ranged32-requires c = search often_in
+ranged32-requires c = search (often_in, c.in_ok-p.was)
 
-pub returns-in_default-ranged32 : goal.returns-in_default-ranged32
-returns-in_default-ranged32 c = search often_turn
+pub returns-in_err-q : goal.returns-in_err-q
+returns-in_err-q c = c.from_residual-in_err-q.ensures ∙ search (often_turn, c.in_ok-p.was, c.in_err-q.was)
 
 pub ranged16-requires : goal.ranged16-requires
-ranged16-requires c = search often_in
+ranged16-requires c = search (often_in, c.in_ok-p.was, c.in_ok-q.was)
 
-pub returns-in_default-ranged16 : goal.returns-in_default-ranged16
-returns-in_default-ranged16 c = search often_turn
+pub returns-in_err-s : goal.returns-in_err-s
+returns-in_err-s c = c.from_residual-in_err-s.ensures ∙ search (often_turn, c.in_ok-p.was, c.in_ok-q.was, c.in_err-s.was)
 
 pub ranged8-requires-2 : goal.ranged8-requires-2
-ranged8-requires-2 c = search often_in
+ranged8-requires-2 c = search (often_in, c.in_ok-p.was, c.in_ok-q.was, c.in_ok-s.was)
 
 pub returns : goal.returns
-returns c = search often_turn
+returns c = search (often_turn, c.in_ok-p.was, c.in_ok-q.was, c.in_ok-s.was)

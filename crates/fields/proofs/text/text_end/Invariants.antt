@@ -1,11 +1,8 @@
 use Rattle.fields.specs.Bytes.{run}
-use lib.ListN.{length, drop}
-use Prim.Native.Nat.{◌≤◌, ◌+◌, ◌-◌}
+use lib.ListN.{drop}
+use Prim.Native.Nat.{◌+◌}
 use mathlib.Core.Path.{◌≡◌}
 use Rattle.fields.proofs.text.text_end.Given as goal
 
 abbrev pub invariant-loop-i : goal.invariant-loop-i
-invariant-loop-i l = (l.i ≤ length l.b) × (l.at + run (drop l.at l.b) ≡ l.i + run (drop l.i l.b))
-
-abbrev pub decreases-loop-i : goal.decreases-loop-i
-decreases-loop-i l = length l.b - l.i
+invariant-loop-i l = l.at + run (drop l.at l.b) ≡ l.i + run (drop l.i l.b)

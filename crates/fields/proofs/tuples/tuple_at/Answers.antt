@@ -8,8 +8,5 @@ returns-then-b-at c = search tuple_turn
 pub rows_end-requires : goal.rows_end-requires
 rows_end-requires c = (search tuple_turn, search tuple_turn, search rules)
 
-pub returns-in_default : goal.returns-in_default
-returns-in_default c = search tuple_turn
-
 pub returns : goal.returns
 returns c = search tuple_turn

@@ -10,8 +10,8 @@ slice_bounds-result-start c = search body_ways
 pub slice_bounds-result-end : goal.slice_bounds-result-end
 slice_bounds-result-end c = search body_ways
 
-pub returns-in-At : goal.returns-in-At
-returns-in-At c = search body_ways
+pub returns-in-Some : goal.returns-in-Some
+returns-in-Some c = search body_ways
 
-pub returns-in-Done : goal.returns-in-Done
-returns-in-Done c = search body_ways
+pub returns-in-None : goal.returns-in-None
+returns-in-None c = search body_ways

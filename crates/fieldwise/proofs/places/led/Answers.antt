@@ -1,8 +1,8 @@
 use Rattle.fieldwise.proofs.ReaderLaws.{led_ways}
 use Rattle.fieldwise.proofs.places.led.Goals as goal
 
-pub returns-in-Good : goal.returns-in-Good
-returns-in-Good c = search led_ways
+pub returns-in-Ok : goal.returns-in-Ok
+returns-in-Ok c = search led_ways
 
-pub returns-in-Refused : goal.returns-in-Refused
-returns-in-Refused c = search led_ways
+pub returns-in-Err : goal.returns-in-Err
+returns-in-Err c = search led_ways

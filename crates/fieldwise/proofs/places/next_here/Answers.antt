@@ -1,8 +1,8 @@
 use Rattle.fieldwise.proofs.ReaderLaws.{next_ways}
 use Rattle.fieldwise.proofs.places.next_here.Goals as goal
 
-pub returns-in-At : goal.returns-in-At
-returns-in-At c = search next_ways
+pub returns-in-Some : goal.returns-in-Some
+returns-in-Some c = search next_ways
 
-pub returns-in-Done : goal.returns-in-Done
-returns-in-Done c = search next_ways
+pub returns-in-None : goal.returns-in-None
+returns-in-None c = search next_ways

@@ -1,11 +1,8 @@
 use Rattle.following.proofs.MergingLaws.{count_ways}
 use Rattle.following.proofs.merging.count_parts.Goals as goal
 
-pub loop-j-init : goal.loop-j-init
-loop-j-init c = search count_ways
-
-pub tag_of-requires : goal.tag_of-requires
-tag_of-requires c = search count_ways
+pub loop-tag-init : goal.loop-tag-init
+loop-tag-init c = search count_ways
 
 pub part_size-n-requires : goal.part_size-n-requires
 part_size-n-requires c = search count_ways
@@ -19,14 +16,8 @@ overflow_add-fields c = search count_ways
 pub overflow_add-bytes : goal.overflow_add-bytes
 overflow_add-bytes c = search count_ways
 
-pub overflow_add-j : goal.overflow_add-j
-overflow_add-j c = search count_ways
-
-pub loop-j-smaller : goal.loop-j-smaller
-loop-j-smaller c = search count_ways
-
-pub loop-j-preserved : goal.loop-j-preserved
-loop-j-preserved c = search count_ways
+pub loop-tag-preserved : goal.loop-tag-preserved
+loop-tag-preserved c = search count_ways
 
 pub returns : goal.returns
 returns c = search count_ways

@@ -2,24 +2,23 @@ use Rattle.sorting.specs.Places.{Indexed}
 use mathlib.Core.Path.{sym, subst}
 use Rattle.history.proofs.JudgingLaws.{course_rest, course_inside, course_sound, there_playing, there_followed, gone_playing, gone_followed}
 use Rattle.history.proofs.FindingLaws.{located}
-use native.Mathlib.Omega.{arith}
 use borrow.Author.Rules.{rules}
 use Rattle.history.proofs.judging.course.Goals as goal
 
-pub locate-at-requires : goal.locate-at-requires
-locate-at-requires c = record { laid = (c.requires.ready.1, c.requires.ready.0.stock, c.requires.ready.0.once); lim_le_lim = (c.requires.ready.2.runs, c.requires.ready.2.inside, c.requires.ready.2.old) }
+pub locate-requires : goal.locate-requires
+locate-requires c = record { laid = (c.requires.ready.1, c.requires.ready.0.stock, c.requires.ready.0.once); indexed = (c.requires.ready.2.runs, c.requires.ready.2.inside, c.requires.ready.2.old) }
 
 pub load_at-p-requires : goal.load_at-p-requires
-load_at-p-requires c = ((located _ _ c.requires.ready.0.stock c.requires.ready.0.once _ c.requires.ready.1.sound _ c.locate-at.ensures).stock c.if-at-d.true, c.if-at-d.true, c.requires.ready.0.short.old, search rules)
+load_at-p-requires c = let l = located _ _ c.requires.ready.0.stock c.requires.ready.0.once _ c.requires.ready.1.sound _ c.locate.ensures in (l.stock _ c.in-Some.is, l.inside _ c.in-Some.is, c.requires.ready.0.short.old, search rules)
 
 pub follow-requires : goal.follow-requires
-follow-requires c = record { short = (c.requires.ready.0.short, course_rest _ _ _ _ c.requires.ready.0 _ _ c.requires.leads.0 c.requires.leads.1 c.requires.leads.2, course_inside _ _ _ _ c.requires.ready.0 _ _ c.requires.leads.0 c.requires.leads.1 c.requires.leads.2, search rules); sound = (course_sound _ _ _ _ c.requires.ready.0 _ _ c.requires.leads.0 c.requires.leads.1 c.requires.leads.2, c.requires.leads.0, subst (Indexed _ _) (sym c.new_index-index.ensures) c.requires.ready.2.new); playing = there_playing _ _ _ _ c.requires.ready.0 _ _ c.requires.leads.0 c.requires.leads.1 c.requires.leads.2 c.requires.ready.1.sound _ c.locate-at.ensures c.if-at-d.true _ _ c.load_at-p.ensures.0 }
+follow-requires c = record { short = (c.requires.ready.0.short, course_rest _ _ _ _ c.requires.ready.0 _ _ c.requires.leads.0 c.requires.leads.1 c.requires.leads.2, course_inside _ _ _ _ c.requires.ready.0 _ _ c.requires.leads.0 c.requires.leads.1 c.requires.leads.2, search rules); sound = (course_sound _ _ _ _ c.requires.ready.0 _ _ c.requires.leads.0 c.requires.leads.1 c.requires.leads.2, c.requires.leads.0, subst (Indexed _ _) (sym c.new_index-index.ensures) c.requires.ready.2.new); playing = there_playing _ _ _ _ c.requires.ready.0 _ _ c.requires.leads.0 c.requires.leads.1 c.requires.leads.2 c.requires.ready.1.sound _ c.locate.ensures _ c.in-Some.is _ _ c.load_at-p.ensures.0 }
 
-pub returns-then-at-d : goal.returns-then-at-d
-returns-then-at-d c = there_followed _ _ _ _ c.requires.ready.0 _ _ c.requires.leads.0 c.requires.leads.1 c.requires.leads.2 c.requires.ready.1.sound _ c.locate-at.ensures c.if-at-d.true _ _ c.load_at-p.ensures.0 c.args.work.now c.load_at-p.ensures.1 _ _ c.follow.ensures
+pub returns-in-Some : goal.returns-in-Some
+returns-in-Some c = there_followed _ _ _ _ c.requires.ready.0 _ _ c.requires.leads.0 c.requires.leads.1 c.requires.leads.2 c.requires.ready.1.sound _ c.locate.ensures _ c.in-Some.is _ _ c.load_at-p.ensures.0 c.args.work.now c.load_at-p.ensures.1 _ _ c.follow.ensures
 
-pub follow-requires-2 : goal.follow-requires-2
-follow-requires-2 c = record { short = (c.requires.ready.0.short, course_rest _ _ _ _ c.requires.ready.0 _ _ c.requires.leads.0 c.requires.leads.1 c.requires.leads.2, course_inside _ _ _ _ c.requires.ready.0 _ _ c.requires.leads.0 c.requires.leads.1 c.requires.leads.2, search rules); sound = (course_sound _ _ _ _ c.requires.ready.0 _ _ c.requires.leads.0 c.requires.leads.1 c.requires.leads.2, c.requires.leads.0, subst (Indexed _ _) (sym c.new_index-index.ensures) c.requires.ready.2.new); playing = gone_playing _ _ _ _ c.requires.ready.0 _ _ c.requires.leads.0 c.requires.leads.1 c.requires.leads.2 c.requires.ready.1.sound _ c.locate-at.ensures _ }
+pub follow-requires-in_default : goal.follow-requires-in_default
+follow-requires-in_default c = record { short = (c.requires.ready.0.short, course_rest _ _ _ _ c.requires.ready.0 _ _ c.requires.leads.0 c.requires.leads.1 c.requires.leads.2, course_inside _ _ _ _ c.requires.ready.0 _ _ c.requires.leads.0 c.requires.leads.1 c.requires.leads.2, search rules); sound = (course_sound _ _ _ _ c.requires.ready.0 _ _ c.requires.leads.0 c.requires.leads.1 c.requires.leads.2, c.requires.leads.0, subst (Indexed _ _) (sym c.new_index-index.ensures) c.requires.ready.2.new); playing = gone_playing _ _ _ _ c.requires.ready.0 _ _ c.requires.leads.0 c.requires.leads.1 c.requires.leads.2 c.requires.ready.1.sound _ c.locate.ensures _ }
 
-pub returns : goal.returns
-returns c = gone_followed _ _ _ _ c.requires.ready.0 _ _ c.requires.leads.0 c.requires.leads.1 c.requires.leads.2 c.requires.ready.1.sound _ c.locate-at.ensures (omega arith) _ _ _ c.follow-2.ensures
+pub returns-in_default : goal.returns-in_default
+returns-in_default c = gone_followed _ _ _ _ c.requires.ready.0 _ _ c.requires.leads.0 c.requires.leads.1 c.requires.leads.2 c.requires.ready.1.sound _ c.locate.ensures c.in_default.is _ _ _ c.follow-in_default.ensures

@@ -7,8 +7,8 @@ overflow_add-p c = search look_ways
 pub key_at-requires : goal.key_at-requires
 key_at-requires c = search look_ways
 
-pub returns-in-Good : goal.returns-in-Good
-returns-in-Good c = search look_ways
+pub returns : goal.returns
+returns c = search look_ways
 
-pub returns-in-Refused : goal.returns-in-Refused
-returns-in-Refused c = search look_ways
+pub returns-in_err-head : goal.returns-in_err-head
+returns-in_err-head c = search look_ways

@@ -1,17 +1,17 @@
 use Rattle.keys.proofs.KeyLaws.{rank_ways}
 use Rattle.keys.proofs.look.rank.Goals as goal
 
-pub returns-then-rcnm-eq150 : goal.returns-then-rcnm-eq150
-returns-then-rcnm-eq150 c = search rank_ways
+pub returns-in-150 : goal.returns-in-150
+returns-in-150 c = search rank_ways
 
-pub returns-then-rcnm-eq110 : goal.returns-then-rcnm-eq110
-returns-then-rcnm-eq110 c = search rank_ways
+pub returns-in-110 : goal.returns-in-110
+returns-in-110 c = search rank_ways
 
-pub returns-then-rcnm-eq115 : goal.returns-then-rcnm-eq115
-returns-then-rcnm-eq115 c = search rank_ways
+pub returns-in-115 : goal.returns-in-115
+returns-in-115 c = search rank_ways
 
-pub returns-then-rcnm-eq100 : goal.returns-then-rcnm-eq100
-returns-then-rcnm-eq100 c = search rank_ways
+pub returns-in-100 : goal.returns-in-100
+returns-in-100 c = search rank_ways
 
-pub returns : goal.returns
-returns c = search rank_ways
+pub returns-in_default : goal.returns-in_default
+returns-in_default c = search rank_ways

@@ -1,8 +1,8 @@
 use Rattle.keys.proofs.SlotLaws.{note_ways}
 use Rattle.keys.proofs.slots.note.Goals as goal
 
-pub returns-then-s-lt262144 : goal.returns-then-s-lt262144
-returns-then-s-lt262144 c = search note_ways
+pub returns-in-Some : goal.returns-in-Some
+returns-in-Some c = search note_ways
 
-pub returns-else-s-lt262144 : goal.returns-else-s-lt262144
-returns-else-s-lt262144 c = search note_ways
+pub returns-in_default : goal.returns-in_default
+returns-in_default c = search note_ways

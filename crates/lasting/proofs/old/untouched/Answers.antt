@@ -10,7 +10,7 @@ pub slice_bounds-make_untouched-end : goal.slice_bounds-make_untouched-end
 slice_bounds-make_untouched-end c = old_inside _ _ _ _ _ _ _ _ c.requires.0.3 _ _ _ _ c.requires.1.1
 
 pub make_untouched-requires : goal.make_untouched-requires
-make_untouched-requires c = record { noted = (whole_noted _ _ _ _ _ _ _ _ c.requires.0.3 _ _ c.requires.3, flags_room _ _ _ _ _ _ _ _ c.requires.0.3 _ c.flags_of-flags.ensures, old_bounded _ _ _ _ _ _ _ _ c.requires.0.3 _ _ _ _ c.requires.1.1, old_small _ _ _ _ _ _ _ _ c.requires.0.3 _ _ _ _ c.requires.1.1, old_readable _ _ _ _ _ _ _ _ c.requires.0.3 _ _ _ _ c.requires.1.1); to_bound = (c.requires.2, old_short _ _ _ _ _ _ _ _ c.requires.0.3 _ _ _ _ c.requires.1.1 (λ k. omega (arith, c.type_inv.d k))) }
+make_untouched-requires c = record { noted = (whole_noted _ _ _ _ _ _ _ _ c.requires.0.3 _ _ c.requires.3, flags_room _ _ _ _ _ _ _ _ c.requires.0.3 _ c.flags_of-flags.ensures, old_bounded _ _ _ _ _ _ _ _ c.requires.0.3 _ _ _ _ c.requires.1.1, old_small _ _ _ _ _ _ _ _ c.requires.0.3 _ _ _ _ c.requires.1.1, old_readable _ _ _ _ _ _ _ _ c.requires.0.3 _ _ _ _ c.requires.1.1); short = (c.requires.2, old_short _ _ _ _ _ _ _ _ c.requires.0.3 _ _ _ _ c.requires.1.1 (λ k. omega (arith, c.type_inv.d k))) }
 
 pub returns : goal.returns
 returns c = same_step _ _ _ _ _ _ _ _ c.requires.0.3 _ _ _ _ _ _ (λ k. omega (arith, c.type_inv.d k)) _ c.flags_of-flags.ensures _ _ _ c.make_untouched.ensures c.step_of.ensures

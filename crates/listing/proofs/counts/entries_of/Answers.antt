@@ -1,8 +1,6 @@
-use Rattle.listing.proofs.CountLaws.{entries_of_ways}
+use mathlib.Core.Path.{◌∙◌}
+use Rattle.listing.proofs.CountLaws.{entries_counted}
 use Rattle.listing.proofs.counts.entries_of.Goals as goal
 
-pub returns-in-Whole : goal.returns-in-Whole
-returns-in-Whole c = search entries_of_ways
-
-pub returns-in-Short : goal.returns-in-Short
-returns-in-Short c = search entries_of_ways
+pub returns : goal.returns
+returns c = c.unwrap_or.ensures ∙ entries_counted _ _ c.tally_of.ensures

@@ -7,17 +7,8 @@ loop-k-init c = search text_turn
 pub overflow_add-at : goal.overflow_add-at
 overflow_add-at c = search text_turn
 
-pub bounds-text-k : goal.bounds-text-k
-bounds-text-k c = search text_turn
-
 pub store-requires : goal.store-requires
 store-requires c = search text_turn
-
-pub overflow_add-k : goal.overflow_add-k
-overflow_add-k c = search text_turn
-
-pub loop-k-smaller : goal.loop-k-smaller
-loop-k-smaller c = search text_turn
 
 pub loop-k-preserved : goal.loop-k-preserved
 loop-k-preserved c = search text_turn

@@ -1,10 +1,6 @@
 use lib.ListN.{length}
-use Prim.Native.Nat.{◌-◌}
 use Rattle.memory.proofs.LoopLaws.{Stored}
 use Rattle.listing.proofs.text.put_text.Given as goal
 
 abbrev pub invariant-loop-k : goal.invariant-loop-k
 invariant-loop-k l = Stored l.at (length l.text) l.text l.initial.out 0 l.k l.out
-
-abbrev pub decreases-loop-k : goal.decreases-loop-k
-decreases-loop-k l = length l.text - l.k

@@ -3,8 +3,8 @@ use lib.ListN.{length}
 use Prim.Native.Nat.{◌-◌}
 use Rattle.listing.proofs.walk.put_records.Given as goal
 
-abbrev pub invariant-loop-p : goal.invariant-loop-p
-invariant-loop-p l = Reached l.f l.start l.at l.initial.out l.p l.n l.q l.out
+abbrev pub invariant-loop-head : goal.invariant-loop-head
+invariant-loop-head l = Reached l.f l.start l.at l.initial.out l.p l.n l.q l.out
 
-abbrev pub decreases-loop-p : goal.decreases-loop-p
-decreases-loop-p l = length l.f - l.p
+abbrev pub decreases-loop-head : goal.decreases-loop-head
+decreases-loop-head l = length l.f - l.p

@@ -3,9 +3,9 @@ use Rattle.loading.proofs.AttrLaws.{attr_ready, attr_took}
 use Rattle.version.proofs.AreaLaws.{lent}
 use Rattle.loading.proofs.part.load_attr.Goals as goal
 
-pub load-n-requires : goal.load-n-requires
-load-n-requires c = attr_ready _ _ _ _ _ c.requires
+pub load-attr-requires : goal.load-attr-requires
+load-attr-requires c = attr_ready _ _ _ _ _ c.requires
 
 pub returns : goal.returns
 unfolding lent
-returns c = attr_took _ _ _ _ _ c.requires _ _ _ c.load-n.auto.w c.load-n.ensures
+returns c = attr_took _ _ _ _ _ c.requires _ _ _ c.load-attr.auto.w c.load-attr.ensures

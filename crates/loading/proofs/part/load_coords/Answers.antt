@@ -5,4 +5,4 @@ use Rattle.loading.proofs.part.load_coords.Goals as goal
 
 pub returns : goal.returns
 unfolding lent
-returns c = coords_took _ _ _ _ _ _ _ c.requires c.put_tuples-n.auto.l c.put_tuples-n.ensures
+returns c = coords_took _ _ _ _ _ _ _ c.requires c.put_tuples-coord.auto.l c.put_tuples-coord.ensures

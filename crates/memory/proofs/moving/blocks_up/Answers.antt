@@ -9,18 +9,6 @@ use Rattle.memory.proofs.moving.blocks_up.Goals as goal
 pub loop-k-init : goal.loop-k-init
 loop-k-init c = stored_none _ _ _ _ _ (length_part _ _ _ (omega arith)) (omega arith)
 
-pub overflow_add-from : goal.overflow_add-from
-overflow_add-from c = omega arith
-
-pub overflow_add-at : goal.overflow_add-at
-overflow_add-at c = omega arith
-
-pub move_block-requires : goal.move_block-requires
-move_block-requires c = omega arith
-
-pub loop-k-smaller : goal.loop-k-smaller
-loop-k-smaller c = omega arith
-
 pub loop-k-preserved : goal.loop-k-preserved
 unfolding Outside
 loop-k-preserved c = let a = c.args in

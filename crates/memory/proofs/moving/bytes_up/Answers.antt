@@ -9,30 +9,9 @@ use Rattle.memory.proofs.moving.bytes_up.Goals as goal
 pub loop-k-init : goal.loop-k-init
 loop-k-init c = stored_none _ _ _ _ _ (length_part _ _ _ (omega arith)) (omega arith)
 
-pub overflow_sub-k : goal.overflow_sub-k
-overflow_sub-k c = omega arith
-
-pub overflow_add-w : goal.overflow_add-w
-overflow_add-w c = omega arith
-
-pub bounds-w-from : goal.bounds-w-from
-bounds-w-from c = omega arith
-
-pub overflow_add-w-in-loop-k : goal.overflow_add-w-in-loop-k
-overflow_add-w-in-loop-k c = omega arith
-
-pub bounds-w-at : goal.bounds-w-at
-bounds-w-at c = omega arith
-
-pub loop-k-smaller : goal.loop-k-smaller
-loop-k-smaller c = omega arith
-
 pub loop-k-preserved : goal.loop-k-preserved
 unfolding Outside
 loop-k-preserved c = let l = c.loop-k in stored_down l.invariant c.loop-k-test.true (stored_unread _ l.invariant (l.k - 1) (omega arith) (inl (omega arith)))
-
-pub shape_of-w : goal.shape_of-w
-shape_of-w c = c.loop-k.invariant.long
 
 pub returns : goal.returns
 returns c = stored_all c.loop-k.invariant c.loop-k-test.false (omega arith)

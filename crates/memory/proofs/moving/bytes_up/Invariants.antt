@@ -5,6 +5,3 @@ use Rattle.memory.proofs.moving.bytes_up.Given as goal
 
 abbrev pub invariant-loop-k : goal.invariant-loop-k
 invariant-loop-k l = Stored l.at l.n (part l.from l.n l.initial.w) l.initial.w l.k l.n l.w
-
-abbrev pub decreases-loop-k : goal.decreases-loop-k
-decreases-loop-k l = l.k

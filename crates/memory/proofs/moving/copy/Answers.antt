@@ -8,29 +8,8 @@ use Rattle.memory.proofs.moving.copy.Goals as goal
 pub loop-k-init : goal.loop-k-init
 loop-k-init c = stored_none _ _ _ _ _ (length_part _ _ _ (omega arith)) (omega arith)
 
-pub overflow_add-dst : goal.overflow_add-dst
-overflow_add-dst c = omega arith
-
-pub bounds-src-from : goal.bounds-src-from
-bounds-src-from c = omega arith
-
-pub overflow_add-dst-in-loop-k : goal.overflow_add-dst-in-loop-k
-overflow_add-dst-in-loop-k c = omega arith
-
-pub bounds-dst-at : goal.bounds-dst-at
-bounds-dst-at c = omega arith
-
-pub overflow_add-k : goal.overflow_add-k
-overflow_add-k c = omega arith
-
-pub loop-k-smaller : goal.loop-k-smaller
-loop-k-smaller c = omega arith
-
 pub loop-k-preserved : goal.loop-k-preserved
 loop-k-preserved c = let turn = c.loop-k-test.true in stored_up c.loop-k.invariant turn (sym (get_d_part _ _ _ _ turn))
-
-pub shape_of-dst : goal.shape_of-dst
-shape_of-dst c = c.loop-k.invariant.long
 
 pub returns : goal.returns
 returns c = stored_all c.loop-k.invariant (omega arith) c.loop-k-test.false

@@ -1,11 +1,7 @@
 -- `copy` meets its contract: k of the n bytes are stored. Assumes nothing.
-use Prim.Native.Nat.{◌-◌}
 use Rattle.memory.specs.Put.{part}
 use Rattle.memory.proofs.LoopLaws.{Stored}
 use Rattle.memory.proofs.moving.copy.Given as goal
 
 abbrev pub invariant-loop-k : goal.invariant-loop-k
 invariant-loop-k l = Stored l.at l.n (part l.from l.n l.src) l.initial.dst 0 l.k l.dst
-
-abbrev pub decreases-loop-k : goal.decreases-loop-k
-decreases-loop-k l = l.n - l.k

@@ -8,35 +8,11 @@ use Rattle.memory.proofs.writing.put_decimal.Goals as goal
 pub loop-k-init : goal.loop-k-init
 loop-k-init c = (stored_none _ _ _ _ _ (length_decimal _ _) (omega arith), decimal_start _ _)
 
-pub overflow_sub-k : goal.overflow_sub-k
-overflow_sub-k c = omega arith
-
-pub overflow_add-out : goal.overflow_add-out
-overflow_add-out c = omega arith
-
-pub overflow_cast-out : goal.overflow_cast-out
-overflow_cast-out c = omega arith
-
-pub overflow_add-out-in-loop-k : goal.overflow_add-out-in-loop-k
-overflow_add-out-in-loop-k c = omega arith
-
-pub bounds-out-at : goal.bounds-out-at
-bounds-out-at c = omega arith
-
-pub loop-k-smaller : goal.loop-k-smaller
-loop-k-smaller c = omega arith
-
 pub loop-k-preserved : goal.loop-k-preserved
 loop-k-preserved c = let l = c.loop-k in
     let turn = c.loop-k-test.true in
     let next = decimal_turn _ _ _ turn l.invariant.1 in
     (stored_down l.invariant.0 turn next.0, next.1)
-
-pub overflow_add-result : goal.overflow_add-result
-overflow_add-result c = omega arith
-
-pub shape_of-out : goal.shape_of-out
-shape_of-out c = c.loop-k.invariant.0.long
 
 pub returns : goal.returns
 returns c = wrote (length_decimal _ _) (omega arith) (stored_all c.loop-k.invariant.0 c.loop-k-test.false (omega arith))

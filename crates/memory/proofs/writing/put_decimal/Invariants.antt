@@ -7,6 +7,3 @@ use Rattle.memory.proofs.writing.put_decimal.Given as goal
 
 abbrev pub invariant-loop-k : goal.invariant-loop-k
 invariant-loop-k l = Stored l.at l.w (decimal l.w l.x) l.initial.out l.k l.w l.out × (take l.k (decimal l.w l.x) ≡ decimal l.k l.rest)
-
-abbrev pub decreases-loop-k : goal.decreases-loop-k
-decreases-loop-k l = l.k

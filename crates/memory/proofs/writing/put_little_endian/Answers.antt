@@ -8,32 +8,11 @@ use Rattle.memory.proofs.writing.put_little_endian.Goals as goal
 pub loop-k-init : goal.loop-k-init
 loop-k-init c = (stored_none _ _ _ _ _ (length_little_endian _ _) (omega arith), little_endian_start _ _)
 
-pub overflow_cast-out : goal.overflow_cast-out
-overflow_cast-out c = omega arith
-
-pub overflow_add-out : goal.overflow_add-out
-overflow_add-out c = omega arith
-
-pub bounds-out-at : goal.bounds-out-at
-bounds-out-at c = omega arith
-
-pub overflow_add-k : goal.overflow_add-k
-overflow_add-k c = omega arith
-
-pub loop-k-smaller : goal.loop-k-smaller
-loop-k-smaller c = omega arith
-
 pub loop-k-preserved : goal.loop-k-preserved
 loop-k-preserved c = let l = c.loop-k in
     let turn = c.loop-k-test.true in
     let next = little_endian_turn _ _ _ _ turn l.invariant.1 in
     (stored_up l.invariant.0 turn next.0, next.1)
-
-pub overflow_add-result : goal.overflow_add-result
-overflow_add-result c = omega arith
-
-pub shape_of-out : goal.shape_of-out
-shape_of-out c = c.loop-k.invariant.0.long
 
 pub returns : goal.returns
 returns c = wrote (length_little_endian _ _) (omega arith) (stored_all c.loop-k.invariant.0 (omega arith) c.loop-k-test.false)

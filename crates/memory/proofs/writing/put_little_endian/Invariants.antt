@@ -8,6 +8,3 @@ use Rattle.memory.proofs.writing.put_little_endian.Given as goal
 
 abbrev pub invariant-loop-k : goal.invariant-loop-k
 invariant-loop-k l = Stored l.at l.w (little_endian l.w l.x) l.initial.out 0 l.k l.out × (drop l.k (little_endian l.w l.x) ≡ little_endian (l.w - l.k) l.rest)
-
-abbrev pub decreases-loop-k : goal.decreases-loop-k
-decreases-loop-k l = l.w - l.k

@@ -3,4 +3,4 @@ use Rattle.month.proofs.TurnLaws.{begun_so}
 use Rattle.month.proofs.turns.begun.Goals as goal
 
 pub returns : goal.returns
-returns c = begun_so _ _ c.plain-answer.ensures
+returns c = begun_so _ _ c.plain.ensures

@@ -1,11 +1,11 @@
 use Rattle.numbering.proofs.BackLaws.{twins_ways}
 use Rattle.numbering.proofs.back.twins_before.Goals as goal
 
-pub loop-j-init : goal.loop-j-init
-loop-j-init c = search twins_ways
+pub loop-k-init : goal.loop-k-init
+loop-k-init c = search twins_ways
 
-pub overflow_sub-k : goal.overflow_sub-k
-overflow_sub-k c = search twins_ways
+pub overflow_step-k : goal.overflow_step-k
+overflow_step-k c = search twins_ways
 
 pub overflow_mul-k : goal.overflow_mul-k
 overflow_mul-k c = search twins_ways
@@ -22,11 +22,8 @@ twin-t-requires c = search twins_ways
 pub overflow_add-t : goal.overflow_add-t
 overflow_add-t c = search twins_ways
 
-pub loop-j-smaller : goal.loop-j-smaller
-loop-j-smaller c = search twins_ways
-
-pub loop-j-preserved : goal.loop-j-preserved
-loop-j-preserved c = search twins_ways
+pub loop-k-preserved : goal.loop-k-preserved
+loop-k-preserved c = search twins_ways
 
 pub returns : goal.returns
 returns c = search twins_ways

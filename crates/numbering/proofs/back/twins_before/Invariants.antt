@@ -3,8 +3,5 @@ use Prim.Native.Nat.{◌+◌, ◌≤◌}
 use Rattle.numbering.specs.Numbers.{twins_before}
 use Rattle.numbering.proofs.back.twins_before.Given as goal
 
-abbrev pub invariant-loop-j : goal.invariant-loop-j
-invariant-loop-j l = (l.t + twins_before l.w l.depth l.code l.j ≡ twins_before l.w l.depth l.code l.i) × (l.t + l.j ≤ l.i)
-
-abbrev pub decreases-loop-j : goal.decreases-loop-j
-decreases-loop-j l = l.j
+abbrev pub invariant-loop-k : goal.invariant-loop-k
+invariant-loop-k l = (l.t + twins_before l.w l.depth l.code l.k ≡ twins_before l.w l.depth l.code l.i) × (l.t + l.k ≤ l.i)

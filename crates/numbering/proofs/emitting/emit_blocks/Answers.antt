@@ -10,7 +10,7 @@ pub number_block-requires : goal.number_block-requires
 number_block-requires c = (omega arith, omega arith, omega arith, omega arith, c.loop-i.invariant.1)
 
 pub emit_numbered-p-requires : goal.emit_numbered-p-requires
-emit_numbered-p-requires c = record { x_le_y = (omega arith, omega arith, omega arith, omega arith, c.number_block.ensures.0); y_in_bounds = block_room _ _ _ _ _ _ _ _ _ _ c.loop-i.invariant.0 _ (omega arith) (omega arith) c.requires.n_in_bounds }
+emit_numbered-p-requires c = record { x_le_y = (omega arith, omega arith, omega arith, omega arith, c.number_block.ensures.0); room = block_room _ _ _ _ _ _ _ _ _ _ c.loop-i.invariant.0 _ (omega arith) (omega arith) c.requires.room }
 
 pub loop-i-preserved : goal.loop-i-preserved
 loop-i-preserved c = (block_turn _ _ _ _ _ _ _ _ _ _ c.loop-i.invariant.0 _ (omega arith) (omega arith) _ _ c.emit_numbered-p.ensures, c.number_block.ensures.1, search rules, search rules)

@@ -1,4 +1,4 @@
-use Rattle.numbering.proofs.EmittingLaws.{emit_start, emit_long, emit_room, emit_known, begun_at}
+use Rattle.numbering.proofs.EmittingLaws.{emit_start, emit_long, emit_room, emit_known, begun_at, begun_all}
 use native.Mathlib.Omega.{arith}
 use Rattle.numbering.proofs.emitting.emit_items.Goals as goal
 
@@ -15,7 +15,7 @@ pub next_numbers-x-requires : goal.next_numbers-x-requires
 next_numbers-x-requires c = (omega arith, omega arith, c.loop-i.invariant.1)
 
 pub put_tuple-p-requires : goal.put_tuple-p-requires
-put_tuple-p-requires c = (omega arith, emit_room _ _ _ _ _ _ _ _ _ _ c.loop-i.invariant.0 c.loop-i-test.true c.requires.n_in_bounds_2)
+put_tuple-p-requires c = (omega arith, emit_room _ _ _ _ _ _ _ _ _ _ c.loop-i.invariant.0 c.loop-i-test.true c.requires.room)
 
 pub loop-i-preserved : goal.loop-i-preserved
 loop-i-preserved c = let n = c.next_numbers-x.ensures in
@@ -25,4 +25,4 @@ pub shape_of-out : goal.shape_of-out
 shape_of-out c = emit_long _ _ _ _ _ _ _ _ _ _ c.loop-i.invariant.0
 
 pub returns : goal.returns
-returns c = begun_at _ _ _ _ _ _ _ _ _ c.loop-i.invariant.0
+returns c = begun_all _ _ _ _ _ _ _ _ _ c.loop-i.invariant.0 c.loop-i-test.false

@@ -13,12 +13,6 @@ overflow_add-t c = search size_ways
 pub overflow_add-t-in-loop-i : goal.overflow_add-t-in-loop-i
 overflow_add-t-in-loop-i c = search size_ways
 
-pub overflow_add-i : goal.overflow_add-i
-overflow_add-i c = search size_ways
-
-pub loop-i-smaller : goal.loop-i-smaller
-loop-i-smaller c = search size_ways
-
 pub loop-i-preserved : goal.loop-i-preserved
 loop-i-preserved c = search size_ways
 

@@ -30,12 +30,6 @@ offset_bounds-known-d-in-loop-d c = search runs_ways
 pub bounds-known-d-in-loop-d : goal.bounds-known-d-in-loop-d
 bounds-known-d-in-loop-d c = simp length-set (omega arith)
 
-pub overflow_add-d : goal.overflow_add-d
-overflow_add-d c = search runs_ways
-
-pub loop-d-smaller : goal.loop-d-smaller
-loop-d-smaller c = search runs_ways
-
 pub loop-d-preserved : goal.loop-d-preserved
 loop-d-preserved c = search runs_ways
 

@@ -1,9 +1,5 @@
-use Prim.Native.Nat.{◌-◌}
 use Rattle.numbering.proofs.KnownLaws.{RunsAt}
 use Rattle.numbering.proofs.known.begin_runs.Given as goal
 
 abbrev pub invariant-loop-d : goal.invariant-loop-d
 invariant-loop-d l = RunsAt l.initial.known l.i l.deeper l.known l.d
-
-abbrev pub decreases-loop-d : goal.decreases-loop-d
-decreases-loop-d l = 8 - l.d

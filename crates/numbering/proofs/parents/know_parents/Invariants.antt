@@ -1,11 +1,7 @@
 use mathlib.Core.Path.{◌≡◌}
 use lib.ListN.{length}
-use Prim.Native.Nat.{◌-◌, ◌≤◌}
 use Rattle.numbering.specs.Block.{Parents}
 use Rattle.numbering.proofs.parents.know_parents.Given as goal
 
 abbrev pub invariant-loop-i : goal.invariant-loop-i
-invariant-loop-i l = (length l.parents ≡ length l.initial.parents) × (l.i ≤ l.x) × Parents l.w l.i l.parents
-
-abbrev pub decreases-loop-i : goal.decreases-loop-i
-decreases-loop-i l = l.x - l.i
+invariant-loop-i l = (length l.parents ≡ length l.initial.parents) × Parents l.w l.i l.parents

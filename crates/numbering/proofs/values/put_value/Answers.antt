@@ -7,8 +7,8 @@ put_text-requires c = search value_ways
 pub returns-then-w-i-eq0 : goal.returns-then-w-i-eq0
 returns-then-w-i-eq0 c = search value_ways
 
-pub put_text-requires-2 : goal.put_text-requires-2
-put_text-requires-2 c = search value_ways
+pub put_text-requires-else-w-i-eq0 : goal.put_text-requires-else-w-i-eq0
+put_text-requires-else-w-i-eq0 c = search value_ways
 
-pub returns : goal.returns
-returns c = search value_ways
+pub returns-else-w-i-eq0 : goal.returns-else-w-i-eq0
+returns-else-w-i-eq0 c = search value_ways

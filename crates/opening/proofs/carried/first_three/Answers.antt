@@ -1,11 +1,12 @@
-use Rattle.opening.proofs.CarriedLaws.{three_ways}
+use borrow.Author.Rules.{rules}
+use Rattle.opening.proofs.CarriedLaws.{three_on, three_ways}
 use Rattle.opening.proofs.carried.first_three.Goals as goal
 
+pub returns-in_err-p : goal.returns-in_err-p
+returns-in_err-p c = search (rules, three_ways)
+
 pub systems-requires : goal.systems-requires
-systems-requires c = search three_ways
+systems-requires c = search (rules, three_ways)
 
-pub returns-in-Behind : goal.returns-in-Behind
-returns-in-Behind c = search three_ways
-
-pub returns-in-Stopped : goal.returns-in-Stopped
-returns-in-Stopped c = search three_ways
+pub returns : goal.returns
+returns c = three_on _ _ c.first_two.ensures _ c.in_ok-p.was _ c.systems.ensures _ c.in_record.ensures

@@ -4,5 +4,5 @@ use Rattle.records.proofs.grammar.ruin_byte.Goals as goal
 pub returns-then-at-end : goal.returns-then-at-end
 returns-then-at-end c = search ruin_ways
 
-pub returns : goal.returns
-returns c = search ruin_ways
+pub returns-else-at-end : goal.returns-else-at-end
+returns-else-at-end c = search ruin_ways

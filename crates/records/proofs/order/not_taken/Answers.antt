@@ -4,11 +4,11 @@ use Rattle.records.proofs.order.not_taken.Goals as goal
 pub returns-then-ruin-eq2 : goal.returns-then-ruin-eq2
 returns-then-ruin-eq2 c = search not_taken_ways
 
-pub returns-then-tag-eq1129268035 : goal.returns-then-tag-eq1129268035
-returns-then-tag-eq1129268035 c = search not_taken_ways
+pub returns-then-tag-eq-COCC : goal.returns-then-tag-eq-COCC
+returns-then-tag-eq-COCC c = search not_taken_ways
 
-pub returns-then-tag-ne1127369036 : goal.returns-then-tag-ne1127369036
-returns-then-tag-ne1127369036 c = search not_taken_ways
+pub returns-then-tag-ne-C2IL : goal.returns-then-tag-ne-C2IL
+returns-then-tag-ne-C2IL c = search not_taken_ways
 
 pub returns-then-coui-eq2 : goal.returns-then-coui-eq2
 returns-then-coui-eq2 c = search not_taken_ways

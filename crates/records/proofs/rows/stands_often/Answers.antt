@@ -1,11 +1,9 @@
-use Rattle.records.proofs.RowsLaws.{often_ways}
+use Rattle.records.proofs.RowsLaws.{often_ways, often_none}
+use native.Mathlib.Omega.{arith}
 use Rattle.records.proofs.rows.stands_often.Goals as goal
 
-pub returns-then-tag-eq1229865299 : goal.returns-then-tag-eq1229865299
-returns-then-tag-eq1229865299 c = search often_ways
+pub returns-in-1229865299 : goal.returns-in-1229865299
+returns-in-1229865299 c = search often_ways
 
-pub returns-then-tag-eq1127369036 : goal.returns-then-tag-eq1127369036
-returns-then-tag-eq1127369036 c = search often_ways
-
-pub returns : goal.returns
-returns c = search often_ways
+pub returns-in_default : goal.returns-in_default
+returns-in_default c = grind (arith, often_none)

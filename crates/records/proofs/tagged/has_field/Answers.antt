@@ -1,16 +1,8 @@
-use mathlib.Core.Path.{refl}
 use Rattle.records.proofs.TaggedLaws.{has_turn}
-use borrow.Author.Rules.{rules}
 use Rattle.records.proofs.tagged.has_field.Goals as goal
-
-pub loop-q-init : goal.loop-q-init
-loop-q-init c = (search rules, refl)
 
 pub bounds-r-q : goal.bounds-r-q
 bounds-r-q c = search has_turn
-
-pub returns-then-r-q-eq30 : goal.returns-then-r-q-eq30
-returns-then-r-q-eq30 c = search has_turn
 
 pub tag_at-requires : goal.tag_at-requires
 tag_at-requires c = search has_turn
@@ -26,3 +18,6 @@ loop-q-smaller c = search has_turn
 
 pub loop-q-preserved : goal.loop-q-preserved
 loop-q-preserved c = (search has_turn, search has_turn)
+
+pub returns : goal.returns
+returns c = search has_turn

@@ -3,8 +3,8 @@ use Rattle.references.proofs.VouchLaws.{all_start, all_turn}
 use borrow.Author.Rules.{rules}
 use Rattle.references.proofs.vouching.vouch_all.Goals as goal
 
-pub loop-p-init : goal.loop-p-init
-loop-p-init c = (refl, all_start _ _ (search rules), search rules)
+pub loop-look-init : goal.loop-look-init
+loop-look-init c = (refl, all_start _ _ (search rules), search rules)
 
 pub look_at-requires : goal.look_at-requires
 look_at-requires c = search all_turn
@@ -15,8 +15,8 @@ enter-requires c = search all_turn
 pub overflow_add-p : goal.overflow_add-p
 overflow_add-p c = search all_turn
 
-pub loop-p-smaller : goal.loop-p-smaller
-loop-p-smaller c = search all_turn
+pub loop-look-smaller : goal.loop-look-smaller
+loop-look-smaller c = search all_turn
 
-pub loop-p-preserved : goal.loop-p-preserved
-loop-p-preserved c = (search rules, search all_turn, search all_turn)
+pub loop-look-preserved : goal.loop-look-preserved
+loop-look-preserved c = (search rules, search all_turn, search all_turn)

@@ -11,6 +11,6 @@ pub returns : goal.returns
 returns c = entry_field
     _ _ _ _ _
     _ c.number_at.ensures
-    _ c.in-Value.is
+    _ c.in-Some.is
     _ c.number_at-2.ensures
-    _ _ c.in-Value-number_at.is c.tag_at.ensures
+    _ _ c.in-Some-number_at.is c.tag_at.ensures

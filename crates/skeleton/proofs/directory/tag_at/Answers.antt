@@ -1,5 +1,7 @@
-use Rattle.skeleton.proofs.DirectoryLaws.{tag_is}
+use native.Mathlib.Omega.{arith}
+use Rattle.skeleton.specs.Directory.{tag_at}
 use Rattle.skeleton.proofs.directory.tag_at.Goals as goal
 
 pub returns : goal.returns
-returns c = search tag_is
+unfolding tag_at
+returns c = omega arith

@@ -3,17 +3,17 @@ use mathlib.Core.Path.{refl}
 use Rattle.skeleton.proofs.FindLaws.{find_turn}
 use Rattle.skeleton.proofs.place.find.Goals as goal
 
-pub loop-tag-init : goal.loop-tag-init
-loop-tag-init c = refl
+pub loop-field-init : goal.loop-field-init
+loop-field-init c = refl
 
-pub returns-then-tag-wanted : goal.returns-then-tag-wanted
-returns-then-tag-wanted c = search find_turn
+pub returns-then-field-wanted : goal.returns-then-field-wanted
+returns-then-field-wanted c = search find_turn
 
-pub loop-tag-smaller : goal.loop-tag-smaller
-loop-tag-smaller c = search find_turn
+pub loop-field-smaller : goal.loop-field-smaller
+loop-field-smaller c = search find_turn
 
-pub loop-tag-preserved : goal.loop-tag-preserved
-loop-tag-preserved c = search find_turn
+pub loop-field-preserved : goal.loop-field-preserved
+loop-field-preserved c = search find_turn
 
-pub returns-in-Done : goal.returns-in-Done
-returns-in-Done c = search find_turn
+pub returns : goal.returns
+returns c = search find_turn

@@ -5,8 +5,8 @@ use lib.ListN.{length}
 use Rattle.skeleton.specs.Place.{find_from}
 use Rattle.skeleton.proofs.place.find.Given as goal
 
-abbrev pub invariant-loop-tag : goal.invariant-loop-tag
-invariant-loop-tag l = find_from l.r l.h l.wanted l.q ≡ find_from l.r l.h l.wanted l.p
+abbrev pub invariant-loop-field : goal.invariant-loop-field
+invariant-loop-field l = find_from l.r l.h l.wanted l.q ≡ find_from l.r l.h l.wanted l.p
 
-abbrev pub decreases-loop-tag : goal.decreases-loop-tag
-decreases-loop-tag l = length l.r - l.q
+abbrev pub decreases-loop-field : goal.decreases-loop-field
+decreases-loop-field l = length l.r - l.q

@@ -8,12 +8,6 @@ use Rattle.sorting.proofs.index.late.Goals as goal
 pub returns-then-n-eq0 : goal.returns-then-n-eq0
 returns-then-n-eq0 c = at_start
 
-pub returns-then-key-eq0 : goal.returns-then-key-eq0
-returns-then-key-eq0 c = at_start
-
-pub returns-then-key-ge549755813888 : goal.returns-then-key-ge549755813888
-returns-then-key-ge549755813888 c = at_start
-
 pub first_from-i-requires : goal.first_from-i-requires
 first_from-i-requires c = let k = index_is _ _ _ c.requires.0 c.requires.1 _ refl c.if-n-eq0.false in (search rules, k.up)
 

@@ -7,12 +7,6 @@ use Rattle.sorting.proofs.index.next.Goals as goal
 pub next_plain-requires : goal.next_plain-requires
 next_plain-requires c = let k = index_place _ _ _ c.requires.0 c.requires.1 in search rules
 
-pub next_plain-requires-then-key-eq0 : goal.next_plain-requires-then-key-eq0
-next_plain-requires-then-key-eq0 c = let k = index_place _ _ _ c.requires.0 c.requires.1 in search rules
-
-pub next_plain-requires-then-key-ge549755813888 : goal.next_plain-requires-then-key-ge549755813888
-next_plain-requires-then-key-ge549755813888 c = let k = index_place _ _ _ c.requires.0 c.requires.1 in search rules
-
 pub overflow_add-low : goal.overflow_add-low
 overflow_add-low c = let k = index_place _ _ _ c.requires.0 c.requires.1 in search rules
 

@@ -1,7 +1,5 @@
-use mathlib.Core.Path.{refl, sym}
-use mathlib.Core.Bool.{true≢false}
+use mathlib.Core.Path.{refl}
 use Rattle.tree.specs.Known.{there}
-use Rattle.tree.proofs.CountLaws.{whole_past}
 use Rattle.tree.proofs.DueLaws.{all_due_none, all_due_less, tallied_none, tuple_within, whole_on, reach_behind, on_less, before_end, held_tallied, held_due}
 use borrow.Author.Rules.{rules}
 use mathlib.Core.Path.{ap}
@@ -9,16 +7,10 @@ use mathlib.Core.Bool.{not}
 use Rattle.tree.proofs.due.held.Goals as goal
 
 pub loop-at-init : goal.loop-at-init
-loop-at-init c = (refl, search rules, there refl, tallied_none _ _ _ c.clear.ensures, all_due_none _)
+loop-at-init c = (refl, search rules, there refl, tallied_none _ _ _ _ (c.fill.ensures.after (λ y e. e)), all_due_none _)
 
 pub join-requires : goal.join-requires
 join-requires c = let l = c.loop-at.invariant in let s = c.requires in (tuple_within _ _ l.1 (before_end _ _ _ c.loop-at-test.true s.1), l.2, s.2, l.3)
-
-pub returns-then-not-join : goal.returns-then-not-join
-returns-then-not-join c = λ z. absurd (true≢false (sym z))
-
-pub behind-at-requires : goal.behind-at-requires
-behind-at-requires c = whole_past _ _ c.loop-at.invariant.1 (before_end _ _ _ c.loop-at-test.true c.requires.1)
 
 pub loop-at-smaller : goal.loop-at-smaller
 loop-at-smaller c = on_less _ _ _ (before_end _ _ _ c.loop-at-test.true c.requires.1) c.behind-at.ensures

@@ -1,5 +1,4 @@
 use Rattle.tree.proofs.DueLaws.{gather_turn}
-use native.Mathlib.Omega.{arith}
 use Rattle.tree.proofs.due.many_fall.Goals as goal
 
 pub number-code-requires : goal.number-code-requires
@@ -10,6 +9,3 @@ behind-at-requires c = search gather_turn
 
 pub loop-at-smaller : goal.loop-at-smaller
 loop-at-smaller c = search gather_turn
-
-pub loop-at-preserved : goal.loop-at-preserved
-loop-at-preserved c = (search gather_turn, omega arith)

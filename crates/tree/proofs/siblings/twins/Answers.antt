@@ -5,17 +5,8 @@ use mathlib.Core.Path.{ap}
 use native.Mathlib.Omega.{arith}
 use Rattle.tree.proofs.siblings.twins.Goals as goal
 
-pub loop-i-init : goal.loop-i-init
-loop-i-init c = (omega arith, omega arith, c.requires.0)
-
 pub twin-n-requires : goal.twin-n-requires
 twin-n-requires c = let b = c.args.b.now in let i = c.loop-i.i in omega (arith, past_above b i, whole_past b i c.loop-i.invariant.2 (omega arith))
-
-pub overflow_add-n : goal.overflow_add-n
-overflow_add-n c = omega arith
-
-pub behind-i-requires : goal.behind-i-requires
-behind-i-requires c = whole_past _ _ c.loop-i.invariant.2 (omega arith)
 
 pub loop-i-smaller : goal.loop-i-smaller
 loop-i-smaller c = let b = c.args.b.now in let i = c.loop-i.i in omega (arith, past_above b i, c.behind-i.ensures)

@@ -5,5 +5,5 @@ use Rattle.writing.proofs.parts.put_last.Goals as goal
 pub returns-then-first : goal.returns-then-first
 returns-then-first c = search (last_first, arith)
 
-pub returns : goal.returns
-returns c = search (last_other, arith)
+pub returns-else-first : goal.returns-else-first
+returns-else-first c = search (last_other, arith)

@@ -5,5 +5,5 @@ use Rattle.writing.proofs.parts.put_middle.Goals as goal
 pub returns-then-first : goal.returns-then-first
 returns-then-first c = search (middle_first, arith)
 
-pub returns : goal.returns
-returns c = search (middle_other, arith)
+pub returns-else-first : goal.returns-else-first
+returns-else-first c = search (middle_other, arith)

@@ -1,11 +1,11 @@
 use Rattle.writing.proofs.WriterLaws.{fields_turn}
 use Rattle.writing.proofs.writer.put_fields.Goals as goal
 
-pub loop-tag-init : goal.loop-tag-init
-loop-tag-init c = search fields_turn
+pub loop-field-init : goal.loop-field-init
+loop-field-init c = search fields_turn
 
-pub overflow_sub-end : goal.overflow_sub-end
-overflow_sub-end c = search fields_turn
+pub overflow_sub-field : goal.overflow_sub-field
+overflow_sub-field c = search fields_turn
 
 pub put_part-p1-requires : goal.put_part-p1-requires
 put_part-p1-requires c = search fields_turn
@@ -16,11 +16,11 @@ put_joined-p2-requires c = search fields_turn
 pub put_byte-p-requires : goal.put_byte-p-requires
 put_byte-p-requires c = search fields_turn
 
-pub loop-tag-smaller : goal.loop-tag-smaller
-loop-tag-smaller c = search fields_turn
+pub loop-field-smaller : goal.loop-field-smaller
+loop-field-smaller c = search fields_turn
 
-pub loop-tag-preserved : goal.loop-tag-preserved
-loop-tag-preserved c = search fields_turn
+pub loop-field-preserved : goal.loop-field-preserved
+loop-field-preserved c = search fields_turn
 
-pub returns-in-Done : goal.returns-in-Done
-returns-in-Done c = search fields_turn
+pub returns : goal.returns
+returns c = search fields_turn
