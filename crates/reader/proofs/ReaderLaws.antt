@@ -6,6 +6,8 @@ use native.Mathlib.Omega.{arith}
 use borrow.Author.Tests.{lt-ltb, le-ltb}
 use lib.ListN.{length, drop}
 use Rattle.std.specs.Prelude.{Result, Ok, Err}
+use Rattle.base.specs.Check.{fault}
+use Rattle.base.specs.Verdict.{refusal as refusal_of}
 use Rattle.base.specs.Walk.{Got, before}
 use Rattle.base.specs.declared.Refusal.{Refusal}
 use Rattle.skeleton.specs.File.{Field, records_from, records_of}
@@ -29,6 +31,7 @@ use Rattle.keys.proofs.ReferenceLaws.{taken_reads, unread_done, references_start
 use Rattle.dataset.specs.Walk.{whole_from, walked_by}
 use Rattle.dataset.proofs.FileLaws.{first_shut, later_stopped, later_over}
 use Rattle.references.specs.Linked.{said_by, Answers}
+use Rattle.references.specs.declared.dataset.LooseReference.{LooseReference}
 use Rattle.reader.specs.Answered.{counted, refused as shut}
 
 -- ---- the fields behind the third record
@@ -117,7 +120,7 @@ module _ (f : List ℕ) where
         pub after_word : m + 3 < 2 ^ 64
         after_word = let a = over.0 in let b = keys_few f start in omega arith
 
-        module _ (l : Result (Unit {0}) Refusal) (el : Answers f start l) where
+        module _ (l : Result (Unit {0}) LooseReference) (el : Answers f start l) where
           recs : (a : List Rec) × (from_fourth f start ≡ done a)
           unfolding outcome_from
           recs = unread_done (from_fourth f start) over.1
@@ -143,11 +146,11 @@ module _ (f : List ℕ) where
               let z : read_dataset f ≡ done (stored_as (records_of f).items recs.0).dataset = dataset_is ∙ rw c in
               rw e (sym (read_is ∙ ap read_answer z))
 
-          pub after_loose : (z : Refusal) → l ≡ Err z → shut z ≡ read f
+          pub after_loose : (z : LooseReference) → l ≡ Err z → shut (refusal_of z.rec (fault 11 z.field z.tuple)) ≡ read f
           unfolding and_then said_by
           after_loose z y =
               let c = said ∙ ap said_by y in
-              read_refused z (dataset_is ∙ rw c)
+              read_refused (refusal_of z.rec (fault 11 z.field z.tuple)) (dataset_is ∙ rw c)
 
 pub ruleset read_ways = (read_long, read_shut, read_behind)
 

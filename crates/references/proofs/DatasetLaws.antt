@@ -1,16 +1,17 @@
 -- Laws of number 11 of a dataset, record after record. Assumes nothing.
-use mathlib.Core.Path.{◌≡◌, refl, sym, ◌∙◌}
-use mathlib.Core.List.{List, []}
+use mathlib.Core.Path.{◌≡◌, refl, sym, ◌∙◌, ap}
+use mathlib.Core.List.{List, [], ◌∷◌}
 use mathlib.Core.Bool.{Bool, true, false}
 use Prim.Native.Nat.{ℕ, ◌+◌, ◌-◌, ◌^◌, ◌≤◌, ◌<◌}
 use native.Mathlib.Omega.{arith}
 use borrow.Author.Tests.{ltb-true, ltb-false}
 use lib.Dec.{ltb}
-use lib.ListN.{length, drop, replicate}
+use lib.ListN.{length, take, drop, replicate}
 use Rattle.std.specs.Prelude.{Result, Ok, Err}
 use Rattle.base.specs.Choice.{pick}
 use Rattle.base.specs.Lists.{each}
-use Rattle.base.specs.Verdict.{refusal}
+use Rattle.base.specs.Check.{no, fault}
+use Rattle.base.specs.Keys.{among}
 use Rattle.base.specs.declared.Fault.{Fault}
 use Rattle.base.proofs.CheckLaws.{refused_is}
 use Rattle.base.proofs.ChoiceLaws.{both_hold}
@@ -27,7 +28,7 @@ use Rattle.skeleton.proofs.RecordLaws.{Right, right}
 use Rattle.skeleton.proofs.RightLaws.{right_start}
 use Rattle.skeleton.proofs.FileLaws.{records_more}
 use Rattle.skeleton.proofs.AgainLaws.{again, again_not, records_some}
-use Rattle.rules.specs.Associations.{marks, number11}
+use Rattle.rules.specs.Associations.{Mark, marks, number11}
 use Rattle.rules.specs.Record.{Rec, key_of}
 use Rattle.rules.specs.Outcome.{done}
 use Rattle.contents.proofs.VerdictLaws.{says_pass}
@@ -67,6 +68,19 @@ reached_in f start p m s = s.inside
 reached_over : (f : List ℕ) (start p m : ℕ) → Reached f start p m → length f ≤ p → Answers f start (Ok tt)
 unfolding Answers said_by
 reached_over f start p m s h recs b = references_over recs f p m _ (s.same recs b) h
+
+-- a test of references that is refused: it is 11
+loose_at : (keys : List (List ℕ)) (ms : List Mark) (z : Fault) → number11 keys ms ≡ no z → number11 keys ms ≡ no (fault 11 z.field z.tuple)
+unfolding number11
+loose_at keys [] z e = absurd (let y : ◌≡◌ {A = ℕ} 0 1 = cc in omega arith)
+loose_at keys (m ∷ ms) z e = go (loose_at keys ms z) (among (take 2 m.key) keys) e
+  where
+    go : (number11 keys ms ≡ no z → number11 keys ms ≡ no (fault 11 z.field z.tuple)) → (t : Bool) → pick t (number11 keys ms) (no (fault 11 m.field m.tuple)) ≡ no z
+        → pick t (number11 keys ms) (no (fault 11 m.field m.tuple)) ≡ no (fault 11 z.field z.tuple)
+    go later true h = later h
+    go later false h =
+        let y : fault 11 m.field m.tuple ≡ z = cc in
+        ap (λ (x : Fault). no (fault 11 x.field x.tuple)) y
 
 -- where a leader's numbers are read, the file goes on
 pub stated_some : (f : List ℕ) (p : ℕ) (h : Result Head Broken) → h ≡ stated_at f p → (d : Head) → h ≡ Ok d → p < length f
@@ -152,11 +166,11 @@ module _ (f : List ℕ) (start p m : ℕ) (s : Reached f start p m) (h : Result 
                 (says_pass (number11 (each key_of recs) (marks 1 fields)) (sym (said recs q) ∙ y));
           }
 
-      pub record_loose : (z : Fault) → v ≡ Err z → Answers f start (Err (refusal (m + 4) z))
+      pub record_loose : (z : Fault) → v ≡ Err z → Answers f start (Err (record { rec = m + 4; field = z.field; tuple = z.tuple }))
       unfolding Says Answers said_by
       record_loose z y recs q =
-          references_loose recs f p m _ (s.same recs q) here h found d x z
-          (refused_is (number11 (each key_of recs) (marks 1 fields)) z (sym y ∙ said recs q))
+          references_loose recs f p m _ (s.same recs q) here h found d x (fault 11 z.field z.tuple)
+          (loose_at (each key_of recs) (marks 1 fields) z (refused_is (number11 (each key_of recs) (marks 1 fields)) z (sym y ∙ said recs q)))
 
 pub ruleset records_turn =
     (reached_start, reached_in, reached_ended, record_readable_lem, record_bounded, record_right, record_in_lem, record_runs, record_small, record_word, record_counts, record_number, record_falls, record_more, record_loose)
