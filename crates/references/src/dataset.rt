@@ -15,8 +15,9 @@ use base::{Fault, Refusal};
 use keys::table::spread;
 use skeleton::file::stated_at;
 
-// A reference to a record that does not exist: the record of the file, the field of the record and the tuple of the field that name it.
-#[derive(Clone, Copy)]
+// A reference to a record that does not exist: the record of the file, the field of the record and the tuple of the field that name it, all from 1, 0 where no
+// tuple applies.
+#[derive(Clone, Copy, PartialEq, Eq)]
 pub struct LooseReference {
     pub rec: usize,
     pub field: usize,
