@@ -26,6 +26,7 @@ use Rattle.opening.specs.Carried.{carried, begins_csid, unread, first_two, first
 use Rattle.opening.proofs.CarriedLaws.{behind_in, behind_is}
 use Rattle.opening.proofs.OpeningLaws.{carried_over, from_fourth, opened}
 use Rattle.keys.specs.Listed.{keys_from}
+use Rattle.keys.specs.Numbered.{Numbered}
 use Rattle.keys.specs.Standing.{outcome_from, references_from}
 use Rattle.keys.proofs.ReferenceLaws.{taken_reads, unread_done, references_start}
 use Rattle.dataset.specs.Walk.{whole_from, walked_by}
@@ -120,38 +121,47 @@ module _ (f : List ℕ) where
         pub after_word : m + 3 < 2 ^ 64
         after_word = let a = over.0 in let b = keys_few f start in omega arith
 
+        recs : (a : List Rec) × (from_fourth f start ≡ done a)
+        unfolding outcome_from
+        recs = unread_done (from_fourth f start) over.1
+
+        same : references 1 recs.0 (drop 3 (records_of f).items) ≡ references_from recs.0 f start 0
+        same = references_start recs.0 f start (drop 3 (records_of f).items) (three_items f start three)
+
+        numbered : Numbered recs.0 (keys_from f start)
+        numbered = (taken_reads f start recs.0 recs.1).numbered
+
+        dataset_is : read_dataset f ≡ linked f recs.0
+        unfolding and_then
+        dataset_is = whole f ∙ rw three (rw recs.1)
+
+        -- what the references are refused with is the answer
+        pub after_loose : (z : Refusal) → ((a : List Rec) → Numbered a (keys_from f start) → refused 1 z.rec z.fault ≡ references_from a f start 0) → shut z ≡ read f
+        unfolding and_then
+        after_loose z e =
+            let c = same ∙ sym (e recs.0 numbered) in
+            read_refused z (dataset_is ∙ rw c)
+
         module _ (l : Result (Unit {0}) LooseReference) (el : Answers f start l) where
-          recs : (a : List Rec) × (from_fourth f start ≡ done a)
-          unfolding outcome_from
-          recs = unread_done (from_fourth f start) over.1
-
-          same : references 1 recs.0 (drop 3 (records_of f).items) ≡ references_from recs.0 f start 0
-          same = references_start recs.0 f start (drop 3 (records_of f).items) (three_items f start three)
-
-          said : references 1 recs.0 (drop 3 (records_of f).items) ≡ said_by l
+          said : said_by l ≡ references_from recs.0 f start 0
           unfolding Answers
-          said = same ∙ sym (el recs.0 (taken_reads f start recs.0 recs.1).numbered)
-
-          dataset_is : read_dataset f ≡ linked f recs.0
-          unfolding and_then
-          dataset_is = whole f ∙ rw three (rw recs.1)
+          said = el recs.0 numbered
 
           pub after_all_lem : l ≡ Ok tt → counted (m + 3) ≡ read f
           unfolding read_answer success count and_then said_by
           after_all_lem y =
-              let c = said ∙ ap said_by y in
+              let c = same ∙ sym said ∙ ap said_by y in
               let d = (taken_reads f start recs.0 recs.1).counted in
               let o = over.0 in
               let e : m + 3 ≡ 3 + length recs.0 = omega arith in
               let z : read_dataset f ≡ done (stored_as (records_of f).items recs.0).dataset = dataset_is ∙ rw c in
               rw e (sym (read_is ∙ ap read_answer z))
 
-          pub after_loose : (z : LooseReference) → l ≡ Err z → shut (refusal_of z.rec (fault 11 z.field z.tuple)) ≡ read f
-          unfolding and_then said_by
-          after_loose z y =
-              let c = said ∙ ap said_by y in
-              read_refused (refusal_of z.rec (fault 11 z.field z.tuple)) (dataset_is ∙ rw c)
+          -- a loose reference with 11
+          pub after_eleven : (z : LooseReference) → l ≡ Err z → shut (refusal_of z.rec (fault 11 z.field z.tuple)) ≡ read f
+          unfolding Answers said_by
+          after_eleven z y = after_loose (refusal_of z.rec (fault 11 z.field z.tuple)) (rw y at el)
 
 pub ruleset read_ways = (read_long, read_shut, read_behind)
 
-pub ruleset after_ways = (after_stopped, after_passed, after_word, after_all_lem, after_loose, three_in)
+pub ruleset after_ways = (after_stopped, after_passed, after_word, after_all_lem, after_eleven, three_in)

@@ -30,7 +30,7 @@ use Rattle.skeleton.proofs.FileLaws.{records_more}
 use Rattle.skeleton.proofs.AgainLaws.{again, again_not, records_some}
 use Rattle.rules.specs.Associations.{Mark, marks, number11}
 use Rattle.rules.specs.Record.{Rec, key_of}
-use Rattle.rules.specs.Outcome.{done}
+use Rattle.rules.specs.Outcome.{done, refused}
 use Rattle.contents.proofs.VerdictLaws.{says_pass}
 use Rattle.keys.specs.Listed.{keys_from}
 use Rattle.keys.specs.Look.{Sound}
@@ -166,14 +166,24 @@ module _ (f : List ℕ) (start p m : ℕ) (s : Reached f start p m) (h : Result 
                 (says_pass (number11 (each key_of recs) (marks 1 fields)) (sym (said recs q) ∙ y));
           }
 
-      pub record_loose : (z : Fault) → v ≡ Err z → Answers f start (Err (record { rec = m + 4; field = z.field; tuple = z.tuple }))
-      unfolding Says Answers said_by
+      -- it names what does not stand: the dataset is refused with the record's own fault
+      pub record_loose : (z : Fault) → v ≡ Err z → (recs : List Rec) → Numbered recs (keys_from f start) → refused 1 (m + 4) z ≡ references_from recs f start 0
+      unfolding Says
       record_loose z y recs q =
-          references_loose recs f p m _ (s.same recs q) here h found d x (fault 11 z.field z.tuple)
-          (loose_at (each key_of recs) (marks 1 fields) z (refused_is (number11 (each key_of recs) (marks 1 fields)) z (sym y ∙ said recs q)))
+          references_loose recs f p m _ (s.same recs q) here h found d x z
+          (refused_is (number11 (each key_of recs) (marks 1 fields)) z (sym y ∙ said recs q))
+
+      -- which is 11
+      pub record_eleven : (z : Fault) → v ≡ Err z → Answers f start (Err (record { rec = m + 4; field = z.field; tuple = z.tuple }))
+      unfolding Says Answers said_by
+      record_eleven z y recs q =
+          let n = refused_is (number11 (each key_of recs) (marks 1 fields)) z (sym y ∙ said recs q) in
+          let e = loose_at (each key_of recs) (marks 1 fields) z n in
+          let w : fault 11 z.field z.tuple ≡ z = cc in
+          ap (refused 1 (m + 4)) w ∙ record_loose z y recs q
 
 pub ruleset records_turn =
-    (reached_start, reached_in, reached_ended, record_readable_lem, record_bounded, record_right, record_in_lem, record_runs, record_small, record_word, record_counts, record_number, record_falls, record_more, record_loose)
+    (reached_start, reached_in, reached_ended, record_readable_lem, record_bounded, record_right, record_in_lem, record_runs, record_small, record_word, record_counts, record_number, record_falls, record_more, record_eleven)
 
 -- ---- the whole: what 1 to 7 give
 
