@@ -143,21 +143,21 @@ module _ (f : List ℕ) where
             read_refused z (dataset_is ∙ rw c)
 
         module _ (l : Result (Unit {0}) LooseReference) (el : Answers f start l) where
-          said : said_by l ≡ references_from recs.0 f start 0
+          said : references 1 recs.0 (drop 3 (records_of f).items) ≡ said_by l
           unfolding Answers
-          said = el recs.0 numbered
+          said = same ∙ sym (el recs.0 numbered)
 
           pub after_all_lem : l ≡ Ok tt → counted (m + 3) ≡ read f
           unfolding read_answer success count and_then said_by
           after_all_lem y =
-              let c = same ∙ sym said ∙ ap said_by y in
+              let c = said ∙ ap said_by y in
               let d = (taken_reads f start recs.0 recs.1).counted in
               let o = over.0 in
               let e : m + 3 ≡ 3 + length recs.0 = omega arith in
               let z : read_dataset f ≡ done (stored_as (records_of f).items recs.0).dataset = dataset_is ∙ rw c in
               rw e (sym (read_is ∙ ap read_answer z))
 
-          -- a loose reference with 11
+          -- of a loose reference it has 11
           pub after_eleven : (z : LooseReference) → l ≡ Err z → shut (refusal_of z.rec (fault 11 z.field z.tuple)) ≡ read f
           unfolding Answers said_by
           after_eleven z y = after_loose (refusal_of z.rec (fault 11 z.field z.tuple)) (rw y at el)

@@ -166,18 +166,19 @@ module _ (f : List ℕ) (start p m : ℕ) (s : Reached f start p m) (h : Result 
                 (says_pass (number11 (each key_of recs) (marks 1 fields)) (sym (said recs q) ∙ y));
           }
 
+      refuses : (z : Fault) → v ≡ Err z → (recs : List Rec) → Numbered recs (keys_from f start) → number11 (each key_of recs) (marks 1 fields) ≡ no z
+      unfolding Says
+      refuses z y recs q = refused_is (number11 (each key_of recs) (marks 1 fields)) z (sym y ∙ said recs q)
+
       -- it names what does not stand: the dataset is refused with the record's own fault
       pub record_loose : (z : Fault) → v ≡ Err z → (recs : List Rec) → Numbered recs (keys_from f start) → refused 1 (m + 4) z ≡ references_from recs f start 0
-      unfolding Says
-      record_loose z y recs q =
-          references_loose recs f p m _ (s.same recs q) here h found d x z
-          (refused_is (number11 (each key_of recs) (marks 1 fields)) z (sym y ∙ said recs q))
+      record_loose z y recs q = references_loose recs f p m _ (s.same recs q) here h found d x z (refuses z y recs q)
 
       -- which is 11
       pub record_eleven : (z : Fault) → v ≡ Err z → Answers f start (Err (record { rec = m + 4; field = z.field; tuple = z.tuple }))
-      unfolding Says Answers said_by
+      unfolding Answers said_by
       record_eleven z y recs q =
-          let n = refused_is (number11 (each key_of recs) (marks 1 fields)) z (sym y ∙ said recs q) in
+          let n = refuses z y recs q in
           let e = loose_at (each key_of recs) (marks 1 fields) z n in
           let w : fault 11 z.field z.tuple ≡ z = cc in
           ap (refused 1 (m + 4)) w ∙ record_loose z y recs q
